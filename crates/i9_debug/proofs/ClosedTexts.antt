@@ -1,47 +1,16 @@
--- The printed texts whose last line has its line feed.
-use Rattle.std.proofs.Common.{ℕ, List, [], ◌∷◌, ◌++◌, codes, flat_map, Option, Some, None, sym, subst}
-use Rattle.std.specs.Fmt.{decimal}
-use Rattle.std.specs.List.{AllByRecursion}
-use Rattle.i9_model.specs.declared.view.View.{View}
-use Rattle.i9_model.specs.PrintedText.{Shown, Out, Drained, Journal, Bytes, Last, words_text, point_text, shown_text, text_of, lines_of}
+-- The texts of a session: the last line of each has its line feed.
+use Rattle.std.proofs.Common.{ℕ, List, [], ◌∷◌, ◌++◌, Option, Some, None, sym, subst}
+use Rattle.i9_model.specs.PrintedText.{lines_of}
 use Rattle.i9_model.specs.Run.{Given, Record, Finish}
 use Rattle.i9_course.specs.Course.{Item}
-use Rattle.i9_machine.specs.declared.line.Line.{Line}
-use Rattle.i9_machine.specs.declared.line.Raw.{Raw}
-use Rattle.i9_machine.specs.Line.{shown_of}
 use Rattle.i9_machine.specs.Turned.{steps_on}
 use Rattle.i9_script.specs.declared.command.Command.{Command}
 use Rattle.i9_script.specs.declared.command.Command.TheVariants as commands
-use Rattle.i9_debug.specs.Print.{IsLine, line_text}
-use Rattle.i9_debug.specs.Session.{Place, TurnsTo, turns_pass, turns_end, ComesTo, comes, none_comes, Stays, UnlessOver, Runs, ending_lines, view_text, raw_text, told, Answers, IsText, no_command, next_command}
+use Rattle.i9_lines.proofs.TextLines.{IsClosed, closed_none, closed_line, closed_join}
+use Rattle.i9_lines.proofs.LineCounts.{line-bytes, line-turn, line-held, line-raw_bytes, line-who}
+use Rattle.i9_lines.proofs.ClosedLines.{closed_text, closed_view, closed_raw}
+use Rattle.i9_debug.specs.Session.{Place, TurnsTo, turns_pass, turns_end, ComesTo, comes, none_comes, Stays, UnlessOver, Runs, ending_lines, told, Answers, IsText, no_command, next_command}
 use Rattle.i9_debug.specs.Driven.{CutInRun, behind_step, behind_end}
-use Rattle.i9_debug.proofs.TextLines.{IsClosed, closed_none, closed_line, closed_join}
-use Rattle.i9_debug.proofs.LineCounts.{line-out, line-point, line-event, line-bytes, line-end, line-turn, line-view, line-raw, line-raw_globals, line-raw_locals, line-held, line-raw_bytes, line-who, line-globals, line-locals}
-
--- ---- what is shown of a run
-
--- a line and two more
-closed_three : (x y z : List ℕ) → IsLine x → IsLine y → IsLine z → IsClosed (x ++ (y ++ z))
-closed_three x y z h k l = closed_join x (y ++ z) (closed_line x h) (closed_join y z (closed_line y k) (closed_line z l))
-
-closed_shown : (s : Shown) → IsClosed (shown_text s)
-closed_shown (Out b) = closed_line _ (line-out b)
-closed_shown (Drained k v) = closed_three (point_text k v) _ _ (line-point k v) (line-globals v) (line-locals v)
-closed_shown (Journal k e) = closed_line _ (line-event k e)
-closed_shown (Bytes a bs) = closed_line _ (line-bytes a bs)
-closed_shown (Last f) = closed_line _ (line-end f)
-
-pub closed_text : (ls : List Shown) → IsClosed (text_of ls)
-closed_text [] = closed_none
-closed_text (l ∷ ls) = closed_join (shown_text l) (text_of ls) (closed_shown l) (closed_text ls)
-
-pub closed_each : (ls : List Line) → AllByRecursion (λ l. IsClosed (line_text l)) ls
-closed_each [] = tt
-closed_each (l ∷ ls) = (closed_shown (shown_of l), closed_each ls)
-
-pub closed_lines : (ls : List Line) → IsClosed (flat_map line_text ls)
-closed_lines [] = closed_none
-closed_lines (l ∷ ls) = closed_join (line_text l) (flat_map line_text ls) (closed_shown (shown_of l)) (closed_lines ls)
 
 -- ---- what a command prints
 
@@ -73,18 +42,6 @@ module _ (g : Given) where
   closed_runs (commands.Back n) p q x r = subst IsClosed (sym r.0) closed_none
   closed_runs (commands.Last a) p q x r = subst IsClosed (sym r.0) closed_none
   closed_runs (commands.Who a) p q x r = closed_stays p q x r
-
-  closed_view : (v : View) → IsClosed (view_text v)
-  unfolding view_text
-  closed_view v =
-      closed_three (words_text (codes "#view " ++ decimal v.count) (v.ip ∷ v.ac ∷ v.pc ∷ [])) _ _
-      (line-view v.count (v.ip ∷ v.ac ∷ v.pc ∷ [])) (line-globals v) (line-locals v)
-
-  closed_raw : (raw : Raw) → IsClosed (raw_text raw)
-  unfolding raw_text
-  closed_raw raw =
-      closed_three (words_text (codes "#raw " ++ decimal raw.turn) (raw.busy ∷ [])) _ _
-      (line-raw raw.turn (raw.busy ∷ [])) (line-raw_globals _) (line-raw_locals _)
 
   -- what is told there
   closed_told : (h : List Item) (t : ℕ) (c : Command) → IsClosed (told g h t c)

@@ -20,19 +20,18 @@ use Rattle.i9_machine.specs.Turned.{steps_on}
 use Rattle.i9_script.specs.declared.command.Command.{Command}
 use Rattle.i9_script.specs.declared.command.Command.TheVariants as commands
 use Rattle.i9_script.specs.ScriptText.{IsCommandInRange}
-use Rattle.i9_debug.specs.declared.print.Printed.{Printed}
-use Rattle.i9_debug.specs.declared.print.Printed.TheVariants.{Done, Write, Memory}
+use Rattle.i9_lines.specs.declared.print.Printed.{Printed}
+use Rattle.i9_lines.specs.declared.print.Printed.TheVariants.{Done, Write, Memory}
 use Rattle.i9_debug.specs.declared.sessions.SessionEnd.{SessionEnd}
 use Rattle.i9_debug.specs.declared.sessions.SessionEnd.TheVariants as ends
-use Rattle.i9_debug.specs.Print.{Account, Prints, OnDone}
+use Rattle.i9_lines.specs.Print.{Account, Prints, OnDone, IsCut, OnCut}
 use Rattle.i9_debug.specs.Session.{Place, at, TurnsTo, turns_pass, turns_end, ComesTo, comes, none_comes, IsBack, Stays, UnlessOver, Runs, told, Answers, IsText, no_command, next_command, end_at}
-use Rattle.i9_debug.specs.Driven.{StandsAt, IsOf, IsPlace, IsDebugged, GoneBack, Drives, IsCut, OnCut, StopsAt, CutOnWay, CutInAnswer, on_way, in_told, CutInScript, in_command, printed_of, TellsEnd, RunsScript}
-use Rattle.i9_debug.proofs.Prints.{prints_none, prints_refused, prints_then, prints_stop, prints_same}
-use Rattle.i9_debug.proofs.TextLines.{IsClosed, closed_join}
+use Rattle.i9_debug.specs.Driven.{StandsAt, IsOf, IsPlace, IsDebugged, GoneBack, Drives, StopsAt, CutOnWay, CutInAnswer, on_way, in_told, CutInScript, in_command, printed_of, TellsEnd, RunsScript}
+use Rattle.i9_lines.proofs.Prints.{prints_none, prints_refused, prints_then, prints_stop, prints_same, not_done, on_cut, of_cut, cut_whole}
+use Rattle.i9_lines.proofs.TextLines.{IsClosed, closed_join}
 use Rattle.i9_debug.proofs.ClosedTexts.{closed_runs, closed_answers, closed_script}
 use Rattle.i9_debug.proofs.Places.{Leads, record_issues, turns_lead, address_leads}
 use Rattle.i9_debug.proofs.Returning.{back_place, back_leads, last_leads, stands_kept}
-use Rattle.i9_debug.proofs.Turns.{not_done, on_cut, of_cut, cut_whole}
 use Rattle.std.specs.Option.{option_map}
 
 -- ---- places

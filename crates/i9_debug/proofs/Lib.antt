@@ -1,13 +1,6 @@
-pub mod TextLines
-pub mod Feeds
-pub mod Prints
-pub mod Registers
-pub mod Lined
-pub mod LineCounts
 pub mod ClosedTexts
 pub mod Places
 pub mod Turns
-pub mod PlaceBytes
 pub mod Stops
 pub mod Lasts
 pub mod Returning

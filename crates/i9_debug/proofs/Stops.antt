@@ -19,15 +19,15 @@ use Rattle.i9_machine.specs.StandsFor.{StandsFor, Follows, IsUnderWay, DoesNext,
 use Rattle.i9_machine.specs.Turned.{steps_on}
 use Rattle.i9_tracer.specs.Until.{IsPassed}
 use Rattle.i9_tracer.proofs.Untils.{Shows, issued_counts, on_counts}
-use Rattle.i9_debug.specs.declared.print.Printed.{Printed}
-use Rattle.i9_debug.specs.declared.print.Printed.TheVariants.{Done, Write, Memory}
-use Rattle.i9_debug.specs.Print.{Account, Prints, OnDone, line_text}
+use Rattle.i9_lines.specs.declared.print.Printed.{Printed}
+use Rattle.i9_lines.specs.declared.print.Printed.TheVariants.{Done, Write, Memory}
+use Rattle.i9_lines.specs.Print.{Account, Prints, OnDone, line_text, IsCut, OnCut}
 use Rattle.i9_debug.specs.Session.{Place, at, ended, turn_ahead, ending_lines, comes_to, NoneComesTo, ComesTo, comes, none_comes}
-use Rattle.i9_debug.specs.Driven.{StandsAt, Drives, IsCut, OnCut, StopsAt, AtMostOne, CutInRun, behind_step, behind_end, StopsBy, stops, never_stops, goes_on}
-use Rattle.i9_debug.proofs.Prints.{prints_none, prints_then, prints_stop, prints_same, prints_behind}
-use Rattle.i9_debug.proofs.ClosedTexts.{closed_text}
+use Rattle.i9_debug.specs.Driven.{StandsAt, Drives, StopsAt, AtMostOne, CutInRun, behind_step, behind_end, StopsBy, stops, never_stops, goes_on}
+use Rattle.i9_lines.proofs.Prints.{prints_none, prints_then, prints_stop, prints_same, prints_behind, not_done, on_cut, cut_whole}
+use Rattle.i9_lines.proofs.ClosedLines.{closed_text}
 use Rattle.i9_debug.proofs.Places.{steps_on-append, text-append, either, comes_after, address_leads}
-use Rattle.i9_debug.proofs.Turns.{added-text, not_done, on_cut, cut_whole}
+use Rattle.i9_lines.proofs.ClosedLines.{added-text}
 
 same_whole : (answer : Printed) (P : Type 0) → P → OnDone answer P
 same_whole Done P p = p

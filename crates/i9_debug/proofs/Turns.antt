@@ -1,9 +1,9 @@
 -- Turns that are run and printed.
-use Rattle.std.proofs.Common.{◌≡◌, ◌≢◌, ℕ, ◌+◌, ◌<◌, ◌≤◌, List, [], ◌∷◌, ◌++◌, map, flat_map, None, refl, sym, ap, ◌∙◌, subst, append_assoc, arith}
+use Rattle.std.proofs.Common.{◌≡◌, ℕ, ◌+◌, ◌<◌, ◌≤◌, List, [], ◌∷◌, ◌++◌, flat_map, None, refl, sym, ap, ◌∙◌, subst, append_assoc, arith}
 use Rattle.std.proofs.lemmas.List.{append-nil}
 use Rattle.i9_model.specs.declared.run.End.{End}
 use Rattle.i9_model.specs.Late.{turns as late_turns}
-use Rattle.i9_model.specs.PrintedText.{Shown, text_of, lines_of}
+use Rattle.i9_model.specs.PrintedText.{text_of, lines_of}
 use Rattle.i9_model.specs.Run.{Given, Record}
 use Rattle.i9_model.specs.Turns.{last_issue}
 use Rattle.i9_schedule.specs.Plan.{Plan}
@@ -12,50 +12,19 @@ use Rattle.i9_machine.specs.declared.line.Line.{Line}
 use Rattle.i9_machine.specs.declared.line.Turn.{Turn}
 use Rattle.i9_machine.specs.declared.line.Turn.TheVariants as answers
 use Rattle.i9_machine.specs.declared.machine.Machine.{Machine}
-use Rattle.i9_machine.specs.Line.{AddsLines, shown_of}
+use Rattle.i9_machine.specs.Line.{AddsLines}
 use Rattle.i9_machine.specs.StandsFor.{StandsFor, Follows, IsUnderWay}
 use Rattle.i9_machine.specs.Turned.{steps_on, Turns}
-use Rattle.i9_debug.specs.declared.print.Printed.{Printed}
-use Rattle.i9_debug.specs.declared.print.Printed.TheVariants.{Done, Write, Memory}
-use Rattle.i9_debug.specs.Print.{Account, Prints, OnDone, line_text}
+use Rattle.i9_lines.specs.declared.print.Printed.{Printed}
+use Rattle.i9_lines.specs.declared.print.Printed.TheVariants.{Done, Memory}
+use Rattle.i9_lines.specs.Print.{Account, Prints, line_text, IsCut}
 use Rattle.i9_debug.specs.Session.{Place, at, ended, turn_ahead, ending_lines, TurnsTo, turns_pass, turns_end}
-use Rattle.i9_debug.specs.Driven.{StandsAt, Drives, IsCut, OnCut, InOneTurn, CutInRun, behind_step, behind_end}
-use Rattle.i9_debug.proofs.Prints.{prints_none, prints_then, prints_stop, prints_same, prints_behind}
-use Rattle.i9_debug.proofs.TextLines.{closed_join}
-use Rattle.i9_debug.proofs.ClosedTexts.{closed_text, closed_cut}
+use Rattle.i9_debug.specs.Driven.{StandsAt, Drives, InOneTurn, CutInRun, behind_step, behind_end}
+use Rattle.i9_lines.proofs.Prints.{prints_none, prints_then, prints_stop, prints_same, prints_behind, not_done, on_cut, cut_whole}
+use Rattle.i9_lines.proofs.TextLines.{closed_join}
+use Rattle.i9_lines.proofs.ClosedLines.{closed_text, added-text}
+use Rattle.i9_debug.proofs.ClosedTexts.{closed_cut}
 use Rattle.i9_debug.proofs.Places.{steps_on-append, text-append, turns_after, turns_lead}
-
--- ---- lines
-
-pub lines-text : (ls : List Line) → flat_map line_text ls ≡ text_of (map shown_of ls)
-lines-text [] = refl
-lines-text (l ∷ ls) = ap (λ (t : List ℕ). line_text l ++ t) (lines-text ls)
-
--- the text of the lines of a step is that of what they show
-pub added-text : (ls : List Line) (xs : List Shown) → AddsLines [] ls xs → flat_map line_text ls ≡ text_of xs
-added-text ls xs e = lines-text ls ∙ ap text_of e
-
--- ---- where printing stopped
-
-pub not_done : (answer : Printed) → IsCut answer → answer ≢ Done
-not_done Done cut = absurd cut
-not_done Write cut = λ e. cc
-not_done Memory cut = λ e. cc
-
-pub on_cut : (answer : Printed) (P : Type 0) → P → OnCut answer P
-on_cut Done P p = tt
-on_cut Write P p = p
-on_cut Memory P p = p
-
-pub of_cut : (answer : Printed) (P : Type 0) → IsCut answer → OnCut answer P → P
-of_cut Done P cut p = absurd cut
-of_cut Write P cut p = p
-of_cut Memory P cut p = p
-
-pub cut_whole : (answer : Printed) (P : Type 0) → IsCut answer → OnDone answer P
-cut_whole Done P cut = absurd cut
-cut_whole Write P cut = tt
-cut_whole Memory P cut = tt
 
 module _ {K : Type 0} (k : Account K) (g : Given) (h : List Item) where
   -- So many turns were run from a turn on, and the text of their records was printed.

@@ -20,11 +20,11 @@ use Rattle.i9_machine.specs.declared.machine.Machine.{Machine}
 use Rattle.i9_machine.specs.StandsFor.{StandsFor, FollowsUntil}
 use Rattle.i9_script.specs.declared.command.Command.{Command}
 use Rattle.i9_script.specs.declared.command.Command.TheVariants as commands
-use Rattle.i9_debug.specs.declared.print.Printed.{Printed}
-use Rattle.i9_debug.specs.declared.print.Printed.TheVariants as printed
+use Rattle.i9_lines.specs.declared.print.Printed.{Printed}
+use Rattle.i9_lines.specs.declared.print.Printed.TheVariants as printed
 use Rattle.i9_debug.specs.declared.sessions.SessionEnd.{SessionEnd}
 use Rattle.i9_debug.specs.declared.sessions.SessionEnd.TheVariants as ends
-use Rattle.i9_debug.specs.Print.{Account, Prints, OnDone}
+use Rattle.i9_lines.specs.Print.{Account, Prints, OnDone, IsCut, OnCut}
 use Rattle.i9_debug.specs.Session.{Place, at, ended, turn_ahead, EndsBehind, ending_lines, UnlessOver, IsBack, Runs, told, IsText, end_at}
 
 -- a machine stands at a place of the run of what is given, a schedule is its plan, and follows it as long as no end was
@@ -71,18 +71,6 @@ change_for (commands.Who a) rs = last_change a rs
 change_for c rs = None
 
 -- ---- printing
-
--- printing stopped before all was printed
-abbrev pub IsCut : Printed → Type 0
-IsCut printed.Done = ⊥
-IsCut printed.Write = Unit {0}
-IsCut printed.Memory = Unit {0}
-
--- a fact where printing stopped
-abbrev pub OnCut : Printed → Type 0 → Type 0
-OnCut printed.Done P = Unit {0}
-OnCut printed.Write P = P
-OnCut printed.Memory P = P
 
 -- A text was printed whole, and then a front of another one, and both lead to the place at which printing stopped.
 pub record StopsAt {K : Type 0} (cut : List ℕ → List ℕ → Place → Type 0) (answer : Printed) (k : Account K) (old new : K)

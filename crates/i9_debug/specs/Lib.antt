@@ -1,5 +1,3 @@
-pub mod Lines
-pub mod Print
 pub mod Session
 pub mod Driven
 pub mod Last

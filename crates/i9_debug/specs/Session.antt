@@ -1,28 +1,23 @@
 -- The text of a script of the debugger, from a place of a run on.
-use Rattle.std.specs.Prelude.{◌≡◌, ℕ, ◌+◌, ◌-◌, ◌<◌, ◌≤◌, Bool, true, false, nat_eq, nat_lt, ◌&&◌, if◌then◌else◌, List, [], ◌∷◌, ◌++◌, codes, take, drop, map, length, reverse, Option, Some, None}
-use Rattle.std.specs.Fmt.{decimal}
-use Rattle.std.specs.List.{AllByRecursion, flat_map, range_with_len}
-use Rattle.i9_model.specs.declared.frame.Frame.{Frame}
+use Rattle.std.specs.Prelude.{◌≡◌, ℕ, ◌+◌, ◌-◌, ◌<◌, ◌≤◌, Bool, true, false, nat_eq, nat_lt, ◌&&◌, if◌then◌else◌, List, [], ◌∷◌, ◌++◌, Option, Some, None}
+use Rattle.std.specs.List.{AllByRecursion}
+use Rattle.std.specs.Option.{option_map}
 use Rattle.i9_model.specs.declared.run.End.{End}
-use Rattle.i9_model.specs.declared.view.View.{View}
 use Rattle.i9_model.specs.HeldFrames.{sets_in, cache_after}
 use Rattle.i9_model.specs.Late.{turns as late_turns}
-use Rattle.i9_model.specs.PrintedText.{Shown, view_of, lines_of, end_lines, text_of, overlays, words_text, bytes_text, spaced, spaced_byte, line_feed, registers_text}
+use Rattle.i9_model.specs.PrintedText.{Shown, view_of, lines_of, end_lines, text_of, overlays, bytes_text}
 use Rattle.i9_model.specs.Run.{Given, Record, counts_of, state_after, Finish}
-use Rattle.i9_model.specs.State.{State, boot}
+use Rattle.i9_model.specs.State.{State}
 use Rattle.i9_model.specs.Turns.{last_issue}
-use Rattle.i9_model.specs.Writes.{wrapped}
 use Rattle.i9_course.specs.Course.{Item, Step, records_of, course, ahead, IsCourse}
 use Rattle.i9_course.specs.LateRun.{end_ahead, steps}
-use Rattle.i9_raw.specs.Raw.{raw_memory}
-use Rattle.i9_machine.specs.declared.line.Raw.{Raw}
 use Rattle.i9_machine.specs.Raw.{raw_at}
 use Rattle.i9_machine.specs.Turned.{steps_on}
 use Rattle.i9_back.specs.Earlier.{IsEarlier, issue_of}
 use Rattle.i9_back.specs.Stands.{last_change}
 use Rattle.i9_script.specs.declared.command.Command.{Command}
 use Rattle.i9_script.specs.declared.command.Command.TheVariants as commands
-use Rattle.std.specs.Option.{option_map}
+use Rattle.i9_lines.specs.PlaceText.{turn_text, view_text, raw_text, held_text, raw_bytes_text, raw_bytes, who_text}
 
 -- ---- places
 
@@ -139,44 +134,6 @@ Runs g (commands.Last a) p shown q = GoesBack g (last_arrival a (count_at g p) (
 Runs g (commands.Who a) p shown q = Stays p shown q
 
 -- ---- what is told at a place
-
--- the global and the local registers of a view, with dashes for those that are marked
-abbrev pub view_registers : View → List ℕ
-view_registers v = registers_text (codes "#g") v 16 ++ registers_text (codes "#l") v 0
-
--- the turn, and how many instructions have issued
-unfoldable pub turn_text : ℕ → ℕ → List ℕ
-turn_text t k = codes "#turn " ++ decimal t ++ codes " " ++ decimal k ++ line_feed
-
--- the count, the address, AC and PC of a view, and its registers
-unfoldable pub view_text : View → List ℕ
-view_text v =
-    words_text (codes "#view " ++ decimal v.count) (v.ip ∷ v.ac ∷ v.pc ∷ []) ++ view_registers v
-
--- the turn, which registers are busy, and the registers as they stand
-unfoldable pub raw_text : Raw → List ℕ
-raw_text raw =
-    words_text (codes "#raw " ++ decimal raw.turn) (raw.busy ∷ [])
-    ++ (words_text (codes "#rg") (drop 16 raw.regs) ++ words_text (codes "#rl") (take 16 raw.regs))
-
--- how many sets there are, how many of them hold a frame, and the addresses to which these frames are saved; frames are
--- given the oldest first, and told the youngest first
-unfoldable pub held_text : ℕ → List Frame → List ℕ
-held_text n fs =
-    words_text (codes "#held " ++ decimal n ++ codes " " ++ decimal (length fs)) (map (λ f. f.address) (reverse fs))
-
--- the bytes from an address on as they stand
-unfoldable pub raw_bytes_text : ℕ → List (Option ℕ) → List ℕ
-raw_bytes_text a bs = codes "#rawmem" ++ spaced a ++ flat_map spaced_byte bs ++ line_feed
-
--- the bytes of raw memory from an address up, at a turn behind items
-abbrev pub raw_bytes : Given → List Item → ℕ → ℕ → ℕ → List (Option ℕ)
-raw_bytes g h t a n = map (λ k. Some (raw_memory (boot g.image).memory.bytes t (course g h).late (wrapped (a + k)))) (range_with_len 0 n)
-
--- what last changed a byte: how many instructions there are up to it, and its address
-unfoldable pub who_text : Option (ℕ × ℕ) → List ℕ
-who_text None = codes "#who none" ++ line_feed
-who_text (Some change) = codes "#who " ++ decimal change.0 ++ spaced change.1 ++ line_feed
 
 -- What a command tells at a turn behind items, after what was shown on the way there. One that runs or goes back tells the
 -- turn and how many instructions have issued.

@@ -1,6 +1,6 @@
 -- What the program ends with.
 use Rattle.std.specs.Prelude.{◌≡◌, ℕ, List, String}
-use Rattle.i9_debug.specs.Print.{Account}
+use Rattle.i9_lines.specs.Print.{Account}
 use Rattle.i9_tool.specs.Fetches.{Shelf, FetchesFiles, AnyRose, rose_in}
 use Rattle.i9_tool.specs.Outcome.{Answers, Outcomes, asked_for, files_for, names_of}
 

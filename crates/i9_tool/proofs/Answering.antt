@@ -1,10 +1,10 @@
 -- A status is answered for what was printed.
 use Rattle.std.proofs.Common.{ℕ, ◌<◌, List, length, ◌+◌, refl, sym, subst, add-zero, inl, inr, arith}
-use Rattle.i9_debug.specs.declared.print.Printed.{Printed}
-use Rattle.i9_debug.specs.declared.print.Printed.TheVariants.{Done, Write, Memory}
-use Rattle.i9_debug.specs.Print.{Account, Prints}
+use Rattle.i9_lines.specs.declared.print.Printed.{Printed}
+use Rattle.i9_lines.specs.declared.print.Printed.TheVariants.{Done, Write, Memory}
+use Rattle.i9_lines.specs.Print.{Account, Prints}
 use Rattle.i9_tool.specs.Outcome.{Answers, code_for}
-use Rattle.i9_debug.proofs.Prints.{prints_refused}
+use Rattle.i9_lines.proofs.Prints.{prints_refused}
 
 module _ {K : Type 0} (k : Account K) where
   -- a sink that is sure of a text is sure of it and nothing more

@@ -23,7 +23,7 @@ use Rattle.i9_elf.specs.Written.{file_of}
 use Rattle.i9_runs.proofs.Joining.{runs_once}
 use Rattle.i9_dis.proofs.Listed.{one_text as one_listing, by_pairs}
 use Rattle.i9_script.specs.declared.command.Command.{Command as ScriptCommand}
-use Rattle.i9_debug.specs.Lines.{generated_line}
+use Rattle.i9_lines.specs.Lines.{generated_line}
 use Rattle.i9_debug.specs.Session.{Place, at, end_at}
 use Rattle.i9_generator.specs.Generator.{generated_source, generated_schedule}
 use Rattle.i9_tool.specs.declared.refusal.FileKind.TheVariants.{Schedule, Source}

@@ -27,13 +27,13 @@ use Rattle.i9_script.specs.ScriptText.{IsCommandInRange, IsInLimits}
 use Rattle.i9_script.proofs.Limits.{script_in_limits}
 use Rattle.i9_outside.specs.declared.traits.TheConstants.{FILE_LIMIT}
 use Rattle.i9_outside.specs.Traits.{IsFile}
-use Rattle.i9_debug.specs.declared.print.Printed.{Printed}
+use Rattle.i9_lines.specs.declared.print.Printed.{Printed}
 use Rattle.i9_debug.specs.declared.sessions.SessionEnd.{SessionEnd}
-use Rattle.i9_debug.specs.Lines.{generated_line}
-use Rattle.i9_debug.specs.Print.{Account, Prints}
+use Rattle.i9_lines.specs.Lines.{generated_line}
+use Rattle.i9_lines.specs.Print.{Account, Prints}
 use Rattle.i9_debug.specs.Session.{at, end_at}
 use Rattle.i9_debug.specs.Driven.{RunsScript, printed_of as session_printed}
-use Rattle.i9_debug.proofs.Prints.{prints_same}
+use Rattle.i9_lines.proofs.Prints.{prints_same}
 use Rattle.i9_debug.proofs.Commands.{start_place, script_leads}
 use Rattle.i9_machine.specs.declared.machine.Machine.{Machine}
 use Rattle.i9_schedule.specs.Plan.{Plan}

@@ -1,10 +1,10 @@
 -- What is printed of what is refused.
 use Rattle.std.proofs.Common.{◌≡◌, ◌≢◌, ℕ, ◌<◌, inl, inr, refl, sym, ◌∙◌, arith}
-use Rattle.i9_debug.specs.Lines.{refused_line}
-use Rattle.i9_debug.specs.Print.{IsLine}
-use Rattle.i9_debug.specs.declared.print.Printed.{Printed}
-use Rattle.i9_debug.specs.declared.print.Printed.TheVariants.{Done, Write, Memory}
-use Rattle.i9_debug.proofs.LineCounts.{line-refused}
+use Rattle.i9_lines.specs.Lines.{refused_line}
+use Rattle.i9_lines.specs.Print.{IsLine}
+use Rattle.i9_lines.specs.declared.print.Printed.{Printed}
+use Rattle.i9_lines.specs.declared.print.Printed.TheVariants.{Done, Write, Memory}
+use Rattle.i9_lines.proofs.LineCounts.{line-refused}
 use Rattle.i9_tool.specs.declared.refusal.FileKind.{FileKind}
 use Rattle.i9_tool.specs.declared.refusal.FileKind.TheVariants.{Image, Schedule, Source, Script}
 use Rattle.i9_tool.specs.FileKinds.{word_of, refusal_of}

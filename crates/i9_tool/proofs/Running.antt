@@ -21,18 +21,18 @@ use Rattle.i9_schedule.specs.Plan.{Plan}
 use Rattle.i9_machine.specs.Issue.{TellsIssue}
 use Rattle.i9_machine.specs.Step.{TellsRecord}
 use Rattle.i9_machine.specs.StandsFor.{StandsFor, Follows, IsUnderWay, DoesNext, Comes}
-use Rattle.i9_debug.specs.declared.print.Printed.{Printed}
-use Rattle.i9_debug.specs.declared.print.Printed.TheVariants.{Done}
+use Rattle.i9_lines.specs.declared.print.Printed.{Printed}
+use Rattle.i9_lines.specs.declared.print.Printed.TheVariants.{Done}
 use Rattle.i9_tool.specs.declared.run.Ran.{Ran}
 use Rattle.i9_tool.specs.declared.run.Ran.TheVariants as ran
-use Rattle.i9_debug.specs.Print.{Account, Prints, line_text}
+use Rattle.i9_lines.specs.Print.{Account, Prints, line_text}
 use Rattle.i9_tool.specs.declared.words.Range.{Range}
 use Rattle.i9_tool.specs.Traced.{is_within, line_where, issued_words, issued_line, traced_line, traced_lines, traced_text}
 use Rattle.i9_tool.specs.Run.{RunsAs, Runs, RunsHeaded, TracedBy, traced_none, traced_next, IsCut, StopsWith, at_end, before_end, TracesBy, behind_step, behind_end, DrivesBy, AllowsTurn, TellsEnd, turn_text, step_text, printed_of}
 use Rattle.i9_debug.specs.Session.{at, ended}
-use Rattle.i9_debug.proofs.TextLines.{IsClosed, closed_none, closed_line}
-use Rattle.i9_debug.proofs.Prints.{prints_none, prints_then, prints_stop, prints_behind, prints_same, prints_refused}
-use Rattle.i9_debug.proofs.Turns.{lines-text, on_cut}
+use Rattle.i9_lines.proofs.TextLines.{IsClosed, closed_none, closed_line}
+use Rattle.i9_lines.proofs.Prints.{prints_none, prints_then, prints_stop, prints_behind, prints_same, prints_refused, on_cut}
+use Rattle.i9_lines.proofs.ClosedLines.{lines-text}
 use Rattle.i9_tool.proofs.TracedLines.{closed_traces, closed_by}
 
 -- the machine of a run stands for its records

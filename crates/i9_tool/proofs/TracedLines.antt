@@ -8,8 +8,8 @@ use Rattle.i9_model.specs.PrintedText.{spaced, text_of, record_lines}
 use Rattle.i9_machine.specs.declared.line.Turn.{Turn}
 use Rattle.i9_machine.specs.declared.line.Turn.TheVariants as turns
 use Rattle.i9_tracer.specs.Trace.{trace_text}
-use Rattle.i9_debug.proofs.TextLines.{IsClosed, closed_none, closed_join, closed_feed}
-use Rattle.i9_debug.proofs.ClosedTexts.{closed_text}
+use Rattle.i9_lines.proofs.TextLines.{IsClosed, closed_none, closed_join, closed_feed}
+use Rattle.i9_lines.proofs.ClosedLines.{closed_text}
 use Rattle.i9_tool.specs.Traced.{issued_words, line_where, issued_line, traced_line, traced_lines}
 use Rattle.i9_tool.specs.Run.{TracedBy, traced_none, traced_next, turn_text}
 

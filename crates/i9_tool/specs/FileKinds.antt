@@ -3,7 +3,7 @@ use Rattle.std.specs.Prelude.{ℕ, ◌%◌, ◌<◌, ◌≤◌, List, length, ma
 use Rattle.std.specs.List.{AllByRecursion}
 use Rattle.i9_text.specs.Text.{lines_of}
 use Rattle.i9_image.specs.Images.{Fault, AtLine, OfElf, IsImage, IsRefused}
-use Rattle.i9_debug.specs.Lines.{refused_line, elf_line}
+use Rattle.i9_lines.specs.Lines.{refused_line, elf_line}
 use Rattle.i9_model.specs.ScheduleText.{Contents, IsSchedule, IsRefused as IsRefusedSchedule}
 use Rattle.i9_model.specs.Image.{Part}
 use Rattle.i9_asm.specs.Laws.{IsAssembly, IsRefusedSource}

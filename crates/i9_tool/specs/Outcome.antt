@@ -29,16 +29,16 @@ use Rattle.i9_tool.specs.Refusals.{Refusal, refusal_line, refusal_code, FirstRef
 use Rattle.i9_tool.specs.Inputs.{Inputs, AreRead, ToLength, ByCommands, task_of}
 use Rattle.i9_tool.specs.Inputs.{Task, Runs, Assembles, Lists, Generates, Tunes}
 use Rattle.i9_tool.specs.Fetches.{rose_in}
-use Rattle.i9_debug.specs.Lines.{generated_line}
+use Rattle.i9_lines.specs.Lines.{generated_line}
 use Rattle.i9_debug.specs.Session.{Place, at, IsText, end_at}
 use Rattle.i9_tool.specs.declared.words.Format.{Format}
 use Rattle.i9_tool.specs.declared.words.Format.TheVariants as formats
 use Rattle.i9_tool.specs.declared.words.Range.{Range}
 use Rattle.i9_tool.specs.Traced.{headed_text}
 use Rattle.i9_generator.specs.Generator.{generated_source, generated_schedule}
-use Rattle.i9_debug.specs.declared.print.Printed.{Printed}
-use Rattle.i9_debug.specs.declared.print.Printed.TheVariants as printed
-use Rattle.i9_debug.specs.Print.{Account, CountsUpTo, Takes, TakesFront, TakesFirst, lines_in, counted_on}
+use Rattle.i9_lines.specs.declared.print.Printed.{Printed}
+use Rattle.i9_lines.specs.declared.print.Printed.TheVariants as printed
+use Rattle.i9_lines.specs.Print.{Account, CountsUpTo, Takes, TakesFront, TakesFirst, lines_in, counted_on}
 use Rattle.i9_outside.specs.Counts.{Rose}
 use Rattle.i9_outside.specs.Traits.{IsFile, AppendsFront}
 

@@ -10,14 +10,14 @@ use Rattle.i9_machine.specs.declared.machine.Machine.{Machine}
 use Rattle.i9_schedule.specs.Plan.{Plan}
 use Rattle.i9_tool.specs.declared.words.Range.{Range}
 use Rattle.i9_tool.specs.Traced.{line_where, traced_line, printed_text, headed_text}
-use Rattle.i9_debug.specs.declared.print.Printed.{Printed}
-use Rattle.i9_debug.specs.declared.print.Printed.TheVariants as printed
+use Rattle.i9_lines.specs.declared.print.Printed.{Printed}
+use Rattle.i9_lines.specs.declared.print.Printed.TheVariants as printed
 use Rattle.i9_tool.specs.declared.run.Counted.{Counted}
 use Rattle.i9_tool.specs.declared.run.Ran.{Ran}
 use Rattle.i9_tool.specs.declared.run.Ran.TheVariants as ran
-use Rattle.i9_debug.specs.Print.{Account, Prints, line_text}
+use Rattle.i9_lines.specs.Print.{Account, Prints, line_text, OnCut}
 use Rattle.i9_debug.specs.Session.{Place, at, ended}
-use Rattle.i9_debug.specs.Driven.{StandsAt, OnCut, StopsAt}
+use Rattle.i9_debug.specs.Driven.{StandsAt, StopsAt}
 
 -- how the printing of the run's text ended
 abbrev pub printed_of : Ran → Printed

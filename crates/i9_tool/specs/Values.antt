@@ -23,7 +23,7 @@ use Rattle.i9_tool.specs.declared.made.Made.{Made}
 use Rattle.i9_tool.specs.declared.made.Made.TheVariants as made
 use Rattle.i9_tool.specs.CommandLine.{segments_line}
 use Rattle.i9_tool.specs.Outcome.{Answers, Only}
-use Rattle.i9_debug.specs.Print.{Account}
+use Rattle.i9_lines.specs.Print.{Account}
 use Rattle.i9_tool.specs.FileKinds.{Value, Says, FaultOf, IsFaulty, AreBytes}
 use Rattle.i9_tool.specs.Refusals.{Refusal, Unread, TooLong, Faulty}
 use Rattle.i9_tool.specs.Inputs.{Drive, ToLength, ByCommands, no_schedule}

@@ -6,7 +6,7 @@ ghost use Rattle.i9_asm.specs.Laws.{IsAssembly};
 ghost use Rattle.i9_generator.specs.Generator.{generated_source, generated_schedule};
 ghost use Rattle.i9_tool.specs.Words.{AreFew};
 ghost use Rattle.i9_schedule.specs.Plan.{contents};
-ghost use Rattle.i9_debug.specs.Print.{account};
+ghost use Rattle.i9_lines.specs.Print.{account};
 ghost use Rattle.i9_tool.specs.Outcome.{AnswersSome, GenGives};
 ghost use Rattle.i9_tool.specs.Values.{code_of};
 

@@ -12,7 +12,7 @@ ghost use Rattle.i9_outside.specs.MemSink as mem_sink;
 ghost use Rattle.i9_outside.specs.Traits.{IsFile};
 ghost use Rattle.i9_tool.specs.Fetches.{AllTold};
 ghost use Rattle.i9_tool.specs.Outcome.{Gives, GivesWhole, IsCountedSchedule, Outcomes, asked_for, names_of};
-ghost use Rattle.i9_debug.specs.Print.{account};
+ghost use Rattle.i9_lines.specs.Print.{account};
 
 use crate::status::Status;
 use crate::top::i960;

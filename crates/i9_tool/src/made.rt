@@ -1,6 +1,6 @@
 //! What a form makes of its inputs, which is printed at once.
 ghost use Rattle.std.specs.Prelude.{◌≢◌};
-ghost use Rattle.i9_debug.specs.Print.{account};
+ghost use Rattle.i9_lines.specs.Print.{account};
 ghost use Rattle.i9_tool.specs.Values.{PrintsMade, code_of};
 
 use crate::status::{Ending, ending_for};

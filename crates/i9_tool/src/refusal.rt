@@ -1,7 +1,7 @@
 //! Why the files of a command are refused, and what is printed then.
 ghost use Rattle.std.specs.Prelude.{◌≡◌, ◌≢◌};
-ghost use Rattle.i9_debug.specs.Lines.{refused_line};
-ghost use Rattle.i9_debug.specs.Print.{IsPiece, Prints, account};
+ghost use Rattle.i9_lines.specs.Lines.{refused_line};
+ghost use Rattle.i9_lines.specs.Print.{IsPiece, Prints, account};
 ghost use Rattle.i9_tool.specs.CommandLine.{long_line};
 ghost use Rattle.i9_image.specs.Reading.{fault_in};
 ghost use Rattle.i9_tool.specs.FileKinds.{word_of, image_line, refusal_of};

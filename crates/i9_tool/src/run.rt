@@ -6,7 +6,7 @@ ghost use Rattle.i9_model.specs.Image.{pairs_of};
 ghost use Rattle.i9_model.specs.ScheduleText.{IsPlan};
 ghost use Rattle.i9_machine.specs.StandsFor.{StandsFor, Follows, IsUnderWay};
 ghost use Rattle.i9_tracer.specs.Closures.{TakesEachAddress};
-ghost use Rattle.i9_debug.specs.Print.{account};
+ghost use Rattle.i9_lines.specs.Print.{account};
 ghost use Rattle.i9_tool.specs.Run.{Counts, DrivesBy, PrintsBy, Runs, RunsHeaded, TracesBy, step_text, turn_text};
 ghost use Rattle.i9_tool.specs.Words.{AreFew};
 

@@ -4,7 +4,7 @@ ghost use Rattle.i9_model.specs.declared.run.End.{End as LastEnd};
 ghost use Rattle.i9_model.specs.Image.{pairs_of};
 ghost use Rattle.i9_model.specs.ScheduleText.{IsPlan};
 ghost use Rattle.i9_debug.specs.Driven.{TellsEnd, printed_of};
-ghost use Rattle.i9_debug.specs.Print.{account};
+ghost use Rattle.i9_lines.specs.Print.{account};
 ghost use Rattle.i9_tool.specs.Outcome.{AnswersSome, ScriptGives, code_for, driven_code};
 ghost use Rattle.i9_tool.specs.Values.{code_of};
 ghost use Rattle.i9_tool.specs.Words.{AreFew};

@@ -6,7 +6,7 @@ ghost use Rattle.i9_model.specs.ScheduleText.{IsPlan};
 ghost use Rattle.i9_model.specs.PrintedText.{end_code};
 ghost use Rattle.i9_model.specs.declared.layout.TheConstants.{MAX_LENGTH};
 ghost use Rattle.i9_schedule.specs.Plan.{contents};
-ghost use Rattle.i9_debug.specs.Print.{account};
+ghost use Rattle.i9_lines.specs.Print.{account};
 ghost use Rattle.i9_tool.specs.Inputs.{Runs, no_schedule};
 ghost use Rattle.i9_tool.specs.Outcome.{Answers, AnswersSome, RunGives, TaskGives, code_for};
 ghost use Rattle.i9_tool.specs.Run.{TellsEnd, printed_of};

@@ -1,7 +1,7 @@
 //! The command as one call.
 ghost use Rattle.std.specs.Prelude.{◌≡◌, ◌≢◌, ◌≤◌, ◌<◌, ◌⊎◌, List, ℕ, length, None};
 ghost use Rattle.i9_outside.specs.Counts.{Rose};
-ghost use Rattle.i9_debug.specs.Print.{account};
+ghost use Rattle.i9_lines.specs.Print.{account};
 ghost use Rattle.i9_tool.specs.CommandLine.{files_of};
 ghost use Rattle.i9_tool.specs.Values.{code_of};
 ghost use Rattle.i9_tool.specs.Words.{asked_by, Fits};

@@ -1,6 +1,6 @@
 use Rattle.std.proofs.Common.{IfOk, sym, subst}
 use Rattle.std.specs.Process.{exit_status}
-use Rattle.i9_debug.specs.Print.{account}
+use Rattle.i9_lines.specs.Print.{account}
 use Rattle.i9_main.specs.Program.{EndsWith}
 use Rattle.i9_tool.specs.Fetches.{shelf}
 use Rattle.i9_main.proofs.answer.Goals as goal

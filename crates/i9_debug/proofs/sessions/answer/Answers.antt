@@ -1,4 +1,4 @@
-use Rattle.i9_debug.specs.declared.print.Printed.TheVariants.{Write, Memory}
+use Rattle.i9_lines.specs.declared.print.Printed.TheVariants.{Write, Memory}
 use Rattle.i9_debug.proofs.Commands.{then_tells, cut_before, runs_place, stands_last, driven_there}
 use Rattle.i9_debug.proofs.Returning.{trail_of}
 use Rattle.i9_debug.proofs.sessions.answer.Goals as goal

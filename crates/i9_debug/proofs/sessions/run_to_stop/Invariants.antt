@@ -3,7 +3,7 @@ use Rattle.i9_model.specs.Given.{Given}
 use Rattle.i9_course.specs.Course.{Item}
 use Rattle.i9_machine.specs.StandsFor.{StandsFor, Follows, IsUnderWay}
 use Rattle.i9_machine.specs.Step.{steps_left}
-use Rattle.i9_debug.specs.Print.{account}
+use Rattle.i9_lines.specs.Print.{account}
 use Rattle.i9_debug.proofs.Stops.{Sought}
 use Rattle.i9_debug.proofs.sessions.run_to_stop.Given as goal
 

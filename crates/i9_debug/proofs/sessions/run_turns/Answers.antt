@@ -1,6 +1,6 @@
 use Rattle.std.proofs.Common.{◌≡◌, ◌+◌, arith}
 use Rattle.i9_machine.specs.Turned.{steps_on}
-use Rattle.i9_debug.specs.declared.print.Printed.TheVariants.{Write, Memory}
+use Rattle.i9_lines.specs.declared.print.Printed.TheVariants.{Write, Memory}
 use Rattle.i9_debug.proofs.Turns.{none_turned, turned_on, turned_whole, turn_cut, turn_refused, turn_ends, turn_under_way}
 use Rattle.i9_debug.proofs.sessions.run_turns.Goals as goal
 use Rattle.i9_debug.proofs.sessions.run_turns.Goals.{in-On, in-Issued}

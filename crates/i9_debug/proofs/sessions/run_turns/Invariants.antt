@@ -2,7 +2,7 @@ use Rattle.std.proofs.Common.{List, None}
 use Rattle.i9_model.specs.Given.{Given}
 use Rattle.i9_course.specs.Course.{Item}
 use Rattle.i9_machine.specs.StandsFor.{StandsFor, Follows, IsUnderWay}
-use Rattle.i9_debug.specs.Print.{account}
+use Rattle.i9_lines.specs.Print.{account}
 use Rattle.i9_debug.proofs.Turns.{Turned}
 use Rattle.i9_debug.proofs.sessions.run_turns.Given as goal
 

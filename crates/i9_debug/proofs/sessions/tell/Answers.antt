@@ -1,4 +1,4 @@
-use Rattle.i9_debug.proofs.Prints.{prints_same, prints_refused}
+use Rattle.i9_lines.proofs.Prints.{prints_same, prints_refused}
 use Rattle.i9_debug.proofs.sessions.tell.Goals as goal
 
 pub returns-in-Ok-told_text-clause-told : goal.returns-in-Ok-told_text-clause-told

@@ -1,5 +1,5 @@
 use Rattle.std.proofs.Common.{refl}
-use Rattle.i9_debug.proofs.LineCounts.{line-refused}
+use Rattle.i9_lines.proofs.LineCounts.{line-refused}
 use Rattle.i9_test_machine.proofs.debug.prints_what_else_there_is.Goals as goal
 
 pub print_refusal-requires : goal.print_refusal-requires

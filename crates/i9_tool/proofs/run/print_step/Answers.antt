@@ -1,4 +1,4 @@
-use Rattle.i9_debug.proofs.Prints.{prints_then, prints_stop}
+use Rattle.i9_lines.proofs.Prints.{prints_then, prints_stop}
 use Rattle.i9_tool.proofs.TracedLines.{closed_turn}
 use Rattle.i9_tool.proofs.run.print_step.Goals as goal
 

@@ -1,5 +1,5 @@
 use Rattle.std.proofs.Common.{true}
-use Rattle.i9_debug.proofs.Prints.{prints_refused}
+use Rattle.i9_lines.proofs.Prints.{prints_refused}
 use Rattle.i9_tool.proofs.run.print_turn.Goals as goal
 
 pub returns-in-Err : goal.returns-in-Err

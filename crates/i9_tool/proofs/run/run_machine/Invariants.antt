@@ -2,7 +2,7 @@ use Rattle.std.proofs.Common.{[], None}
 use Rattle.i9_model.specs.Given.{Given}
 use Rattle.i9_machine.specs.StandsFor.{StandsFor, Follows, IsUnderWay}
 use Rattle.i9_machine.specs.Step.{steps_left}
-use Rattle.i9_debug.specs.Print.{account}
+use Rattle.i9_lines.specs.Print.{account}
 use Rattle.i9_tool.proofs.Running.{Traced}
 use Rattle.i9_tool.proofs.run.run_machine.Given as goal
 

@@ -1,5 +1,0 @@
-use Rattle.i9_debug.proofs.Prints.{prints_refused}
-use Rattle.i9_debug.proofs.print.print_refusal.Goals as goal
-
-pub returns-in-Err : goal.returns-in-Err
-returns-in-Err g c = prints_refused _ _ _

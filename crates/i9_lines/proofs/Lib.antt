@@ -1,0 +1,8 @@
+pub mod TextLines
+pub mod Feeds
+pub mod Prints
+pub mod Registers
+pub mod Lined
+pub mod LineCounts
+pub mod ClosedLines
+pub mod PlaceBytes

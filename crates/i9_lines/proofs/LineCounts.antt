@@ -1,0 +1,178 @@
+-- Each printed line has one line feed, which is its last byte.
+use Rattle.std.proofs.Common.{◌≡◌, ℕ, ◌≤◌, length, Bool, true, false, cond, List, [], ◌∷◌, ◌++◌, slice_index, Option, Some, None, eqb, codes, refl, arith}
+use Rattle.std.specs.List.{flat_map}
+use Rattle.std.specs.Fmt.{decimal}
+use Rattle.std.proofs.lemmas.Bool.{and_parts}
+use Rattle.std.specs.List.{range_with_len}
+use Rattle.i9_isa.specs.Words.{bit}
+use Rattle.i9_text.specs.Written.{byte_text, word_text}
+use Rattle.i9_text.proofs.WrittenLines.{is_plain_byte, is_plain, plain-append, plain-decimal, plain-word_text, plain-byte_text}
+use Rattle.i9_model.specs.declared.view.View.{View}
+use Rattle.i9_model.specs.declared.run.Point.{Point}
+use Rattle.i9_model.specs.declared.run.End.{End}
+use Rattle.i9_model.specs.declared.run.End.TheVariants.{Exit, Limit, Hazard, Dead, Imprecise}
+use Rattle.i9_model.specs.PrintedText.{out_text, spaced, spaced_byte, spaced_register, words_text, registers_text, drained_text, point_text, event_text, bytes_text, end_text}
+use Rattle.i9_model.specs.declared.event.Event.{Event}
+use Rattle.i9_model.specs.Events.{journal_text}
+use Rattle.i9_replay.proofs.ReadBack.{journal_plain}
+use Rattle.i9_replay.proofs.Replay.{plain_words, plain_drained, plain_bytes}
+use Rattle.i9_lines.specs.Lines.{refused_line, elf_line, ending, generated_line}
+use Rattle.i9_model.specs.declared.frame.Frame.{Frame}
+use Rattle.i9_lines.specs.PlaceText.{turn_text, held_text, raw_bytes_text, who_text}
+use Rattle.i9_lines.specs.Print.{IsLine}
+use Rattle.i9_lines.proofs.TextLines.{line_alone}
+
+not_feed : (b : ℕ) → is_plain_byte b ≡ true → eqb b 10 ≡ false
+not_feed b h = grind (arith)
+
+-- a plain text in front of a line
+after_plain : (xs ys : List ℕ) → is_plain xs ≡ true → IsLine ys → IsLine (xs ++ ys)
+after_plain [] ys h line = line
+after_plain (b ∷ xs) ys h line =
+    let p = and_parts (is_plain_byte b) (is_plain xs) h in
+    let rest : IsLine (xs ++ ys) = after_plain xs ys p.1 line in
+    rw (not_feed b p.0) (omega (arith, rest))
+
+pub line-words : (label ws : List ℕ) → is_plain label ≡ true → IsLine (words_text label ws)
+unfolding words_text
+line-words label ws h = after_plain (label ++ flat_map spaced ws) (10 ∷ []) (plain-append label (flat_map spaced ws) h (plain_words ws)) refl
+
+pub line-out : (b : ℕ) → IsLine (out_text b)
+unfolding out_text
+line-out b = after_plain (codes "#out ") (byte_text b ++ 10 ∷ []) refl (after_plain (byte_text b) (10 ∷ []) (plain-byte_text b) refl)
+
+pub line-point : (k : Point) (v : View) → IsLine (point_text k v)
+unfolding point_text
+line-point k v =
+    let counted = plain-append (codes "#point ") (decimal v.count) refl (plain-decimal v.count) in
+    let label = plain-append (codes "#point " ++ decimal v.count ++ codes " ") (drained_text k) (plain-append (codes "#point " ++ decimal v.count) (codes " ") counted refl) (plain_drained k) in
+    line-words (codes "#point " ++ decimal v.count ++ codes " " ++ drained_text k) (v.ip ∷ v.ac ∷ v.pc ∷ []) label
+
+pub line-event : (k : ℕ) (e : Event) → IsLine (event_text k e)
+unfolding event_text
+line-event k e = after_plain (journal_text k e) (10 ∷ []) (journal_plain k e) refl
+
+pub line-bytes : (a : ℕ) (bs : List (Option ℕ)) → IsLine (bytes_text a bs)
+unfolding bytes_text
+line-bytes a bs =
+    let begun = plain-append (codes "#mem") (spaced a) refl (plain-word_text a) in
+    after_plain (codes "#mem" ++ spaced a ++ flat_map spaced_byte bs) (10 ∷ []) (plain-append (codes "#mem" ++ spaced a) (flat_map spaced_byte bs) begun (plain_bytes bs)) refl
+
+pub line-end : (f : End) → IsLine (end_text f)
+unfolding end_text
+line-end (Exit w) = line-words (codes "#end exit") (w ∷ []) refl
+line-end Limit = refl
+line-end (Hazard a) = line-words (codes "#end hazard") (a ∷ []) refl
+line-end (Dead code a) = line-words (codes "#end dead " ++ decimal code) (a ∷ []) (plain-append (codes "#end dead ") (decimal code) refl (plain-decimal code))
+line-end (Imprecise a) = line-words (codes "#end imprecise") (a ∷ []) refl
+
+pub end_labelled : (f : End) → length (codes "#end ") ≤ length (end_text f)
+unfolding end_text words_text
+end_labelled (Exit w) = omega arith
+end_labelled Limit = omega arith
+end_labelled (Hazard a) = omega arith
+end_labelled (Dead code a) = omega arith
+end_labelled (Imprecise a) = omega arith
+
+-- the end of the run that was made from a number
+line-ending : (f : End) → IsLine (ending f)
+unfolding ending end_text words_text
+line-ending (Exit w) = line-words (codes "exit") (w ∷ []) refl
+line-ending Limit = refl
+line-ending (Hazard a) = line-words (codes "hazard") (a ∷ []) refl
+line-ending (Dead code a) = line-words (codes "dead " ++ decimal code) (a ∷ []) (plain-append (codes "dead ") (decimal code) refl (plain-decimal code))
+line-ending (Imprecise a) = line-words (codes "imprecise") (a ∷ []) refl
+
+-- a number, and a space behind it
+plain_number : (xs : List ℕ) (n : ℕ) → is_plain xs ≡ true → is_plain (xs ++ decimal n ++ codes " ") ≡ true
+plain_number xs n plain = plain-append (xs ++ decimal n) (codes " ") (plain-append xs (decimal n) plain (plain-decimal n)) refl
+
+pub line-generated : (number count events : ℕ) (f : End) → IsLine (generated_line number count events f)
+unfolding generated_line
+line-generated number count events f =
+    let begun = plain_number (codes "#gen ") number refl in
+    let counted = plain_number (codes "#gen " ++ decimal number ++ codes " ") count begun in
+    let taken = plain_number (codes "#gen " ++ decimal number ++ codes " " ++ decimal count ++ codes " ") events counted in
+    after_plain (codes "#gen " ++ decimal number ++ codes " " ++ decimal count ++ codes " " ++ decimal events ++ codes " ") (ending f) taken (line-ending f)
+
+-- a register, or eight dashes
+plain_register : (v : View) (r : ℕ) → is_plain (spaced_register v r) ≡ true
+plain_register v r = by_mark (bit v.marks r)
+  where
+    by_mark : (t : Bool) → is_plain (cond t (codes " --------") (spaced (slice_index v.regs r))) ≡ true
+    by_mark true = refl
+    by_mark false = plain-append (codes " ") (word_text (slice_index v.regs r)) refl (plain-word_text (slice_index v.regs r))
+
+plain_registers : (v : View) (rs : List ℕ) → is_plain (flat_map (spaced_register v) rs) ≡ true
+plain_registers v [] = refl
+plain_registers v (r ∷ rs) = plain-append (spaced_register v r) (flat_map (spaced_register v) rs) (plain_register v r) (plain_registers v rs)
+
+line-registers : (label : List ℕ) (v : View) (first : ℕ) → is_plain label ≡ true → IsLine (registers_text label v first)
+unfolding registers_text
+line-registers label v first h =
+    let rs = range_with_len first 16 in
+    after_plain (label ++ flat_map (spaced_register v) rs) (10 ∷ [])
+    (plain-append label (flat_map (spaced_register v) rs) h (plain_registers v rs)) refl
+
+pub line-globals : (v : View) → IsLine (registers_text (codes "#g") v 16)
+line-globals v = line-registers (codes "#g") v 16 refl
+
+pub line-locals : (v : View) → IsLine (registers_text (codes "#l") v 0)
+line-locals v = line-registers (codes "#l") v 0 refl
+
+-- what was refused, by a plain name
+pub line-refused : (what : List ℕ) (fault : ℕ × ℕ) → is_plain what ≡ true → IsLine (refused_line what fault)
+unfolding refused_line
+line-refused what fault plain =
+    let begun = plain-append (codes "#" ++ what) (codes " line ") (plain-append (codes "#") what refl plain) refl in
+    let line = plain-append (codes "#" ++ what ++ codes " line ") (decimal fault.0) begun (plain-decimal fault.0) in
+    let kind = plain-append (codes "#" ++ what ++ codes " line " ++ decimal fault.0) (codes " kind ") line refl in
+    after_plain (codes "#" ++ what ++ codes " line " ++ decimal fault.0 ++ codes " kind " ++ decimal fault.1) (10 ∷ [])
+    (plain-append (codes "#" ++ what ++ codes " line " ++ decimal fault.0 ++ codes " kind ") (decimal fault.1) kind (plain-decimal fault.1)) refl
+
+pub line-elf : (kind : ℕ) → IsLine (elf_line kind)
+unfolding elf_line
+line-elf kind = after_plain (codes "#image elf kind " ++ decimal kind) (10 ∷ []) (plain-append (codes "#image elf kind ") (decimal kind) refl (plain-decimal kind)) refl
+
+pub ruleset line_rules = (line_alone, line-generated, line-elf)
+
+-- ---- the lines of a session
+
+pub line-turn : (t k : ℕ) → IsLine (turn_text t k)
+unfolding turn_text
+line-turn t k =
+    after_plain (codes "#turn " ++ decimal t ++ codes " " ++ decimal k) (10 ∷ [])
+    (plain-append (codes "#turn " ++ decimal t ++ codes " ") (decimal k) (plain_number (codes "#turn ") t refl) (plain-decimal k)) refl
+
+pub line-counted : (label ws : List ℕ) (n : ℕ) → is_plain label ≡ true → IsLine (words_text (label ++ decimal n) ws)
+line-counted label ws n plain = line-words (label ++ decimal n) ws (plain-append label (decimal n) plain (plain-decimal n))
+
+pub line-view : (n : ℕ) (ws : List ℕ) → IsLine (words_text (codes "#view " ++ decimal n) ws)
+line-view n ws = line-counted (codes "#view ") ws n refl
+
+pub line-raw : (n : ℕ) (ws : List ℕ) → IsLine (words_text (codes "#raw " ++ decimal n) ws)
+line-raw n ws = line-counted (codes "#raw ") ws n refl
+
+pub line-raw_globals : (ws : List ℕ) → IsLine (words_text (codes "#rg") ws)
+line-raw_globals ws = line-words (codes "#rg") ws refl
+
+pub line-raw_locals : (ws : List ℕ) → IsLine (words_text (codes "#rl") ws)
+line-raw_locals ws = line-words (codes "#rl") ws refl
+
+pub line-held : (n : ℕ) (fs : List Frame) → IsLine (held_text n fs)
+unfolding held_text
+line-held n fs = line-counted (codes "#held " ++ decimal n ++ codes " ") _ (length fs) (plain_number (codes "#held ") n refl)
+
+pub line-raw_bytes : (a : ℕ) (bs : List (Option ℕ)) → IsLine (raw_bytes_text a bs)
+unfolding raw_bytes_text
+line-raw_bytes a bs =
+    let begun = plain-append (codes "#rawmem") (spaced a) refl (plain-word_text a) in
+    after_plain (codes "#rawmem" ++ spaced a ++ flat_map spaced_byte bs) (10 ∷ []) (plain-append (codes "#rawmem" ++ spaced a) (flat_map spaced_byte bs) begun (plain_bytes bs)) refl
+
+pub line-who : (change : Option (ℕ × ℕ)) → IsLine (who_text change)
+unfolding who_text
+line-who None = refl
+line-who (Some change) =
+    let begun = plain-append (codes "#who ") (decimal change.0) refl (plain-decimal change.0) in
+    after_plain (codes "#who " ++ decimal change.0 ++ spaced change.1) (10 ∷ [])
+    (plain-append (codes "#who " ++ decimal change.0) (spaced change.1) begun (plain-word_text change.1)) refl
