@@ -3,7 +3,7 @@ use Rattle.std.proofs.Common.{◌≡◌, ℕ, zero, suc, ◌+◌, ◌<◌, Bool,
 use Rattle.std.specs.Prelude.{IfSome, codes}
 use Rattle.std.specs.List.{AllByRecursion, list_all, position_or_len}
 use Rattle.std.specs.Str.{bytes_eq}
-use Rattle.std.specs.Int.{w32, to_le_bytes, byte_at, bytes_low_first}
+use Rattle.std.specs.Int.{w32, to_le_bytes, byte_at}
 use Rattle.std.proofs.lemmas.Bool.{and_parts, ltb-true}
 use Rattle.i9_text.specs.FirstFault.{SaysAll}
 use Rattle.i9_text.specs.Text.{is_blank, is_in_word}
@@ -13,11 +13,11 @@ use Rattle.i9_value.specs.declared.fault.Fault.TheVariants as fault
 use Rattle.i9_value.specs.Cut.{before, from}
 use Rattle.i9_value.specs.Values.{Names, value_of}
 use Rattle.i9_statement.specs.Fields.{fields_of}
-use Rattle.i9_asm.specs.Lines.{Item, Empty, Bad, Org, Space, Align, Set, Data, Ascii, Instruction, quote, backslash, colon, dot, ends_head, one_value, two_values, some_values, directive_of, item_by, labelled, labelled_by, without_comment, code_len, code_of, item_of, label_of}
+use Rattle.i9_asm.specs.Lines.{Item, Bad, Org, Space, Align, Set, Ascii, Instruction, quote, backslash, colon, dot, ends_head, one_value, two_values, some_values, directive_of, item_by, labelled, labelled_by, without_comment, code_len, code_of, item_of, label_of}
 use Rattle.i9_asm.specs.declared.comments.Quote.TheVariants.{Outside}
 use Rattle.i9_asm.specs.Strings.{small_n, zero_digit, escaped, if_blank, before_characters, characters, opened, string_of}
 use Rattle.i9_asm.specs.Places.{Place, is_ascii, size_of, moved_to, past_line, all_names}
-use Rattle.i9_asm.specs.Source.{Source, start_source, segments_of, begun, grown, past_source, labelled_source, zeros, low_bytes, data_value, label_fault, fault_if, front_fault, rest_fault, line_fault, Gives, gives_nothing, gives_instruction, gives_data, gives_characters, gives_zeros, gives_move, gives_alignment, gives_assignment, Assembles}
+use Rattle.i9_asm.specs.Source.{Source, start_source, begun, grown, labelled_source, zeros, low_bytes, data_value, label_fault, fault_if, front_fault, rest_fault, line_fault, Gives, gives_nothing, gives_instruction, gives_data, gives_characters, gives_zeros, gives_move, gives_alignment, gives_assignment, Assembles}
 use Rattle.i9_asm.specs.Laws.{IsAssembly}
 use Rattle.i9_asm.proofs.TakenLines.{least_left}
 use Rattle.i9_hex.specs.Put.{with_part}

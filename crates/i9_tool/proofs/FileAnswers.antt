@@ -1,5 +1,5 @@
 -- A file of each kind is accepted or refused, not both, for one value or one fault.
-use Rattle.std.proofs.Common.{◌≡◌, ℕ, suc, ◌%◌, ◌<◌, ◌⊎◌, List, [], ◌∷◌, length, get_or, refl, sym, ap, ◌∙◌, subst, arith}
+use Rattle.std.proofs.Common.{◌≡◌, ℕ, suc, ◌%◌, ◌<◌, ◌⊎◌, List, [], ◌∷◌, get_or, refl, sym, ap, ◌∙◌, subst, arith}
 use Rattle.i9_text.specs.Text.{lines_of}
 use Rattle.i9_image.specs.Images.{Fault, IsImage, IsRefused}
 use Rattle.i9_image.proofs.Answers.{some_answer as some_image, image_apart, one_image, one_fault as one_image_fault}

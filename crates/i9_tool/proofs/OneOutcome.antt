@@ -4,8 +4,7 @@ use Rattle.std.specs.Prelude.{IsSome}
 use Rattle.i9_model.specs.State.{State}
 use Rattle.i9_model.specs.Given.{Given, given}
 use Rattle.i9_model.specs.declared.event.Timed.{Timed}
-use Rattle.i9_text.specs.Text.{lines_of as text_lines}
-use Rattle.i9_model.specs.ScheduleText.{Contents, IsSchedule, IsByCounts}
+use Rattle.i9_model.specs.ScheduleText.{Contents, IsByCounts}
 use Rattle.i9_model.specs.Run.{Record, reached_after, Finish, reached_last}
 use Rattle.i9_model.specs.PrintedText.{text_of, lines_of, end_lines, end_code, heading_text}
 use Rattle.i9_model.specs.Image.{Part, pairs_of}

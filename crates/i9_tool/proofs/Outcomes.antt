@@ -41,7 +41,6 @@ use Rattle.i9_generator.specs.Generator.{generated_source, generated_schedule}
 use Rattle.i9_tool.specs.declared.refusal.FileKind.TheVariants.{Image}
 use Rattle.i9_tool.specs.declared.run.Counted.{Counted}
 use Rattle.i9_tool.specs.declared.run.Ran.{Ran}
-use Rattle.i9_tool.specs.declared.words.Format.{Format}
 use Rattle.i9_tool.specs.declared.words.Format.TheVariants.{Hex, Elf}
 use Rattle.i9_tool.specs.declared.words.Range.{Range}
 use Rattle.i9_tool.specs.CommandLine.{Command, Run, Asm, Dis, Gen, Tune, Driver, ByLength, ByScript, driver_files, files_of, words_line, segments_line}
@@ -52,7 +51,6 @@ use Rattle.i9_tool.specs.declared.made.Made.{Made}
 use Rattle.i9_tool.specs.Values.{made_code, made_text, IsMade, PrintsMade}
 use Rattle.i9_tool.specs.Traced.{headed_text}
 use Rattle.i9_tool.specs.Run.{RunsHeaded, Counts, printed_of}
-use Rattle.i9_job.specs.Accepted.{HasAssembly, HasPlan}
 use Rattle.i9_job.proofs.MadeSource.{made_source}
 use Rattle.i9_job.proofs.MadeSchedule.{made_schedule}
 use Rattle.i9_tool.specs.Outcome.{RunGives, runs, driven_code, ScriptGives, drives, AsmGives, as_hex, as_elf, too_many_runs, TuneGives, no_block, tuned, GenGives, job_runs, job_line, TaskGives, CommandGives, refused, done, Gives, in_no_form, in_form, Answers, code_for, Only, SomeFor, AnswersSome}

@@ -8,7 +8,7 @@ use Rattle.i9_tool.specs.FileKinds.{File, file_of, names, Value, Says, IsWhole, 
 use Rattle.i9_tool.specs.Refusals.{Refusal, Unread, TooLong, Faulty, Refuses, unread, faulty, FirstRefusal}
 use Rattle.i9_tool.specs.Inputs.{Inputs, AreRead}
 use Rattle.i9_tool.specs.CommandLine.{Command}
-use Rattle.i9_tool.specs.Fetches.{Shelf, rose_in, AnyRose, AllSure, FetchesOnce, FetchesFiles, none_left, ends_at, goes_on, Fetches, Stop, Read, Refused, NoMemory, Follows, Behind, IfRefused, FetchesOne, Misses, ReadsFiles}
+use Rattle.i9_tool.specs.Fetches.{Shelf, rose_in, AnyRose, AllSure, FetchesFiles, none_left, ends_at, goes_on, Fetches, Stop, Read, Refused, NoMemory, Follows, Behind, IfRefused, FetchesOne, Misses, ReadsFiles}
 use Rattle.i9_tool.specs.Outcome.{files_for}
 use Rattle.i9_tool.specs.Values.{refusal_by, stop_by, stop_of, Parses}
 use Rattle.i9_tool.proofs.Wider.{first_wider}

@@ -3,8 +3,8 @@ use Rattle.std.proofs.Common.{◌≡◌, ℕ, List, Option, Some, None, sym, ap,
 use Rattle.i9_model.specs.ScheduleText.{Contents}
 use Rattle.i9_tool.specs.declared.refusal.FileKind.TheVariants.{Image}
 use Rattle.i9_tool.specs.FileKinds.{file_of, IsRead}
-use Rattle.i9_tool.specs.CommandLine.{Run, Driver, plan_files, driver_files}
-use Rattle.i9_tool.specs.Inputs.{Drive, Task, Runs, no_schedule, drive_of, IsTaskOf, SaysPlan, SaysDrive}
+use Rattle.i9_tool.specs.CommandLine.{Run, Driver, driver_files}
+use Rattle.i9_tool.specs.Inputs.{Drive, Runs, no_schedule, IsTaskOf, SaysPlan, SaysDrive}
 use Rattle.i9_tool.proofs.Wider.{read_wider, are_read_wider}
 
 -- the image is read, and then the schedule and the script, where files say the same

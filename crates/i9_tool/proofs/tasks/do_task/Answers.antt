@@ -1,4 +1,3 @@
-use Rattle.i9_tool.specs.Outcome.{AsmGives, DisGives, TuneGives}
 use Rattle.i9_tool.proofs.Outcomes.{made_answers}
 use Rattle.i9_tool.proofs.tasks.do_task.Goals as goal
 
