@@ -52,7 +52,7 @@ pub enum Control {
 }
 
 /// What is done to the interrupts that are posted, and to the lines that are not masked.
-#[derive(Clone, Copy)]
+#[derive(Clone, Copy, Debug, PartialEq, Eq)]
 pub enum Posting {
     /// Nothing.
     Keeps,
@@ -73,7 +73,7 @@ pub enum Posting {
 }
 
 /// What is done to DMA.
-#[derive(Clone, Copy)]
+#[derive(Clone, Copy, Debug, PartialEq, Eq)]
 pub enum DmaChange {
     /// Nothing.
     Keeps,
