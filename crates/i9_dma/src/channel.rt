@@ -18,7 +18,7 @@ pub(crate) const LARGEST_UNIT: usize = 16;
 /// unit has, 1, 2, 4 or 16; bit 2 holds the source address and bit 3 the target address; with bit 4 a
 /// device gives the bytes, and with bit 6 the channel's interrupt is posted at the end. The control
 /// word is this project's own.
-#[derive(Clone, Copy)]
+#[derive(Clone, Copy, Debug, PartialEq, Eq)]
 pub struct Channel {
     pub control: u32,
     pub count: u32,
