@@ -26,7 +26,7 @@ use Rattle.i9_debug.specs.declared.sessions.SessionEnd.{SessionEnd}
 use Rattle.i9_debug.specs.declared.sessions.SessionEnd.TheVariants as ends
 use Rattle.i9_lines.specs.Print.{Account, Prints, OnDone, IsCut, OnCut}
 use Rattle.i9_debug.specs.Session.{Place, at, TurnsTo, turns_pass, turns_end, ComesTo, comes, none_comes, IsBack, Stays, UnlessOver, Runs, told, Answers, IsText, no_command, next_command, end_at}
-use Rattle.i9_debug.specs.Driven.{StandsAt, IsOf, IsPlace, IsDebugged, GoneBack, Drives, StopsAt, CutOnWay, CutInAnswer, on_way, in_told, CutInScript, in_command, printed_of, TellsEnd, RunsScript}
+use Rattle.i9_debug.specs.Driven.{StandsAt, IsOf, IsPlace, IsDebugged, GoneBack, Drives, StopsAt, CutOnWay, CutInAnswer, on_way, in_told, CutInScript, in_command, printed_of, TellsEnd, RunsScript, output, target}
 use Rattle.i9_lines.proofs.Prints.{prints_none, prints_refused, prints_then, prints_stop, prints_same, not_done, on_cut, of_cut, cut_whole}
 use Rattle.i9_lines.proofs.TextLines.{IsClosed, closed_join}
 use Rattle.i9_debug.proofs.ClosedTexts.{closed_runs, closed_answers, closed_script}
@@ -88,7 +88,7 @@ module _ {K : Type 0} (k : Account K) (g : Given) where
   -- the same under other relations that hold where the first do
   pub drives_as : (one other : List ℕ → Place → Type 0) (cut new : List ℕ → List ℕ → Place → Type 0) (answer : Printed) (a b : K) (m : Machine) (plan : Plan)
       → ((x : List ℕ) (q : Place) → one x q → other x q) → ((x y : List ℕ) (q : Place) → cut x y q → new x y q)
-      → Drives one cut answer g k a b m plan → Drives other new answer g k a b m plan
+      → Drives one cut answer g (output k a b) (target m plan) → Drives other new answer g (output k a b) (target m plan)
   drives_as one other cut new answer a b m plan goes stops d = record {
     text = d.text;
     last = d.last;
@@ -102,7 +102,7 @@ module _ {K : Type 0} (k : Account K) (g : Given) where
 
   -- nothing is run
   pub stays_there : (leads : List ℕ → Place → Type 0) (cut : List ℕ → List ℕ → Place → Type 0) (p : Place) (a : K) (m : Machine) (plan : Plan) → leads [] p
-      → StandsAt g p m plan → Drives leads cut Done g k a a m plan
+      → StandsAt g p m plan → Drives leads cut Done g (output k a a) (target m plan)
   stays_there leads cut p a m plan runs s =
       record { text = []; last = p; is_text = runs; prints = prints_none k a; place = p; stands = s; whole = refl; stopped = tt }
 
@@ -110,14 +110,14 @@ module _ {K : Type 0} (k : Account K) (g : Given) where
   pub went_back : {A E : Type 0} (result : Result A E) (leads : List ℕ → Place → Type 0) (cut : List ℕ → List ℕ → Place → Type 0) (p : Place) (c : ℕ)
       (answer : Printed) (a : K) (before m : Machine) (was plan : Plan) → OnOk result (answer ≡ Done) → OnErr result (answer ≡ Memory)
       → ((q : Place) → IsBack g c q → leads [] q) → (q : Place) × IsBack g c q → cut [] [] p
-      → StandsAt g p before was → GoneBack g c result before m was plan → Drives leads cut answer g k a a m plan
+      → StandsAt g p before was → GoneBack g c result (target before was) (target m plan) → Drives leads cut answer g (output k a a) (target m plan)
   went_back (Ok x) leads cut p c answer a before m was plan done none goes some is_cut here gone =
       let there = gone.gone in
-      subst (λ (w : Printed). Drives leads cut w g k a a m plan) (sym done)
+      subst (λ (w : Printed). Drives leads cut w g (output k a a) (target m plan)) (sym done)
       (stays_there leads cut there.0 a m plan (goes there.0 there.1) there.2)
   went_back (Err e) leads cut p c answer a before m was plan none refused goes some is_cut here gone =
       let stands : StandsAt g p m plan = stands_kept g p m was plan gone.same.1 (subst (λ (x : Machine). StandsAt g p x was) (sym gone.same.0) here) in
-      subst (λ (w : Printed). Drives leads cut w g k a a m plan) (sym refused) (record {
+      subst (λ (w : Printed). Drives leads cut w g (output k a a) (target m plan)) (sym refused) (record {
         text = [];
         last = some.0;
         is_text = goes some.0 some.1;
@@ -130,9 +130,9 @@ module _ {K : Type 0} (k : Account K) (g : Given) where
 
   -- the place is told behind what was run
   pub then_tells : (c : Command) (p : Place) (answer : Printed) (a b d : K) (m : Machine) (plan now : Plan) → StaysAt plan now
-      → (r : Drives (Runs g c p) (CutOnWay g p c) Done g k a b m plan)
+      → (r : Drives (Runs g c p) (CutOnWay g p c) Done g (output k a b) (target m plan))
       → Prints answer k b d (told g r.last.items m.turn c)
-      → Drives (Answers g c p) (CutInAnswer g c p) answer g k a d m now
+      → Drives (Answers g c p) (CutInAnswer g c p) answer g (output k a d) (target m now)
   then_tells c p answer a b d m plan now same_plan r tells =
       let place : Place = r.place in
       let turn : m.turn ≡ r.last.turn = r.stands.turn ∙ ap (λ (q : Place). q.turn) r.whole in
@@ -164,7 +164,7 @@ module _ {K : Type 0} (k : Account K) (g : Given) where
 
   -- or it is not, where printing stopped before
   pub cut_before : (c : Command) (p : Place) (answer : Printed) (a b : K) (m : Machine) (plan : Plan) → IsCut answer
-      → Drives (Runs g c p) (CutOnWay g p c) answer g k a b m plan → Drives (Answers g c p) (CutInAnswer g c p) answer g k a b m plan
+      → Drives (Runs g c p) (CutOnWay g p c) answer g (output k a b) (target m plan) → Drives (Answers g c p) (CutInAnswer g c p) answer g (output k a b) (target m plan)
   cut_before c p answer a b m plan cut r = record {
     text = r.text ++ told g r.last.items r.last.turn c;
     last = r.last;
@@ -276,23 +276,23 @@ module _ (g : Given) where
 
 -- the machine stands where the text leads
 pub stands_last : {K : Type 0} (k : Account K) (g : Given) (leads : List ℕ → Place → Type 0) (cut : List ℕ → List ℕ → Place → Type 0) (a b : K)
-    (m : Machine) (plan : Plan) → (d : Drives leads cut Done g k a b m plan) → StandsAt g d.last m plan
+    (m : Machine) (plan : Plan) → (d : Drives leads cut Done g (output k a b) (target m plan)) → StandsAt g d.last m plan
 stands_last k g leads cut a b m plan d = subst (λ (q : Place). StandsAt g q m plan) d.whole d.stands
 
 module _ {K : Type 0} (k : Account K) (g : Given) (p : Place) (begins : IsPlace g p) where
   -- no command yet
-  pub no_script : (a : K) (m : Machine) (plan : Plan) → StandsAt g p m plan → Drives (IsText g [] p) (CutInScript g [] p) Done g k a a m plan
+  pub no_script : (a : K) (m : Machine) (plan : Plan) → StandsAt g p m plan → Drives (IsText g [] p) (CutInScript g [] p) Done g (output k a a) (target m plan)
   no_script a m plan s =
       record { text = []; last = p; is_text = no_command p; prints = prints_none k a; place = p; stands = s; whole = refl; stopped = tt }
 
-  module _ (cs : List Command) (c : Command) (a b e : K) (m : Machine) (plan : Plan) (d : Drives (IsText g cs p) (CutInScript g cs p) Done g k a b m plan)
+  module _ (cs : List Command) (c : Command) (a b e : K) (m : Machine) (plan : Plan) (d : Drives (IsText g cs p) (CutInScript g cs p) Done g (output k a b) (target m plan))
       (next : Machine) (later : Plan) where
     last_place : IsPlace g d.last
     last_place = script_place g cs p d.last d.text begins d.is_text
 
     -- one command more
-    script_on : ((q : Place) → IsPlace g q → StandsAt g q m plan → Drives (Answers g c q) (CutInAnswer g c q) Done g k b e next later)
-        → Drives (IsText g (cs ++ c ∷ []) p) (CutInScript g (cs ++ c ∷ []) p) Done g k a e next later
+    script_on : ((q : Place) → IsPlace g q → StandsAt g q m plan → Drives (Answers g c q) (CutInAnswer g c q) Done g (output k b e) (target next later))
+        → Drives (IsText g (cs ++ c ∷ []) p) (CutInScript g (cs ++ c ∷ []) p) Done g (output k a e) (target next later)
     script_on does =
         let one = does d.last last_place (stands_last k g (IsText g cs p) (CutInScript g cs p) a b m plan d) in
         record {
@@ -308,8 +308,8 @@ module _ {K : Type 0} (k : Account K) (g : Given) (p : Place) (begins : IsPlace 
 
     -- printing stopped in a command, and others were left
     script_cut : (answer : Printed) (ds : List Command) → IsCut answer → AllByRecursion IsCommandInRange ds
-        → ((q : Place) → IsPlace g q → StandsAt g q m plan → Drives (Answers g c q) (CutInAnswer g c q) answer g k b e next later)
-        → Drives (IsText g ((cs ++ c ∷ []) ++ ds) p) (CutInScript g ((cs ++ c ∷ []) ++ ds) p) answer g k a e next later
+        → ((q : Place) → IsPlace g q → StandsAt g q m plan → Drives (Answers g c q) (CutInAnswer g c q) answer g (output k b e) (target next later))
+        → Drives (IsText g ((cs ++ c ∷ []) ++ ds) p) (CutInScript g ((cs ++ c ∷ []) ++ ds) p) answer g (output k a e) (target next later)
     script_cut answer ds cut ranges does =
         let here = stands_last k g (IsText g cs p) (CutInScript g cs p) a b m plan d in
         let one = does d.last last_place here in
@@ -346,30 +346,30 @@ ranges_drop (suc n) (c ∷ cs) h = ranges_drop n cs h.1
 
 -- the commands of a script up to one were done, and then that one
 module _ {K : Type 0} (k : Account K) (g : Given) (p : Place) (begins : IsPlace g p) (cs : List Command) (i : ℕ) (none : Command) (a b e : K) (m : Machine) (plan : Plan)
-    (d : Drives (IsText g (take i cs) p) (CutInScript g (take i cs) p) Done g k a b m plan) (next : Machine) (later : Plan) where
-  pub does_next : i < length cs → ((q : Place) → IsPlace g q → StandsAt g q m plan → Drives (Answers g (get_or cs i none) q) (CutInAnswer g (get_or cs i none) q) Done g k b e next later)
-      → Drives (IsText g (take (i + 1) cs) p) (CutInScript g (take (i + 1) cs) p) Done g k a e next later
+    (d : Drives (IsText g (take i cs) p) (CutInScript g (take i cs) p) Done g (output k a b) (target m plan)) (next : Machine) (later : Plan) where
+  pub does_next : i < length cs → ((q : Place) → IsPlace g q → StandsAt g q m plan → Drives (Answers g (get_or cs i none) q) (CutInAnswer g (get_or cs i none) q) Done g (output k b e) (target next later))
+      → Drives (IsText g (take (i + 1) cs) p) (CutInScript g (take (i + 1) cs) p) Done g (output k a e) (target next later)
   does_next inside does =
-      subst (λ (xs : List Command). Drives (IsText g xs p) (CutInScript g xs p) Done g k a e next later) (sym (take_more cs i none inside))
+      subst (λ (xs : List Command). Drives (IsText g xs p) (CutInScript g xs p) Done g (output k a e) (target next later)) (sym (take_more cs i none inside))
       (script_on k g p begins (take i cs) (get_or cs i none) a b e m plan d next later does)
 
   -- or printing stopped in it
   cut_in_next : (answer : Printed) → IsCut answer → i < length cs → All IsCommandInRange cs
-      → ((q : Place) → IsPlace g q → StandsAt g q m plan → Drives (Answers g (get_or cs i none) q) (CutInAnswer g (get_or cs i none) q) answer g k b e next later)
-      → Drives (IsText g cs p) (CutInScript g cs p) answer g k a e next later
+      → ((q : Place) → IsPlace g q → StandsAt g q m plan → Drives (Answers g (get_or cs i none) q) (CutInAnswer g (get_or cs i none) q) answer g (output k b e) (target next later))
+      → Drives (IsText g cs p) (CutInScript g cs p) answer g (output k a e) (target next later)
   cut_in_next answer cut inside ranges does =
       let all : (take i cs ++ get_or cs i none ∷ []) ++ drop (i + 1) cs ≡ cs =
       ap (λ (xs : List Command). xs ++ drop (i + 1) cs) (sym (take_more cs i none inside)) ∙ take-append-drop (i + 1) cs in
-      subst (λ (xs : List Command). Drives (IsText g xs p) (CutInScript g xs p) answer g k a e next later) all
+      subst (λ (xs : List Command). Drives (IsText g xs p) (CutInScript g xs p) answer g (output k a e) (target next later)) all
       (script_cut k g p begins (take i cs) (get_or cs i none) a b e m plan d next later answer (drop (i + 1) cs) cut
       (ranges_drop (i + 1) cs (recursion_from_All IsCommandInRange cs ranges)) does)
 
   pub script_stops : (answer : SessionEnd) (all : List Command) → IsCut (printed_of answer) → cs ≡ all → i < length cs → All IsCommandInRange cs
-      → ((q : Place) → IsPlace g q → StandsAt g q m plan → Drives (Answers g (get_or cs i none) q) (CutInAnswer g (get_or cs i none) q) (printed_of answer) g k b e next later)
-      → RunsScript answer g p all k a e next later
+      → ((q : Place) → IsPlace g q → StandsAt g q m plan → Drives (Answers g (get_or cs i none) q) (CutInAnswer g (get_or cs i none) q) (printed_of answer) g (output k b e) (target next later))
+      → RunsScript answer g p all (output k a e) (target next later)
   script_stops answer all cut same inside ranges does =
       let drives = cut_in_next (printed_of answer) cut inside ranges does in
-      subst (λ (xs : List Command). RunsScript answer g p xs k a e next later) same (record { drives = drives; tells = cut_tells answer (end_at drives.last) cut })
+      subst (λ (xs : List Command). RunsScript answer g p xs (output k a e) (target next later)) same (record { drives = drives; tells = cut_tells answer (end_at drives.last) cut })
     where
       cut_tells : (answer : SessionEnd) (end : Option End) → IsCut (printed_of answer) → TellsEnd answer end
       cut_tells ends.Done end cut = absurd cut
@@ -380,25 +380,25 @@ module _ {K : Type 0} (k : Account K) (g : Given) (p : Place) (begins : IsPlace 
 -- behind the last command the machine says whether the run is over
 module _ {K : Type 0} (k : Account K) (g : Given) (p : Place) (begins : IsPlace g p) (cs all : List Command) (i : ℕ) (a b : K) (m : Machine) (plan : Plan)
     (said : Option End) (says : (h : List Item) (e : Option Finish) → StandsFor g h e m → said ≡ option_map (λ f. f.end) e) where
-  whole_script : (answer : SessionEnd) → length cs ≤ i → cs ≡ all → RunsScript answer g p (take i cs) k a b m plan → RunsScript answer g p all k a b m plan
-  whole_script answer over same r = subst (λ (xs : List Command). RunsScript answer g p xs k a b m plan) (take_all i cs over ∙ same) r
+  whole_script : (answer : SessionEnd) → length cs ≤ i → cs ≡ all → RunsScript answer g p (take i cs) (output k a b) (target m plan) → RunsScript answer g p all (output k a b) (target m plan)
+  whole_script answer over same r = subst (λ (xs : List Command). RunsScript answer g p xs (output k a b) (target m plan)) (take_all i cs over ∙ same) r
 
-  last_end : (d : Drives (IsText g (take i cs) p) (CutInScript g (take i cs) p) Done g k a b m plan) → end_at d.last ≡ said
+  last_end : (d : Drives (IsText g (take i cs) p) (CutInScript g (take i cs) p) Done g (output k a b) (target m plan)) → end_at d.last ≡ said
   last_end d =
       let here = stands_last k g (IsText g (take i cs) p) (CutInScript g (take i cs) p) a b m plan d in
       sym (says d.last.items d.last.end here.stands)
 
-  pub script_done : said ≡ None → length cs ≤ i → cs ≡ all → Drives (IsText g (take i cs) p) (CutInScript g (take i cs) p) Done g k a b m plan → RunsScript ends.Done g p all k a b m plan
+  pub script_done : said ≡ None → length cs ≤ i → cs ≡ all → Drives (IsText g (take i cs) p) (CutInScript g (take i cs) p) Done g (output k a b) (target m plan) → RunsScript ends.Done g p all (output k a b) (target m plan)
   script_done none over same d = whole_script ends.Done over same (record { drives = d; tells = last_end d ∙ none })
 
-  pub script_stopped : (f : End) → said ≡ Some f → length cs ≤ i → cs ≡ all → Drives (IsText g (take i cs) p) (CutInScript g (take i cs) p) Done g k a b m plan
-      → RunsScript (ends.Stopped f) g p all k a b m plan
+  pub script_stopped : (f : End) → said ≡ Some f → length cs ≤ i → cs ≡ all → Drives (IsText g (take i cs) p) (CutInScript g (take i cs) p) Done g (output k a b) (target m plan)
+      → RunsScript (ends.Stopped f) g p all (output k a b) (target m plan)
   script_stopped f is over same d = whole_script (ends.Stopped f) over same (record { drives = d; tells = last_end d ∙ is })
 
 -- the machine stands at a place of the image's run behind what was printed whole
 pub driven_there : {K : Type 0} (k : Account K) (image : List Part) (sets : Option ℕ) (g : Given) (leads : List ℕ → Place → Type 0)
     (cut : List ℕ → List ℕ → Place → Type 0) (a b : K) (m : Machine) (plan : Plan) → IsOf image sets g
-    → ((q : Place) (x : List ℕ) → leads x q → IsPlace g q) → Drives leads cut Done g k a b m plan → IsDebugged image sets m plan
+    → ((q : Place) (x : List ℕ) → leads x q → IsPlace g q) → Drives leads cut Done g (output k a b) (target m plan) → IsDebugged image sets m plan
 driven_there k image sets g leads cut a b m plan of is d = record {
   given = g;
   place = d.last;

@@ -23,7 +23,7 @@ use Rattle.i9_back.specs.Stands.{StandsEarlier, StaysAt, same_byte, last_change,
 use Rattle.i9_back.proofs.Earlier.{record_after, one_or_none, none_done, one_earlier, has_earlier}
 use Rattle.i9_debug.specs.Last.{IsLast, IsLastIn}
 use Rattle.i9_debug.specs.Session.{Place, at, comes_to, count_at, IsBack, last_arrival}
-use Rattle.i9_debug.specs.Driven.{StandsAt, IsOf, IsPlace, GoneBack, given_of}
+use Rattle.i9_debug.specs.Driven.{StandsAt, IsOf, IsPlace, GoneBack, given_of, target}
 
 -- ---- what is given
 
@@ -207,7 +207,7 @@ back_stands g c m plan s = (
 )
 
 pub gone_back : {A E : Type 0} (result : Result A E) (g k : Given) (c n : ℕ) (before m : Machine) (was plan : Plan) → k ≡ g → n ≡ c
-    → OnOk result (StandsEarlier k n m plan) → OnErr result ((m ≡ before) × StaysAt was plan) → GoneBack g c result before m was plan
+    → OnOk result (StandsEarlier k n m plan) → OnErr result ((m ≡ before) × StaysAt was plan) → GoneBack g c result (target before was) (target m plan)
 gone_back (Ok x) g k c n before m was plan same count stands none = record {
   gone = back_stands g c m plan (subst (λ (i : ℕ). StandsEarlier g i m plan) count (subst (λ (y : Given). StandsEarlier y n m plan) same stands));
   same = tt;
@@ -237,12 +237,12 @@ arrived g k p a n c is same count said =
 
 -- memory was refused before the way back
 pub not_gone : {A E : Type 0} (result : Result A E) (e : E) (g : Given) (c : ℕ) (m : Machine) (was plan : Plan) → result ≡ Err e → StaysAt was plan
-    → GoneBack g c result m m was plan
-not_gone result e g c m was plan is same = subst (λ (r : Result _ _). GoneBack g c r m m was plan) (sym is) (record { gone = tt; same = (refl, same) })
+    → GoneBack g c result (target m was) (target m plan)
+not_gone result e g c m was plan is same = subst (λ (r : Result _ _). GoneBack g c r (target m was) (target m plan)) (sym is) (record { gone = tt; same = (refl, same) })
 
 -- the same where the schedule was looked at before
 pub gone_back_from : {A E : Type 0} (result : Result A E) (g k : Given) (c n : ℕ) (before m : Machine) (was mid plan : Plan) → StaysAt was mid → k ≡ g → n ≡ c
-    → OnOk result (StandsEarlier k n m plan) → OnErr result ((m ≡ before) × StaysAt mid plan) → GoneBack g c result before m was plan
+    → OnOk result (StandsEarlier k n m plan) → OnErr result ((m ≡ before) × StaysAt mid plan) → GoneBack g c result (target before was) (target m plan)
 gone_back_from (Ok x) g k c n before m was mid plan kept same count stands none = gone_back (Ok x) g k c n before m was plan same count stands tt
 gone_back_from (Err e) g k c n before m was mid plan kept same count stands none =
     record { gone = tt; same = (none.0, (none.1.0 ∙ kept.0, none.1.1 ∙ kept.1)) }

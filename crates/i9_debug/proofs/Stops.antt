@@ -23,7 +23,7 @@ use Rattle.i9_lines.specs.declared.print.Printed.{Printed}
 use Rattle.i9_lines.specs.declared.print.Printed.TheVariants.{Done, Write, Memory}
 use Rattle.i9_lines.specs.Print.{Account, Prints, OnDone, line_text, IsCut, OnCut}
 use Rattle.i9_debug.specs.Session.{Place, at, ended, turn_ahead, ending_lines, comes_to, NoneComesTo, ComesTo, comes, none_comes}
-use Rattle.i9_debug.specs.Driven.{StandsAt, Drives, StopsAt, AtMostOne, CutInRun, behind_step, behind_end, StopsBy, stops, never_stops, goes_on}
+use Rattle.i9_debug.specs.Driven.{StandsAt, Drives, StopsAt, AtMostOne, CutInRun, behind_step, behind_end, StopsBy, stops, never_stops, goes_on, output, target}
 use Rattle.i9_lines.proofs.Prints.{prints_none, prints_then, prints_stop, prints_same, prints_behind, not_done, on_cut, cut_whole}
 use Rattle.i9_lines.proofs.ClosedLines.{closed_text}
 use Rattle.i9_debug.proofs.Places.{steps_on-append, text-append, either, comes_after, address_leads}
@@ -84,7 +84,7 @@ module _ {K : Type 0} (k : Account K) (g : Given) (h : List Item) (allows : View
     -- the stop holds
     pub issued_holds : (t : Issued) (view : View) → Comes g (steps_on inv.done h) (answers.Issued t) mid next plan [] ls
         → Prints Done k b c (flat_map line_text ls) → Shows g next view → allows view true
-        → Drives (StopsBy Done allows g h) (CutInRun g AtMostOne h) Done g k a c next plan
+        → Drives (StopsBy Done allows g h) (CutInRun g AtMostOne h) Done g (output k a c) (target next plan)
     issued_holds t view d p shows held =
         let shown = shows (Step d.done ∷ steps_on inv.done h) None d.stands in
         let place = at (Step d.done ∷ steps_on inv.done h) (turn_ahead g (steps_on inv.done h)) in
@@ -103,7 +103,7 @@ module _ {K : Type 0} (k : Account K) (g : Given) (h : List Item) (allows : View
     -- printing stopped in what is shown of a record more, or none
     cut_by : (answer : Printed) (rs : List Record) → IsCut answer → length rs ≤ 1 → AllByRecursion (IsPassed allows) (drop 1 (rs ++ inv.done))
         → StandsFor g (steps_on rs (steps_on inv.done h)) None next → Follows g (steps_on rs (steps_on inv.done h)) plan
-        → Prints answer k b c (text_of (lines_of rs)) → Drives (StopsBy answer allows g h) (CutInRun g AtMostOne h) answer g k a c next plan
+        → Prints answer k b c (text_of (lines_of rs)) → Drives (StopsBy answer allows g h) (CutInRun g AtMostOne h) answer g (output k a c) (target next plan)
     cut_by answer rs cut few passed stands follows p =
         let place = at (steps_on rs (steps_on inv.done h)) next.turn in
         record {
@@ -126,7 +126,7 @@ module _ {K : Type 0} (k : Account K) (g : Given) (h : List Item) (allows : View
 
     -- the end was reached
     pub end_seeks : (answer : Printed) (e : End) → Comes g (steps_on inv.done h) (answers.End e) mid next plan [] ls
-        → Prints answer k b c (flat_map line_text ls) → Drives (StopsBy answer allows g h) (CutInRun g AtMostOne h) answer g k a c next plan
+        → Prints answer k b c (flat_map line_text ls) → Drives (StopsBy answer allows g h) (CutInRun g AtMostOne h) answer g (output k a c) (target next plan)
     end_seeks answer e d p =
         let f = d.finish in
         let place = ended (steps_on inv.done h) (turn_ahead g (steps_on inv.done h)) f in
@@ -157,7 +157,7 @@ module _ {K : Type 0} (k : Account K) (g : Given) (h : List Item) (allows : View
 
     -- printing stopped in the lines of a step
     pub step_cut : (answer : Printed) (turn : Turn) → IsCut answer → Comes g (steps_on inv.done h) turn mid next plan [] ls
-        → Prints answer k b c (flat_map line_text ls) → Drives (StopsBy answer allows g h) (CutInRun g AtMostOne h) answer g k a c next plan
+        → Prints answer k b c (flat_map line_text ls) → Drives (StopsBy answer allows g h) (CutInRun g AtMostOne h) answer g (output k a c) (target next plan)
     step_cut answer answers.On cut d p =
         cut_by answer (d.done ∷ []) cut (omega arith) inv.passed d.stands d.follows (prints_same k answer b c _ _ (added-text ls (record_lines d.done) d.lines) p)
     step_cut answer (answers.Issued t) cut d p =
@@ -168,7 +168,7 @@ module _ {K : Type 0} (k : Account K) (g : Given) (h : List Item) (allows : View
 
     -- memory was refused for a step
     pub step_refused : Comes g (steps_on inv.done h) answers.Memory mid next plan [] ls
-        → Prints Done k b c (flat_map line_text ls) → Drives (StopsBy Memory allows g h) (CutInRun g AtMostOne h) Memory g k a c next plan
+        → Prints Done k b c (flat_map line_text ls) → Drives (StopsBy Memory allows g h) (CutInRun g AtMostOne h) Memory g (output k a c) (target next plan)
     step_refused d p = step_cut Memory answers.Memory tt d (prints_behind k b c _ p)
 
 -- ---- the machine stays under way
@@ -200,7 +200,7 @@ module _ (allows : View → Bool → Type 0) (address : ℕ) (agree : (v : View)
 
   module _ {K : Type 0} (k : Account K) (g : Given) (h : List Item) (answer : Printed) (a c : K) (m : Machine) (plan : Plan) where
     abbrev Arrives : Type 0
-    Arrives = Drives (ComesTo g h address) (CutInRun g AtMostOne h) answer g k a c m plan
+    Arrives = Drives (ComesTo g h address) (CutInRun g AtMostOne h) answer g (output k a c) (target m plan)
 
     -- what stands where printing stopped
     abbrev Stopped : Place → Type 0
@@ -269,5 +269,5 @@ module _ (allows : View → Bool → Type 0) (address : ℕ) (agree : (v : View)
     }
     by_stop _ _ place (goes_on rs q cut past passed) p stands whole stopped = cut_arrives rs place cut past passed p stands stopped
 
-    pub arrives : Drives (StopsBy answer allows g h) (CutInRun g AtMostOne h) answer g k a c m plan → Arrives
+    pub arrives : Drives (StopsBy answer allows g h) (CutInRun g AtMostOne h) answer g (output k a c) (target m plan) → Arrives
     arrives d = by_stop d.text d.last d.place d.is_text d.prints d.stands d.whole d.stopped

@@ -19,7 +19,7 @@ use Rattle.i9_lines.specs.declared.print.Printed.{Printed}
 use Rattle.i9_lines.specs.declared.print.Printed.TheVariants.{Done, Memory}
 use Rattle.i9_lines.specs.Print.{Account, Prints, line_text, IsCut}
 use Rattle.i9_debug.specs.Session.{Place, at, ended, turn_ahead, ending_lines, TurnsTo, turns_pass, turns_end}
-use Rattle.i9_debug.specs.Driven.{StandsAt, Drives, InOneTurn, CutInRun, behind_step, behind_end}
+use Rattle.i9_debug.specs.Driven.{StandsAt, Drives, InOneTurn, CutInRun, behind_step, behind_end, output, target}
 use Rattle.i9_lines.proofs.Prints.{prints_none, prints_then, prints_stop, prints_same, prints_behind, not_done, on_cut, cut_whole}
 use Rattle.i9_lines.proofs.TextLines.{closed_join}
 use Rattle.i9_lines.proofs.ClosedLines.{closed_text, added-text}
@@ -72,7 +72,7 @@ module _ {K : Type 0} (k : Account K) (g : Given) (h : List Item) where
 
   left_cut : (answer : Printed) (u : ℕ) (front step : List ℕ) (a b c : K) (m : Machine) (plan : Plan) → IsCut answer
       → Prints Done k a b front → Prints answer k b c step → Left u front step m plan
-      → Drives (TurnsTo g h u) (CutInRun g (InOneTurn g) h) answer g k a c m plan
+      → Drives (TurnsTo g h u) (CutInRun g (InOneTurn g) h) answer g (output k a c) (target m plan)
   left_cut answer u front step a b c m plan cut p q l = record {
     text = (front ++ step) ++ l.more;
     last = l.last;
@@ -89,7 +89,7 @@ module _ {K : Type 0} (k : Account K) (g : Given) (h : List Item) where
 
   -- behind as many turns as were asked for
   pub turned_whole : (t n : ℕ) (a b : K) (m : Machine) (plan : Plan) → 0 < n → Turned t n a b m plan
-      → Drives (TurnsTo g h (t + n)) (CutInRun g (InOneTurn g) h) Done g k a b m plan
+      → Drives (TurnsTo g h (t + n)) (CutInRun g (InOneTurn g) h) Done g (output k a b) (target m plan)
   turned_whole t n a b m plan some d =
       let turn : m.turn ≡ t + n = d.turn in
       let in_time : m.turn ≤ turn_ahead g (steps_on d.done h) = d.stands.lands.in_time in
@@ -196,21 +196,21 @@ module _ {K : Type 0} (k : Account K) (g : Given) (h : List Item) where
     -- printing stopped in the lines of a turn
     pub turn_cut : (c : K) (answer : Printed) (u : ℕ) (result : Turn) → IsCut answer → t + i < u
         → Turns g (steps_on inv.done h) result before m plan [] ls → Prints answer k b c (flat_map line_text ls)
-        → Drives (TurnsTo g h u) (CutInRun g (InOneTurn g) h) answer g k a c m plan
+        → Drives (TurnsTo g h u) (CutInRun g (InOneTurn g) h) answer g (output k a c) (target m plan)
     turn_cut c answer u result cut lt d p =
         left_cut answer u front (flat_map line_text ls) a b c m plan cut inv.prints p (turn_left u result lt d)
 
     -- memory was refused in a turn
     pub turn_refused : (c : K) (u : ℕ) → t + i < u
         → Turns g (steps_on inv.done h) answers.Memory before m plan [] ls → Prints Done k b c (flat_map line_text ls)
-        → Drives (TurnsTo g h u) (CutInRun g (InOneTurn g) h) Memory g k a c m plan
+        → Drives (TurnsTo g h u) (CutInRun g (InOneTurn g) h) Memory g (output k a c) (target m plan)
     turn_refused c u lt d p =
         left_cut Memory u front (flat_map line_text ls) a b c m plan tt inv.prints (prints_behind k b c _ p) (left_memory u lt d)
 
     -- the end was reached
     pub turn_ends : (c : K) (u : ℕ) (e : End) → t + i < u
         → Turns g (steps_on inv.done h) (answers.End e) before m plan [] ls → Prints Done k b c (flat_map line_text ls)
-        → Drives (TurnsTo g h u) (CutInRun g (InOneTurn g) h) Done g k a c m plan
+        → Drives (TurnsTo g h u) (CutInRun g (InOneTurn g) h) Done g (output k a c) (target m plan)
     turn_ends c u e lt d p = record {
       text = front ++ text_of (ending_lines g (steps_on inv.done h) d.done d.finish);
       last = ended (steps_on d.done (steps_on inv.done h)) (turn_ahead g (steps_on d.done (steps_on inv.done h))) d.finish;

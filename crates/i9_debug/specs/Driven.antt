@@ -60,10 +60,18 @@ pub record IsDebugged (image : List Part) (sets : Option ℕ) (m : Machine) (pla
   pub is_place : IsPlace given place
   pub stands : StandsAt given place m plan
 
+-- what a debugger drives: a machine, and the schedule that it follows
+pub record Target : Type 0 where
+  pub machine : Machine
+  pub plan : Plan
+
+abbrev pub target : Machine → Plan → Target
+target m plan = record { machine = m; plan = plan }
+
 -- The run went back to right after so many instructions, or memory was refused and machine and schedule stay where they are.
-pub record GoneBack {A E : Type 0} (g : Given) (c : ℕ) (result : Result A E) (before m : Machine) (was plan : Plan) : Type 0 where
-  pub gone : OnOk result ((q : Place) × IsBack g c q × StandsAt g q m plan)
-  pub same : OnErr result ((m ≡ before) × StaysAt was plan)
+pub record GoneBack {A E : Type 0} (g : Given) (c : ℕ) (result : Result A E) (old new : Target) : Type 0 where
+  pub gone : OnOk result ((q : Place) × IsBack g c q × StandsAt g q new.machine new.plan)
+  pub same : OnErr result ((new.machine ≡ old.machine) × StaysAt old.plan new.plan)
 
 -- what a command tells of the last change of a byte among records, if anything
 abbrev pub change_for : Command → List Record → Option (ℕ × ℕ)
@@ -71,6 +79,15 @@ change_for (commands.Who a) rs = last_change a rs
 change_for c rs = None
 
 -- ---- printing
+
+-- what was written to: what the members of a sink's type say, and the sink before and after
+pub record Output (K : Type 0) : Type 1 where
+  pub account : Account K
+  pub old : K
+  pub new : K
+
+abbrev pub output : {K : Type 0} → Account K → K → K → Output K
+output k old new = record { account = k; old = old; new = new }
 
 -- A text was printed whole, and then a front of another one, and both lead to the place at which printing stopped.
 pub record StopsAt {K : Type 0} (cut : List ℕ → List ℕ → Place → Type 0) (answer : Printed) (k : Account K) (old new : K)
@@ -86,15 +103,15 @@ pub record StopsAt {K : Type 0} (cut : List ℕ → List ℕ → Place → Type 
 -- behind whole steps, which is that one where all was printed. Where printing stopped, it is the place of the cut: all is
 -- printed as it comes.
 pub record Drives {K : Type 0} (leads : List ℕ → Place → Type 0) (cut : List ℕ → List ℕ → Place → Type 0) (answer : Printed)
-    (g : Given) (k : Account K) (old new : K) (m : Machine) (plan : Plan) : Type 0 where
+    (g : Given) (out : Output K) (driven : Target) : Type 0 where
   pub text : List ℕ
   pub last : Place
   pub is_text : leads text last
-  pub prints : Prints answer k old new text
+  pub prints : Prints answer out.account out.old out.new text
   pub place : Place
-  pub stands : StandsAt g place m plan
+  pub stands : StandsAt g place driven.machine driven.plan
   pub whole : OnDone answer (place ≡ last)
-  pub stopped : OnCut answer (StopsAt cut answer k old new place)
+  pub stopped : OnCut answer (StopsAt cut answer out.account out.old out.new place)
 
 -- ---- where printing stopped
 
@@ -174,7 +191,7 @@ TellsEnd ends.Write end = Unit {0}
 TellsEnd ends.Memory end = Unit {0}
 
 -- The text of a script from a place on was printed, or a front of it.
-pub record RunsScript {K : Type 0} (answer : SessionEnd) (g : Given) (p : Place) (cs : List Command) (k : Account K) (old new : K)
-    (m : Machine) (plan : Plan) : Type 0 where
-  pub drives : Drives (IsText g cs p) (CutInScript g cs p) (printed_of answer) g k old new m plan
+pub record RunsScript {K : Type 0} (answer : SessionEnd) (g : Given) (p : Place) (cs : List Command) (out : Output K)
+    (driven : Target) : Type 0 where
+  pub drives : Drives (IsText g cs p) (CutInScript g cs p) (printed_of answer) g out driven
   pub tells : TellsEnd answer (end_at drives.last)

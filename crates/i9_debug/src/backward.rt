@@ -9,7 +9,7 @@ ghost use Rattle.i9_back.specs.Trail.{IsTrail};
 ghost use Rattle.i9_tracer.specs.Closures.{TakesEachView};
 ghost use Rattle.i9_debug.specs.Last.{IsLastIn};
 ghost use Rattle.i9_debug.specs.Session.{Place, count_at, last_arrival};
-ghost use Rattle.i9_debug.specs.Driven.{StandsAt, IsOf, IsPlace, IsDebugged, GoneBack, change_for, given_of};
+ghost use Rattle.i9_debug.specs.Driven.{StandsAt, IsOf, IsPlace, IsDebugged, GoneBack, change_for, given_of, target};
 
 use crate::seeking::last_on;
 use i9_back::Trail;
@@ -87,7 +87,7 @@ pub(crate) fn back_by(
     requires stands { IsDebugged image.now sets m.old plan.old }
     requires trail { IsTrail (given_of image.now sets plan.old) trail.old }
     ensures gone { (g : Given) (p : Place) → IsOf image.now sets g → IsPlace g p → StandsAt g p m.old plan.old
-        → GoneBack g (count_at g p - count) result m.old m.new plan.old plan.new }
+        → GoneBack g (count_at g p - count) result (target m.old plan.old) (target m.new plan.new) }
     ensures trail { IsTrail (given_of image.now sets plan.old) trail.new }
 {
     let issued = m.view().count;
@@ -117,7 +117,7 @@ pub(crate) fn back_to(
     requires stands { IsDebugged image.now sets m.old plan.old }
     requires trail { IsTrail (given_of image.now sets plan.old) trail.old }
     ensures gone { (g : Given) (p : Place) → IsOf image.now sets g → IsPlace g p → StandsAt g p m.old plan.old
-        → GoneBack g (last_arrival address (count_at g p) (records_of p.items)) result m.old m.new plan.old plan.new }
+        → GoneBack g (last_arrival address (count_at g p) (records_of p.items)) result (target m.old plan.old) (target m.new plan.new) }
     ensures trail { IsTrail (given_of image.now sets plan.old) trail.new }
 {
     let issued = m.view().count;

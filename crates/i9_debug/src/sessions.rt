@@ -10,7 +10,7 @@ ghost use Rattle.i9_back.specs.Stands.{StaysAt};
 ghost use Rattle.i9_back.specs.Trail.{IsTrail};
 ghost use Rattle.i9_lines.specs.Print.{Prints, account};
 ghost use Rattle.i9_debug.specs.Session.{Place, at, UnlessOver, Stays, TurnsTo, ComesTo, Runs, Answers, told};
-ghost use Rattle.i9_debug.specs.Driven.{StandsAt, IsOf, IsPlace, IsDebugged, given_of};
+ghost use Rattle.i9_debug.specs.Driven.{StandsAt, IsOf, IsPlace, IsDebugged, given_of, output, target};
 ghost use Rattle.i9_debug.specs.Driven.{Drives, InOneTurn, AtMostOne, CutInRun, CutOnWay, CutInAnswer, StopsBy, RunsScript};
 ghost use Rattle.i9_lines.specs.declared.print.Printed.TheVariants as printed;
 
@@ -53,7 +53,7 @@ fn run_turns<K: Sink>(
     requires some { 1 ≤ count }
     ensures { (g : Given) (h : List Item) → StandsFor g h None m.old → Follows g h plan.old
         → Drives (TurnsTo g h (m.old.turn + count)) (CutInRun g (InOneTurn g) h) result g
-        (account K.told K.faults K.writes K.sure K.pieces) out.old out.new m.new plan.new }
+        (output (account K.told K.faults K.writes K.sure K.pieces) out.old out.new) (target m.new plan.new) }
 {
     let mut lines = Vec::new(alloc);
     for _passed in 0..count {
@@ -87,7 +87,7 @@ fn run_to_stop<K: Sink, F: Fn(&View) -> bool + ViewTest>(
     requires stands { IsUnderWay m.old plan.old }
     ensures { (g : Given) (h : List Item) → StandsFor g h None m.old → Follows g h plan.old
         → Drives (StopsBy result (F.ViewTest.allows s.now) g h) (CutInRun g AtMostOne h) result g
-        (account K.told K.faults K.writes K.sure K.pieces) out.old out.new m.new plan.new }
+        (output (account K.told K.faults K.writes K.sure K.pieces) out.old out.new) (target m.new plan.new) }
 {
     let mut lines = Vec::new(alloc);
     loop {
@@ -123,7 +123,7 @@ fn run_while_not<K: Sink, F: Fn(&View) -> bool + ViewTest>(
     requires takes { TakesEachView (F.ViewTest.can_test f) }
     ensures { (g : Given) (h : List Item) → StandsFor g h None m.old → Follows g h plan.old
         → Drives (StopsBy result (F.ViewTest.allows f) g h) (CutInRun g AtMostOne h) result g
-        (account K.told K.faults K.writes K.sure K.pieces) out.old out.new m.new plan.new }
+        (output (account K.told K.faults K.writes K.sure K.pieces) out.old out.new) (target m.new plan.new) }
 {
     run_to_stop(alloc, m, plan, &Stop::new(f), out)
 }
@@ -140,7 +140,7 @@ fn run_to<K: Sink>(
     requires stands { IsUnderWay m.old plan.old }
     ensures { (g : Given) (h : List Item) → StandsFor g h None m.old → Follows g h plan.old
         → Drives (ComesTo g h address) (CutInRun g AtMostOne h) result g
-        (account K.told K.faults K.writes K.sure K.pieces) out.old out.new m.new plan.new }
+        (output (account K.told K.faults K.writes K.sure K.pieces) out.old out.new) (target m.new plan.new) }
 {
     let is_there = |v: &View|
         ensures { result ≡ nat_eq v.now.ip address }
@@ -160,7 +160,7 @@ fn turn_on<K: Sink>(
     requires some { 1 ≤ count }
     ensures { (g : Given) (p : Place) → StandsAt g p m.old plan.old
         → Drives (λ x q. UnlessOver p.end (TurnsTo g p.items (p.turn + count) x q) (Stays p x q)) (CutInRun g (InOneTurn g) p.items) result g
-        (account K.told K.faults K.writes K.sure K.pieces) out.old out.new m.new plan.new }
+        (output (account K.told K.faults K.writes K.sure K.pieces) out.old out.new) (target m.new plan.new) }
 {
     match m.ended() {
         None => run_turns(alloc, m, plan, count, out),
@@ -179,7 +179,7 @@ fn come_to<K: Sink>(
     requires stands { IsInRun m.old plan.old }
     ensures { (g : Given) (p : Place) → StandsAt g p m.old plan.old
         → Drives (λ x q. UnlessOver p.end (ComesTo g p.items address x q) (Stays p x q)) (CutInRun g AtMostOne p.items) result g
-        (account K.told K.faults K.writes K.sure K.pieces) out.old out.new m.new plan.new }
+        (output (account K.told K.faults K.writes K.sure K.pieces) out.old out.new) (target m.new plan.new) }
 {
     match m.ended() {
         None => run_to(alloc, m, plan, address, out),
@@ -216,7 +216,7 @@ fn run_command<K: Sink>(
     requires trail { IsTrail (given_of image.now sets plan.old) trail.old }
     ensures drives { (g : Given) (p : Place) → IsOf image.now sets g → IsPlace g p → StandsAt g p m.old plan.old
         → Drives (Runs g c.now p) (CutOnWay g p c.now) result g
-        (account K.told K.faults K.writes K.sure K.pieces) out.old out.new m.new plan.new }
+        (output (account K.told K.faults K.writes K.sure K.pieces) out.old out.new) (target m.new plan.new) }
     ensures trail { IsTrail (given_of image.now sets plan.old) trail.new }
 {
     match c {
@@ -278,7 +278,7 @@ fn answer<K: Sink>(
     requires trail { IsTrail (given_of image.now sets plan.old) trail.old }
     ensures drives { (g : Given) (p : Place) → IsOf image.now sets g → IsPlace g p → StandsAt g p m.old plan.old
         → Drives (Answers g c.now p) (CutInAnswer g c.now p) result g
-        (account K.told K.faults K.writes K.sure K.pieces) out.old out.new m.new plan.new }
+        (output (account K.told K.faults K.writes K.sure K.pieces) out.old out.new) (target m.new plan.new) }
     ensures trail { IsTrail (given_of image.now sets plan.old) trail.new }
 {
     match run_command(alloc, image, sets, trail, m, plan, c, out) {
@@ -309,7 +309,7 @@ pub fn session<K: Sink>(
     requires sets { IfSome sets (λ n. 0 < n × n < 16) }
     requires stands { StandsAt (given_of image.now sets plan.old) (at [] 1) m.old plan.old }
     ensures { RunsScript result (given_of image.now sets plan.old) (at [] 1) s.now
-        (account K.told K.faults K.writes K.sure K.pieces) out.old out.new m.new plan.new }
+        (output (account K.told K.faults K.writes K.sure K.pieces) out.old out.new) (target m.new plan.new) }
 {
     let commands = s.commands();
     let mut trail = Trail::new(alloc);

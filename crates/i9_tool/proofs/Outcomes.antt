@@ -32,7 +32,7 @@ use Rattle.i9_debug.specs.declared.sessions.SessionEnd.{SessionEnd}
 use Rattle.i9_lines.specs.Lines.{generated_line}
 use Rattle.i9_lines.specs.Print.{Account, Prints}
 use Rattle.i9_debug.specs.Session.{at, end_at}
-use Rattle.i9_debug.specs.Driven.{RunsScript, printed_of as session_printed}
+use Rattle.i9_debug.specs.Driven.{RunsScript, printed_of as session_printed, output, target}
 use Rattle.i9_lines.proofs.Prints.{prints_same}
 use Rattle.i9_debug.proofs.Commands.{start_place, script_leads}
 use Rattle.i9_machine.specs.declared.machine.Machine.{Machine}
@@ -229,7 +229,7 @@ module _ {K : Type 0} (k : Account K) where
 
   -- a script drove one
   pub script_runs : (sets : Option ℕ) (pairs : List (ℕ × ℕ)) (events : List Timed) (commands : List ScriptCommand) (answer : SessionEnd) (code : ℕ) (a b : K) (m : Machine) (plan : Plan)
-      → (r : RunsScript answer (given pairs events MAX_LENGTH sets) (at [] 1) commands k a b m plan) → code ≡ code_for (session_printed answer) (driven_code (end_at r.drives.last))
+      → (r : RunsScript answer (given pairs events MAX_LENGTH sets) (at [] 1) commands (output k a b) (target m plan)) → code ≡ code_for (session_printed answer) (driven_code (end_at r.drives.last))
       → Answers (ScriptGives sets pairs events commands) code k a b
   script_runs sets pairs events commands answer code a b m plan r e =
       answers_with (ScriptGives sets pairs events commands) (session_printed answer) (driven_code (end_at r.drives.last)) code r.drives.text a b (known_driven (end_at r.drives.last))

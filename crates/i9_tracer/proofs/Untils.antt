@@ -20,7 +20,7 @@ use Rattle.i9_machine.specs.Step.{TellsRecord}
 use Rattle.i9_machine.proofs.InRuns.{comes_in_run}
 use Rattle.i9_machine.specs.StandsFor.{StandsFor, Follows, IsUnderWay, DoesNext, Comes, Proceeds, AnswersAgain, FollowsUntil}
 use Rattle.i9_machine.specs.Turned.{steps_on}
-use Rattle.i9_tracer.specs.Until.{IsPassed, Passes, StopsAt, EndsFirst, StopsShort}
+use Rattle.i9_tracer.specs.Until.{IsPassed, Passes, StopsAt, EndsFirst, StopsShort, history}
 
 -- ---- what a step is
 
@@ -57,7 +57,7 @@ Shows g m view = (items : List Item) (end : Option Finish) → StandsFor g items
 
 module _ (allows : View → Bool → Type 0) where
   pub none_passed : (g : Given) (h : List Item) (m : Machine) (plan : Plan) (lines : List Line) → StandsFor g h None m → Follows g h plan
-      → Passes allows g h m plan lines lines
+      → Passes allows (history g h) m plan lines lines
   none_passed g h m plan lines stands follows = record {
     done = [];
     passed = tt;
@@ -66,11 +66,11 @@ module _ (allows : View → Bool → Type 0) where
     lines = sym (append-nil (map shown_of lines));
   }
 
-  module _ (g : Given) (h : List Item) (m : Machine) (was : Plan) (old mid : List Line) (since : Passes allows g h m was old mid)
+  module _ (g : Given) (h : List Item) (m : Machine) (was : Plan) (old mid : List Line) (since : Passes allows (history g h) m was old mid)
       (before next : Machine) (plan : Plan) (new : List Line) where
     -- one more record is passed
     does_pass : (answer : Turn) → (d : DoesNext g (steps_on since.done h) answer before next plan mid new) → IsPassed allows d.done
-        → Passes allows g h next plan old new
+        → Passes allows (history g h) next plan old new
     does_pass answer d passed = record {
       done = d.done ∷ since.done;
       passed = (passed, since.passed);
@@ -81,14 +81,14 @@ module _ (allows : View → Bool → Type 0) where
 
     -- an instruction at which the stop does not hold
     pub issued_pass : (t : Issued) (view : View) → Comes g (steps_on since.done h) (answers.Issued t) before next plan mid new
-        → Shows g next view → allows view false → Passes allows g h next plan old new
+        → Shows g next view → allows view false → Passes allows (history g h) next plan old new
     issued_pass t view d shows refused =
         let shown = shows (Step d.done ∷ steps_on since.done h) None d.stands in
         does_pass (answers.Issued t) d (λ one. subst (λ (v : View). allows v false) shown refused)
 
     -- one at which it does
     pub issued_stops : (t : Issued) (view : View) → Comes g (steps_on since.done h) (answers.Issued t) before next plan mid new
-        → Shows g next view → allows view true → StopsAt allows g h t next plan old new
+        → Shows g next view → allows view true → StopsAt allows (history g h) t next plan old new
     issued_stops t view d shows holds =
         let shown = shows (Step d.done ∷ steps_on since.done h) None d.stands in
         record {
@@ -105,11 +105,11 @@ module _ (allows : View → Bool → Type 0) where
         }
 
     -- an event or an entry
-    pub on_pass : Comes g (steps_on since.done h) answers.On before next plan mid new → Passes allows g h next plan old new
+    pub on_pass : Comes g (steps_on since.done h) answers.On before next plan mid new → Passes allows (history g h) next plan old new
     on_pass d = does_pass answers.On d (λ one. absurd (on_counts d.done.kind d.done.before d.tells one))
 
     -- the end
-    pub ends_first : (e : End) → Comes g (steps_on since.done h) (answers.End e) before next plan mid new → EndsFirst allows g h e next plan old new
+    pub ends_first : (e : End) → Comes g (steps_on since.done h) (answers.End e) before next plan mid new → EndsFirst allows (history g h) e next plan old new
     ends_first e d = record {
       done = since.done;
       finish = d.finish;
@@ -123,7 +123,7 @@ module _ (allows : View → Bool → Type 0) where
     }
 
     -- want of memory
-    pub stops_short : Comes g (steps_on since.done h) answers.Memory before next plan mid new → StopsShort allows g h next plan old new
+    pub stops_short : Comes g (steps_on since.done h) answers.Memory before next plan mid new → StopsShort allows (history g h) next plan old new
     stops_short d = record {
       since = record {
         done = since.done;

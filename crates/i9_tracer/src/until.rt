@@ -6,7 +6,7 @@ ghost use Rattle.i9_course.specs.Course.{Item};
 ghost use Rattle.i9_machine.specs.InRun.{IsInRun};
 ghost use Rattle.i9_machine.specs.StandsFor.{StandsFor, Follows, AnswersAgain};
 ghost use Rattle.i9_machine.specs.Step.{steps_left};
-ghost use Rattle.i9_tracer.specs.Until.{RunsUntil};
+ghost use Rattle.i9_tracer.specs.Until.{RunsUntil, history};
 ghost use Rattle.i9_model.specs.Run.{Finish};
 
 use crate::stop::{Stop, ViewTest};
@@ -31,7 +31,7 @@ pub fn run_until<F: Fn(&View) -> bool + ViewTest>(
 ) -> Turn
     requires stands { IsInRun m.old plan.old }
     ensures next { (g : Given) (h : List Item) → StandsFor g h None m.old → Follows g h plan.old
-        → RunsUntil (F.ViewTest.allows s.now) g h result m.new plan.new out.old.items out.new.items }
+        → RunsUntil (F.ViewTest.allows s.now) (history g h) result m.new plan.new out.old.items out.new.items }
     ensures again { (g : Given) (h : List Item) (f : Finish) → StandsFor g h (Some f) m.old
         → AnswersAgain f result m.old m.new out.old.items out.new.items × (plan.new ≡ plan.old) }
 {
