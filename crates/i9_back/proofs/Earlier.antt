@@ -89,7 +89,7 @@ one_earlier g c rs qs a b = elim (past_extends g rs qs a.past b.past) [
 
 -- ---- where the run has as many instructions, there is one
 
-at_or_below : (c n : ℕ) → (c ≤ n) ⊎ (n < c)
+pub at_or_below : (c n : ℕ) → (c ≤ n) ⊎ (n < c)
 at_or_below c n = grind arith
 
 pub some_earlier : (g : Given) (c : ℕ) (rs : List Record) → IsLatePast g rs → c ≤ (state_after g rs).count → (qs : List Record) × IsEarlier g c qs

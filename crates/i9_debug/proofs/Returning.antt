@@ -20,7 +20,7 @@ use Rattle.i9_back.specs.declared.trail.Trail.{Trail}
 use Rattle.i9_back.specs.Earlier.{HasInstructions, IsEarlier, issue_of}
 use Rattle.i9_back.specs.Trail.{IsTrail}
 use Rattle.i9_back.specs.Stands.{StandsEarlier, StaysAt, same_byte, last_change, IsLastChange}
-use Rattle.i9_back.proofs.Earlier.{record_after, one_or_none, none_done, one_earlier, has_earlier}
+use Rattle.i9_back.proofs.Earlier.{record_after, one_or_none, none_done, at_or_below, one_earlier, has_earlier}
 use Rattle.i9_debug.specs.Last.{IsLast, IsLastIn}
 use Rattle.i9_debug.specs.Session.{Place, at, comes_to, count_at, IsBack, last_arrival}
 use Rattle.i9_debug.specs.Driven.{StandsAt, IsOf, IsPlace, GoneBack, given_of, target}
@@ -136,9 +136,6 @@ place_change g p a rs is earlier =
     sym (ap (last_change a) on.1 ∙ change_later a on.0 rs on.2)
 
 -- ---- where a stop at an address held last is the last arrival
-
-at_or_below : (c n : ℕ) → (c ≤ n) ⊎ (n < c)
-at_or_below c n = grind arith
 
 picked : (b : Bool) (x y c : ℕ) → b ≡ true → c ≡ x → c ≡ cond b x y
 picked true x y c is same = same

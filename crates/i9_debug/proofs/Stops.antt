@@ -15,7 +15,7 @@ use Rattle.i9_machine.specs.declared.line.Turn.{Turn}
 use Rattle.i9_machine.specs.declared.line.Turn.TheVariants as answers
 use Rattle.i9_machine.specs.declared.machine.Machine.{Machine}
 use Rattle.i9_machine.specs.Line.{AddsLines}
-use Rattle.i9_machine.specs.StandsFor.{StandsFor, Follows, IsUnderWay, DoesNext, Comes}
+use Rattle.i9_machine.specs.StandsFor.{StandsFor, Follows, DoesNext, Comes}
 use Rattle.i9_machine.specs.Turned.{steps_on}
 use Rattle.i9_tracer.specs.Until.{IsPassed}
 use Rattle.i9_tracer.proofs.Untils.{Shows, issued_counts, on_counts}
@@ -170,12 +170,6 @@ module _ {K : Type 0} (k : Account K) (g : Given) (h : List Item) (allows : View
     pub step_refused : Comes g (steps_on inv.done h) answers.Memory mid next plan [] ls
         → Prints Done k b c (flat_map line_text ls) → Drives (StopsBy Memory allows g h) (CutInRun g AtMostOne h) Memory g (output k a c) (target next plan)
     step_refused d p = step_cut Memory answers.Memory tt d (prints_behind k b c _ p)
-
--- ---- the machine stays under way
-
-pub does_under_way : (g : Given) (h : List Item) (turn : Turn) (before m : Machine) (plan : Plan) (old new : List Line)
-    → DoesNext g h turn before m plan old new → IsUnderWay m plan
-does_under_way g h turn before m plan old new d = record { given = g; items = Step d.done ∷ h; stands = d.stands; follows = d.follows }
 
 -- ---- a stop at an instruction address
 

@@ -1,7 +1,8 @@
 use Rattle.i9_machine.specs.declared.line.Turn.TheVariants as answers
 use Rattle.i9_machine.specs.Turned.{steps_on}
+use Rattle.i9_machine.proofs.Turned.{does_under_way}
 use Rattle.i9_lines.specs.declared.print.Printed.TheVariants.{Done, Write, Memory}
-use Rattle.i9_debug.proofs.Stops.{none_sought, on_seeks, issued_seeks, issued_holds, end_seeks, step_cut, step_refused, does_under_way}
+use Rattle.i9_debug.proofs.Stops.{none_sought, on_seeks, issued_seeks, issued_holds, end_seeks, step_cut, step_refused}
 use Rattle.i9_debug.proofs.sessions.run_to_stop.Goals as goal
 
 pub loop-lines-init : goal.loop-lines-init

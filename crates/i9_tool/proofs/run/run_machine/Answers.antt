@@ -2,7 +2,7 @@ use Rattle.std.proofs.Common.{sym}
 use Rattle.i9_course.specs.LateRun.{steps}
 use Rattle.i9_machine.specs.declared.line.Turn.TheVariants as turns
 use Rattle.i9_tool.specs.declared.run.Ran.TheVariants as ran
-use Rattle.i9_debug.proofs.Stops.{does_under_way}
+use Rattle.i9_machine.proofs.Turned.{does_under_way}
 use Rattle.i9_tool.proofs.Running.{none_done, on_done, issued_done, in_step, ran_refused, at_the_end}
 use Rattle.i9_tool.proofs.run.run_machine.Goals as goal
 
