@@ -54,6 +54,6 @@ pub one_answer : (i : Inst) (s : State) (x y : ℕ) (r : Answer) → x ≡ value
     → result_of i.op x y (value s i.c) s.ac ≡ Some r → Some r ≡ answer_in i s
 one_answer i s x y r a b e =
     let here : result_of i.op (value s i.a) (value s i.b) (value s i.c) s.ac ≡ Some r =
-        subst (λ (m : ℕ). result_of i.op m (value s i.b) (value s i.c) s.ac ≡ Some r) a
-        (subst (λ (n : ℕ). result_of i.op x n (value s i.c) s.ac ≡ Some r) b e) in
+    subst (λ (m : ℕ). result_of i.op m (value s i.b) (value s i.c) s.ac ≡ Some r) a
+    (subst (λ (n : ℕ). result_of i.op x n (value s i.c) s.ac ≡ Some r) b e) in
     sym (by_words i.op _ _ (value s i.a) (value s i.b) (value s i.c) s.ac r here)
