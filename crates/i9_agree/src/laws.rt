@@ -41,7 +41,8 @@ pub fn frames_stay_sound()
 /// next in them is the same end, or a record that does the same and leaves states that are again the same but for
 /// such bytes.
 pub fn only_compared_bytes_are_seen()
-    ensures next { (limit : ℕ) (due : Due) (stands : Option Event) (s t : State) → IsSound s.frames → s.reading ≡ as_zero
+    ensures next { (limit : ℕ) (due : Due) (stands : Option Event) (s t : State) → IsSound s.frames
+        → s.reading ≡ as_zero
         → AreAlike s t → AreNextAlike (next_in limit due stands s) (next_in limit due stands t) }
     ensures view { (s t : State) → AreAlike s t → view_of t ≡ view_of s }
     ensures overlay { (s t : State) (a : ℕ) → AreAlike s t → overlay t a ≡ overlay s a }
@@ -51,7 +52,8 @@ pub fn only_compared_bytes_are_seen()
 /// as it is compared, they are the youngest live frames, and their words are those in memory.
 pub fn held_frames_stand_for_memory()
     ensures cached { (g : Given) (rs : List Record) → IsPast g rs → IsCached (state_after g rs) (cache_after g rs) }
-    ensures words { (g : Given) (rs : List Record) → IsPast g rs → AreInMemory (state_after g rs).memory (cache_after g rs).held }
+    ensures words { (g : Given) (rs : List Record) → IsPast g rs
+        → AreInMemory (state_after g rs).memory (cache_after g rs).held }
 {}
 
 /// The text of a run does not depend on the number of sets: a machine that keeps its frames in any number of them, and
@@ -70,8 +72,8 @@ pub fn text_does_not_depend_on_sets()
 /// Stale values are not seen: from states that are the same but for the values of marked registers and for bytes that
 /// are not compared, whatever either machine reads at a soft byte, comes the same end, or a record of the same kind, of
 /// the same words, of an action that is the same but for marked values, and of the same text, and the states after it
-/// agree again. Where marks do not hide, two machines agree that read soft bytes alike, with all values of registers and
-/// of live frames.
+/// agree again. Where marks do not hide, two machines agree that read soft bytes alike, with all values of registers
+/// and of live frames.
 pub fn stale_values_are_not_seen()
     ensures next { (hides : Bool) (limit : ℕ) (due : Due) (stands : Option Event) (s t : State) → IsSound s.frames
         → Agree hides s t → NextsAgree hides (next_in limit due stands s) (next_in limit due stands t) }

@@ -27,4 +27,5 @@ pub record Reassembles (image : List Part) (text : List ℕ) : Type 0 where
 
 -- the first line at fault, counted from 1, and its least kind
 abbrev pub IsRefusedSource : List (List ℕ) → ℕ × ℕ → Type 0
-IsRefusedSource lines f = IsRefused (Assembles (all_names lines)) (fault_of (all_names lines)) (λ _. None) start_source lines f
+IsRefusedSource lines f = IsRefused (Assembles (all_names lines)) (fault_of (all_names lines))
+    (λ _. None) start_source lines f

@@ -37,4 +37,5 @@ line_entered p step line table =
 -- behind all lines
 unfoldable pub lines_entered : Place → ℕ → List (List ℕ) → Definitions → Definitions
 lines_entered p step [] table = table
-lines_entered p step (line ∷ lines) table = lines_entered (past_line p line) (step + 2) lines (line_entered p step line table)
+lines_entered p step (line ∷ lines) table = lines_entered (past_line p line) (step + 2) lines
+    (line_entered p step line table)

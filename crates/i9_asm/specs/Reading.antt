@@ -28,7 +28,8 @@ use Rattle.i9_asm.specs.Source.{Source, Gives, Assembles, item_fault, line_fault
 
 -- what stands first behind an opening quote
 abbrev pub IsFirst : List ℕ → code.First → Type 0
-IsFirst s (Character c rest) = (characters s ≡ before_characters (Some c) (characters rest.now)) × (length rest.now < length s)
+IsFirst s (Character c rest) = (characters s ≡ before_characters (Some c) (characters rest.now))
+    × (length rest.now < length s)
 IsFirst s End = characters s ≡ Some []
 IsFirst s Malformed = characters s ≡ None
 
@@ -66,10 +67,12 @@ source_at known s = record {
 
 -- the bytes that an item adds to a source, its fault, and how many bytes it counts
 pub record GrowsBy (names : Names) (s : Source) (item : Item) (g : code_source.Grown.Grown) : Type 0 where
-  pub same : source_at s.place.known g.source ≡ record (begun (moved_to s.place item) s) { bytes = g.source.bytes.items }
+  pub same : source_at s.place.known g.source
+      ≡ record (begun (moved_to s.place item) s) { bytes = g.source.bytes.items }
   pub fault : g.fault ≡ item_fault names s.place item
   pub size : g.size ≡ size_of s.place item
-  pub adds : item_fault names s.place item ≡ None → Adds names s.place item (begun (moved_to s.place item) s).bytes g.source.bytes.items
+  pub adds : item_fault names s.place item ≡ None
+      → Adds names s.place item (begun (moved_to s.place item) s).bytes g.source.bytes.items
 
 -- an item leads from one source to the next
 pub record Grows (names : Names) (s : Source) (item : Item) (t : Source) : Type 0 where

@@ -1,5 +1,6 @@
 -- Sources: the bytes and the faults of each line, and the segments.
-use Rattle.std.specs.Prelude.{◌≡◌, ℕ, zero, suc, ◌+◌, ◌-◌, ◌*◌, ◌%◌, ◌^◌, ◌≤◌, ◌||◌, not, nat_lt, nat_le, Bool, List, [], ◌∷◌, ◌++◌, length, take, Option, Some, None, is_some, if◌then◌else◌}
+use Rattle.std.specs.Prelude.{◌≡◌, ℕ, zero, suc, ◌+◌, ◌-◌, ◌*◌, ◌%◌, ◌^◌, ◌≤◌, ◌||◌, not, nat_lt, nat_le, Bool, List}
+use Rattle.std.specs.Prelude.{[], ◌∷◌, ◌++◌, length, take, Option, Some, None, is_some, if◌then◌else◌}
 use Rattle.std.specs.Option.{option_map}
 use Rattle.std.specs.List.{list_all, flat_map}
 use Rattle.std.specs.Int.{w32, to_le_bytes}
@@ -15,7 +16,8 @@ use Rattle.i9_asm.specs.Lines.{Item, Empty, Bad, Org, Space, Align, Set, Data, A
 use Rattle.i9_asm.specs.Strings.{string_of}
 use Rattle.i9_model.specs.Image.{Part}
 use Rattle.i9_hex.specs.Put.{with_part}
-use Rattle.i9_asm.specs.Places.{is_ascii, if_holds, space_of, alignment_of, Place, address_at, past_label, past_line, start_place, size_of, moved_to}
+use Rattle.i9_asm.specs.Places.{is_ascii, if_holds, space_of, alignment_of, Place, address_at, past_label, past_line}
+use Rattle.i9_asm.specs.Places.{start_place, size_of, moved_to}
 
 -- ---- bytes
 

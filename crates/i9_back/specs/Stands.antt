@@ -1,5 +1,6 @@
 -- A machine that stands for an earlier state, and what last changed a byte up to it.
-use Rattle.std.specs.Prelude.{◌≡◌, ℕ, ◌&&◌, if◌then◌else◌, nat_eq, not, Bool, true, false, List, [], ◌∷◌, ◌++◌, Option, Some, None}
+use Rattle.std.specs.Prelude.{◌≡◌, ℕ, ◌&&◌, if◌then◌else◌, nat_eq, not, Bool, true, false, List, [], ◌∷◌, ◌++◌, Option}
+use Rattle.std.specs.Prelude.{Some, None}
 use Rattle.i9_model.specs.Overlay.{overlay}
 use Rattle.i9_model.specs.Run.{Given, Record, counts_of}
 use Rattle.i9_schedule.specs.Plan.{Plan}
@@ -45,8 +46,10 @@ abbrev pub last_change : ℕ → List Record → Option (ℕ × ℕ)
 last_change a [] = None
 last_change a (r ∷ rs) = if changes a r then Some (r.after.count, r.before.ip) else last_change a rs
 
--- A machine went on from records to the state after more instructions, and this is the last change among the newer ones.
-pub record Watched (g : Given) (older : List Record) (to a : ℕ) (found : Option (ℕ × ℕ)) (m : Machine) (plan : Plan) : Type 0 where
+-- A machine went on from records to the state after more instructions, and this is the last change among the newer
+-- ones.
+pub record Watched (g : Given) (older : List Record) (to a : ℕ) (found : Option (ℕ × ℕ)) (m : Machine)
+    (plan : Plan) : Type 0 where
   pub newer : List Record
   pub earlier : IsEarlier g to (newer ++ older)
   pub is : found ≡ last_change a newer

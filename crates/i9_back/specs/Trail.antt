@@ -10,9 +10,11 @@ use Rattle.i9_back.specs.declared.trail.Trail.{Trail}
 use Rattle.i9_back.specs.Earlier.{IsEarlier}
 use Rattle.i9_back.specs.Stands.{StandsEarlier, last_change}
 
--- a machine that is kept stands for the state after its count, behind its place of the schedule, whatever version that has
+-- a machine that is kept stands for the state after its count, behind its place of the schedule, whatever version that
+-- has
 pub record IsKept (g : Given) (k : Kept) : Type 0 where
-  pub stands : (version : ℕ) → StandsEarlier g k.count k.machine (record { version = version; events = g.plan; place = k.place })
+  pub stands : (version : ℕ)
+      → StandsEarlier g k.count k.machine (record { version = version; events = g.plan; place = k.place })
   pub within : k.place ≤ length g.plan
 
 -- each of a trail is
@@ -22,7 +24,8 @@ IsTrail g t = AllByRecursion (IsKept g) t.kept.items
 -- ---- what is found
 
 -- A relation finds this among the records between two earlier states.
-pub record FoundBetween {X : Type 0} (finds : List Record → Option X → Type 0) (g : Given) (from to : ℕ) (found : Option X) : Type 0 where
+pub record FoundBetween {X : Type 0} (finds : List Record → Option X → Type 0) (g : Given) (from to : ℕ)
+    (found : Option X) : Type 0 where
   pub older : List Record
   pub newer : List Record
   pub start : IsEarlier g from older

@@ -23,7 +23,8 @@ pub fn forward(
 ) -> Result<(), NoMemory>
     requires order { from ≤ to }
     requires stands { CanGoOn from to m.old plan.old }
-    ensures stands { (g : Given) → StandsEarlier g from m.old plan.old → OnOk result (StandsEarlier g to m.new plan.new) }
+    ensures stands { (g : Given) → StandsEarlier g from m.old plan.old
+        → OnOk result (StandsEarlier g to m.new plan.new) }
     ensures events { plan.new.events ≡ plan.old.events }
 {
     let mut lines = Vec::new(alloc);
@@ -41,9 +42,9 @@ pub fn forward(
     Ok(())
 }
 
-/// The machine of a run right after its instruction `c` has issued, or before the first one where `c` is 0; the schedule
-/// is left behind the events that were reached by then. Where memory is refused it has the same events, and its place is
-/// open. The run is done again from its start.
+/// The machine of a run right after its instruction `c` has issued, or before the first one where `c` is 0; the
+/// schedule is left behind the events that were reached by then. Where memory is refused it has the same events, and
+/// its place is open. The run is done again from its start.
 pub fn replay(
     alloc: Global,
     image: &Segments,
@@ -55,7 +56,8 @@ pub fn replay(
     requires sets { IfSome sets (λ n. 0 < n × n < 16) }
     requires length { length ≤ MAX_LENGTH }
     requires reaches { HasInstructions (given (pairs_of image.now) plan.old.events length sets) c }
-    ensures stands { IfOk result (λ m. StandsEarlier (given (pairs_of image.now) plan.old.events length sets) c m plan.new) }
+    ensures stands { IfOk result
+        (λ m. StandsEarlier (given (pairs_of image.now) plan.old.events length sets) c m plan.new) }
     ensures events { plan.new.events ≡ plan.old.events }
 {
     plan.rewind();
@@ -103,7 +105,8 @@ pub fn watch(
 ) -> Result<Option<(u64, u32)>, NoMemory>
     requires order { from ≤ to }
     requires stands { CanGoOn from to m.old plan.old }
-    ensures found { (g : Given) → (s : StandsEarlier g from m.old plan.old) → IfOk result (λ o. Watched g s.records to a o m.new plan.new) }
+    ensures found { (g : Given) → (s : StandsEarlier g from m.old plan.old)
+        → IfOk result (λ o. Watched g s.records to a o m.new plan.new) }
     ensures events { plan.new.events ≡ plan.old.events }
 {
     let mut lines = Vec::new(alloc);
@@ -142,7 +145,8 @@ pub fn last_change(
     requires sets { IfSome sets (λ n. 0 < n × n < 16) }
     requires length { length ≤ MAX_LENGTH }
     requires reaches { HasInstructions (given (pairs_of image.now) plan.old.events length sets) n }
-    ensures found { IfOk result (λ o. IsLastChange (given (pairs_of image.now) plan.old.events length sets) n a o plan.new) }
+    ensures found { IfOk result
+        (λ o. IsLastChange (given (pairs_of image.now) plan.old.events length sets) n a o plan.new) }
     ensures events { plan.new.events ≡ plan.old.events }
 {
     plan.rewind();

@@ -30,8 +30,8 @@ pub(crate) struct Kept {
 }
 
 /// Machines that are kept at earlier states of one run, on the way there: one at the start of each stride of 250,000
-/// instructions, and one halfway in the stride that was done again last, so 40 at most. As long as nothing is done again
-/// there is none.
+/// instructions, and one halfway in the stride that was done again last, so 40 at most. As long as nothing is done
+/// again there is none.
 #[derive(Drop)]
 pub struct Trail {
     kept: Vec<Kept>,
@@ -39,7 +39,8 @@ pub struct Trail {
 
 /// Of the machines that stand for so many instructions or fewer, the one that stands for most.
 fn nearest_of(kept: &[Kept], c: u64) -> Option<&Kept>
-    ensures { (g : Given) → AllByRecursion (IsKept g) kept.now → IfSome result (λ k. IsKept g k.now × (k.now.count ≤ c)) }
+    ensures { (g : Given) → AllByRecursion (IsKept g) kept.now
+        → IfSome result (λ k. IsKept g k.now × (k.now.count ≤ c)) }
 {
     let mut best: Option<&Kept> = None;
     for k in kept {
@@ -84,8 +85,8 @@ impl Trail {
         }
     }
 
-    /// Keeps a copy of a machine that stands right after instruction `count`, on the way to instruction `to`, where one is
-    /// to be kept there. Where memory is refused none is kept.
+    /// Keeps a copy of a machine that stands right after instruction `count`, on the way to instruction `to`, where one
+    /// is to be kept there. Where memory is refused none is kept.
     pub fn keep(&mut self, alloc: Global, m: &Machine, plan: &Schedule, count: u64, to: u64)
         ensures { (g : Given) → IsTrail g self.old → StandsEarlier g count m.now plan.now → IsTrail g self.new }
     {
@@ -103,9 +104,9 @@ impl Trail {
         }
     }
 
-    /// A machine at the nearest state that is not behind instruction `c`, of those that are kept and the start of the run,
-    /// and how many instructions it has done; the schedule stands behind it. Where memory is refused it has the same events,
-    /// and its place is open.
+    /// A machine at the nearest state that is not behind instruction `c`, of those that are kept and the start of the
+    /// run, and how many instructions it has done; the schedule stands behind it. Where memory is refused it has the
+    /// same events, and its place is open.
     pub fn nearest(
         &self,
         alloc: Global,
@@ -118,7 +119,8 @@ impl Trail {
         requires sets { IfSome sets (λ n. 0 < n × n < 16) }
         requires length { length ≤ MAX_LENGTH }
         requires trail { IsTrail (given (pairs_of image.now) plan.old.events length sets) self.now }
-        ensures stands { IfOk result (λ p. StandsEarlier (given (pairs_of image.now) plan.old.events length sets) p.1 p.0 plan.new) }
+        ensures stands { IfOk result
+            (λ p. StandsEarlier (given (pairs_of image.now) plan.old.events length sets) p.1 p.0 plan.new) }
         ensures order { IfOk result (λ p. p.1 ≤ c) }
         ensures events { plan.new.events ≡ plan.old.events }
     {
@@ -136,8 +138,8 @@ impl Trail {
         }
     }
 
-    /// As `replay` of this crate, from the nearest machine that is kept; others are kept on the way, as far as memory is at
-    /// hand.
+    /// As `replay` of this crate, from the nearest machine that is kept; others are kept on the way, as far as memory
+    /// is at hand.
     pub fn replay(
         &mut self,
         alloc: Global,
@@ -151,7 +153,8 @@ impl Trail {
         requires length { length ≤ MAX_LENGTH }
         requires reaches { HasInstructions (given (pairs_of image.now) plan.old.events length sets) c }
         requires trail { IsTrail (given (pairs_of image.now) plan.old.events length sets) self.old }
-        ensures stands { IfOk result (λ m. StandsEarlier (given (pairs_of image.now) plan.old.events length sets) c m plan.new) }
+        ensures stands { IfOk result
+            (λ m. StandsEarlier (given (pairs_of image.now) plan.old.events length sets) c m plan.new) }
         ensures trail { IsTrail (given (pairs_of image.now) plan.old.events length sets) self.new }
         ensures events { plan.new.events ≡ plan.old.events }
     {
@@ -166,8 +169,8 @@ impl Trail {
         Ok(m)
     }
 
-    /// The run goes to right after its instruction `c`: the machine and the schedule do, or where memory is refused both are
-    /// as before.
+    /// The run goes to right after its instruction `c`: the machine and the schedule do, or where memory is refused
+    /// both are as before.
     pub fn go_back(
         &mut self,
         alloc: Global,
@@ -182,7 +185,8 @@ impl Trail {
         requires length { length ≤ MAX_LENGTH }
         requires reaches { HasInstructions (given (pairs_of image.now) plan.old.events length sets) c }
         requires trail { IsTrail (given (pairs_of image.now) plan.old.events length sets) self.old }
-        ensures stands { OnOk result (StandsEarlier (given (pairs_of image.now) plan.old.events length sets) c m.new plan.new) }
+        ensures stands { OnOk result
+            (StandsEarlier (given (pairs_of image.now) plan.old.events length sets) c m.new plan.new) }
         ensures same { OnErr result ((m.new ≡ m.old) × StaysAt plan.old plan.new) }
         ensures trail { IsTrail (given (pairs_of image.now) plan.old.events length sets) self.new }
     {
@@ -199,8 +203,8 @@ impl Trail {
         }
     }
 
-    /// What last changed a byte among the instructions up to `to`, from the nearest machine on that is kept before it, and
-    /// how many instructions that one had done.
+    /// What last changed a byte among the instructions up to `to`, from the nearest machine on that is kept before it,
+    /// and how many instructions that one had done.
     fn watch_last(
         &mut self,
         alloc: Global,
@@ -215,9 +219,11 @@ impl Trail {
         requires length { length ≤ MAX_LENGTH }
         requires reaches { HasInstructions (given (pairs_of image.now) plan.old.events length sets) to }
         requires trail { IsTrail (given (pairs_of image.now) plan.old.events length sets) self.old }
-        ensures found { IfOk result (λ p. FoundBetween (ChangedLast a) (given (pairs_of image.now) plan.old.events length sets) p.1 to p.0) }
+        ensures found { IfOk result
+            (λ p. FoundBetween (ChangedLast a) (given (pairs_of image.now) plan.old.events length sets) p.1 to p.0) }
         ensures order { IfOk result (λ p. p.1 ≤ to - 1) }
-        ensures behind { OnOk result (FollowsEarlier (given (pairs_of image.now) plan.old.events length sets) to plan.new) }
+        ensures behind { OnOk result
+            (FollowsEarlier (given (pairs_of image.now) plan.old.events length sets) to plan.new) }
         ensures trail { IsTrail (given (pairs_of image.now) plan.old.events length sets) self.new }
         ensures events { plan.new.events ≡ plan.old.events }
     {
@@ -233,8 +239,8 @@ impl Trail {
         Ok((found, from))
     }
 
-    /// As `last_change` of this crate, looked for from instruction `n` backwards, from one machine that is kept to the one
-    /// before.
+    /// As `last_change` of this crate, looked for from instruction `n` backwards, from one machine that is kept to the
+    /// one before.
     pub fn last_change(
         &mut self,
         alloc: Global,
@@ -249,7 +255,8 @@ impl Trail {
         requires length { length ≤ MAX_LENGTH }
         requires reaches { HasInstructions (given (pairs_of image.now) plan.old.events length sets) n }
         requires trail { IsTrail (given (pairs_of image.now) plan.old.events length sets) self.old }
-        ensures found { IfOk result (λ o. IsLastChange (given (pairs_of image.now) plan.old.events length sets) n a o plan.new) }
+        ensures found { IfOk result
+            (λ o. IsLastChange (given (pairs_of image.now) plan.old.events length sets) n a o plan.new) }
         ensures trail { IsTrail (given (pairs_of image.now) plan.old.events length sets) self.new }
         ensures events { plan.new.events ≡ plan.old.events }
     {

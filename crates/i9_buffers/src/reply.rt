@@ -34,9 +34,9 @@ fn put(code: u8, bytes: &[u8], out: &mut [u8]) -> Reply
     Reply { code, length: size }
 }
 
-/// The command over a text of words, of which each has a line of its own, and three files, which the words name `1`, `2`
-/// and `3`. The text comes at the start of `out`. The status is that of the command, where 6 says that `out` has no room
-/// for the text.
+/// The command over a text of words, of which each has a line of its own, and three files, which the words name `1`,
+/// `2` and `3`. The text comes at the start of `out`. The status is that of the command, where 6 says that `out` has no
+/// room for the text.
 pub fn respond(
     alloc: Global,
     words: &[u8],

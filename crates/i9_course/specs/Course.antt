@@ -1,5 +1,7 @@
--- A run with its turns: its records and the fences of settling, and each record with its need, its turns and its writes.
-use Rattle.std.specs.Prelude.{◌≡◌, ℕ, nat_lt, ◌&&◌, Bool, if◌then◌else◌, Option, Some, None, List, [], ◌∷◌, ◌++◌, length}
+-- A run with its turns: its records and the fences of settling, and each record with its need, its turns and its
+-- writes.
+use Rattle.std.specs.Prelude.{◌≡◌, ℕ, nat_lt, ◌&&◌, Bool, if◌then◌else◌, Option, Some, None, List, [], ◌∷◌, ◌++◌}
+use Rattle.std.specs.Prelude.{length}
 use Rattle.i9_model.specs.declared.frame.Frame.{Frame}
 use Rattle.i9_model.specs.declared.need.Need.{Need}
 use Rattle.i9_model.specs.declared.need.TimedNeed.{TimedNeed}
@@ -11,7 +13,8 @@ use Rattle.i9_model.specs.Standing.{stands_at}
 use Rattle.i9_model.specs.HeldFrames.{Cache, sets_in, cache_after}
 use Rattle.i9_model.specs.declared.event.Event.{Event}
 use Rattle.i9_model.specs.ScheduleText.{standing_by}
-use Rattle.i9_model.specs.Run.{Given, Kind, Faulted, Record, Next, Does, action_done, next_by_standing, state_after, reached_after, next_with}
+use Rattle.i9_model.specs.Run.{Given, Kind, Faulted, Record, Next, Does, action_done, next_by_standing, state_after}
+use Rattle.i9_model.specs.Run.{reached_after, next_with}
 use Rattle.i9_model.specs.Turns.{last_issue, issue_turn, done_turn, end_turn, waiting_until}
 use Rattle.i9_model.specs.Late.{Late, turns}
 use Rattle.i9_model.specs.Fences.{Fenced}

@@ -6,7 +6,8 @@ use Rattle.i9_model.specs.Memory.{stored}
 use Rattle.i9_model.specs.State.{boot}
 use Rattle.i9_model.specs.Run.{Given}
 use Rattle.i9_model.specs.Turns.{Pending, StandsFor, last_issue, with_need}
-use Rattle.i9_model.specs.Late.{Late, Wait, Shows, turns, resource, resources, landed, issued_cell, wait_of, due_puts, left_waiting}
+use Rattle.i9_model.specs.Late.{Late, Wait, Shows, turns, resource, resources, landed, issued_cell, wait_of, due_puts}
+use Rattle.i9_model.specs.Late.{left_waiting}
 use Rattle.i9_course.specs.Course.{Item, course, last_done, ahead}
 
 -- The open needs; the machine's turn, that of the last fence, and that at which the last record is done; registers with

@@ -1,5 +1,6 @@
 -- What a record needs, by its kind: from the state before it, and from the frames that are held before it.
-use Rattle.std.specs.Prelude.{ℕ, ◌+◌, ◌==◌, nat_lt, not, ◌||◌, Bool, true, false, if◌then◌else◌, Option, Some, None, length}
+use Rattle.std.specs.Prelude.{ℕ, ◌+◌, ◌==◌, nat_lt, not, ◌||◌, Bool, true, false, if◌then◌else◌, Option, Some, None}
+use Rattle.std.specs.Prelude.{length}
 use Rattle.std.specs.List.{list_any}
 use Rattle.std.specs.Option.{is_some}
 use Rattle.i9_isa.specs.declared.inst.Inst.{Inst}
@@ -18,7 +19,8 @@ use Rattle.i9_model.specs.Step.{Move, Stays, Saves, Returns, Flushes}
 use Rattle.i9_model.specs.Access.{Access, Reads, Writes, Changes, access_of, data_of}
 use Rattle.i9_model.specs.Traced.{is_traced, traced_action}
 use Rattle.i9_model.specs.HeldFrames.{Cache, sets_in}
-use Rattle.i9_model.specs.Run.{Kind, Instruction, Faulted, Entered, Interrupted, Reached, Record, Next, Does, Ends, action_by_kind}
+use Rattle.i9_model.specs.Run.{Kind, Instruction, Faulted, Entered, Interrupted, Reached, Record, Next, Does, Ends}
+use Rattle.i9_model.specs.Run.{action_by_kind}
 use Rattle.i9_model.specs.Needs.{is_barrier_name, blank_need, inst_need, refused_need, event_need, entry_need}
 
 -- ---- the facts of an instruction

@@ -11,11 +11,13 @@ ghost use Rattle.i9_model.specs.declared.run.End.TheVariants.{Limit, Imprecise};
 ghost use Rattle.i9_model.specs.ScheduleText.{IsByCounts};
 ghost use Rattle.i9_model.specs.State.{State};
 ghost use Rattle.i9_model.specs.HeldFrames.{Cache};
-ghost use Rattle.i9_model.specs.Run.{Given, Record, Kind, Faulted, IsPast, IsRun, state_after, reached_after, finish, Finish, reached_in};
+ghost use Rattle.i9_model.specs.Run.{Given, Record, Kind, Faulted, IsPast, IsRun, state_after, reached_after, finish};
+ghost use Rattle.i9_model.specs.Run.{Finish, reached_in};
 ghost use Rattle.i9_model.specs.Turns.{IsAlike};
 ghost use Rattle.i9_course.specs.NeedOf.{need_of};
 ghost use Rattle.i9_course.specs.Course.{records_of, last_fault, imprecise_at};
-ghost use Rattle.i9_course.specs.LateRun.{steps, IsLatePast, end_ahead, finish_after, IsLateRun, is_imprecise, HaveNoLateFault};
+ghost use Rattle.i9_course.specs.LateRun.{steps, IsLatePast, end_ahead, finish_after, IsLateRun, is_imprecise};
+ghost use Rattle.i9_course.specs.LateRun.{HaveNoLateFault};
 
 /// Every late run ends, whatever was done so far, and none counts more instructions than its length.
 pub fn every_late_run_ends()
@@ -43,7 +45,8 @@ pub fn one_late_run()
 pub fn late_runs_are_runs()
     ensures records { (rs : List Record) → records_of (steps rs) ≡ rs }
     ensures past { (g : Given) (rs : List Record) → IsLatePast g rs → IsPast (record g { plan = reached_after rs }) rs }
-    ensures first { (g : Given) (rs qs : List Record) (e : Finish) (f : Finish) → IsRun (record g { plan = reached_after qs }) rs e
+    ensures first { (g : Given) (rs qs : List Record) (e : Finish) (f : Finish)
+        → IsRun (record g { plan = reached_after qs }) rs e
         → IsLateRun g qs f → (more : List Record) × (more ++ qs ≡ rs) }
     ensures run { (g : Given) (rs : List Record) (e : Finish) → is_imprecise e.end ≡ false → IsLateRun g rs e
         → IsRun (record g { plan = reached_in g rs e }) rs e }
@@ -58,7 +61,8 @@ pub fn late_runs_are_runs()
         × (r.kind ≡ Faulted (Some i) f) × (f.kind ≡ ARITHMETIC) × (r.before.ip ≡ a) }
     ensures same_past { (g : Given) (rs : List Record) → IsByCounts g.plan → HaveNoLateFault rs → IsPast g rs
         → IsLatePast g rs }
-    ensures same_run { (g : Given) (rs : List Record) (e : Finish) → IsByCounts g.plan → HaveNoLateFault rs → IsRun g rs e
+    ensures same_run { (g : Given) (rs : List Record) (e : Finish) → IsByCounts g.plan → HaveNoLateFault rs
+        → IsRun g rs e
         → IsLateRun g rs e }
 {}
 
@@ -113,5 +117,6 @@ pub fn a_length_cuts_the_late_run()
         ↔ imprecise_at (record g { length = more }) (steps rs) ≡ None) }
     ensures run_otherwise { (g : Given) (more : ℕ) (rs : List Record) (e : Finish) (a : ℕ) → g.length ≤ more
         → e.end ≢ Limit → is_imprecise e.end ≡ false → IsLateRun g rs e
-        → imprecise_at (record g { length = more }) (steps rs) ≡ Some a → IsLateRun (record g { length = more }) rs (finish (Imprecise a)) }
+        → imprecise_at (record g { length = more }) (steps rs) ≡ Some a
+        → IsLateRun (record g { length = more }) rs (finish (Imprecise a)) }
 {}

@@ -2,7 +2,8 @@
 
 ghost use Rattle.std.specs.List.{slice_get};
 ghost use Rattle.i9_model.specs.declared.event.Event.{Event};
-ghost use Rattle.std.specs.Prelude.{◌≡◌, ◌≢◌, ◌<◌, ◌≤◌, ◌↔◌, ◌*◌, ◌∷◌, [], length, max, ℕ, Bool, List, Option, Some, None, IsTrue};
+ghost use Rattle.std.specs.Prelude.{◌≡◌, ◌≢◌, ◌<◌, ◌≤◌, ◌↔◌, ◌*◌, ◌∷◌, [], length, max, ℕ, Bool, List, Option, Some};
+ghost use Rattle.std.specs.Prelude.{None, IsTrue};
 ghost use Rattle.i9_isa.specs.declared.inst.Inst.{Inst};
 ghost use Rattle.i9_model.specs.declared.faults.TheConstants.{ARITHMETIC};
 ghost use Rattle.i9_model.specs.declared.layout.TheConstants.{FRAME_SIZE};
@@ -14,12 +15,16 @@ ghost use Rattle.i9_model.specs.Alike.{AreAlike, AreNextAlike, NextsAgree};
 ghost use Rattle.i9_model.specs.HeldFrames.{Cache, AreWhole, cache_after};
 ghost use Rattle.i9_model.specs.Fences.{fenced};
 ghost use Rattle.i9_model.specs.Step.{Move, Returns};
-ghost use Rattle.i9_model.specs.Run.{Given, Record, Kind, Faulted, Next, Does, Ends, IsPast, state_after, reached_by, reached_after, Finish};
+ghost use Rattle.i9_model.specs.Run.{Given, Record, Kind, Faulted, Next, Does, Ends, IsPast, state_after, reached_by};
+ghost use Rattle.i9_model.specs.Run.{reached_after, Finish};
 ghost use Rattle.i9_model.specs.ScheduleText.{IsByCounts, timed_by_turn};
 ghost use Rattle.i9_model.specs.Turns.{IsTimed, TakesTurns, last_issue, end_turn, pending_of};
-ghost use Rattle.i9_model.specs.Late.{turns, cell, resource, resources, latest, all_puts, settled_memory, AreDueInOrder, AreQuiet, Leaves, IsOrderly, IsClear};
+ghost use Rattle.i9_model.specs.Late.{turns, cell, resource, resources, latest, all_puts, settled_memory};
+ghost use Rattle.i9_model.specs.Late.{AreDueInOrder, AreQuiet, Leaves, IsOrderly, IsClear};
 ghost use Rattle.i9_course.specs.NeedOf.{need_of, need_ahead, is_barrier_kind, moved_frames, stands_alone};
-ghost use Rattle.i9_course.specs.Course.{Item, Step, Fence, records_of, course, needs_of, turns_of, move_writes, late_after, need_after, issue_of_next, instruction_turn, event_ahead, last_done, ahead, IsCourse};
+ghost use Rattle.i9_course.specs.Course.{Item, Step, Fence, records_of, course, needs_of, turns_of, move_writes};
+ghost use Rattle.i9_course.specs.Course.{late_after, need_after, issue_of_next, instruction_turn, event_ahead};
+ghost use Rattle.i9_course.specs.Course.{last_done, ahead, IsCourse};
 ghost use Rattle.i9_course.specs.Kernel.{Kernel, Lands, MovesTo, Issues};
 
 /// With everything landed, memory is that behind the held frames.
@@ -144,5 +149,6 @@ pub fn events_wait_for_their_turn()
 
 /// What comes next needs the same in states that agree, whatever is read at soft bytes.
 pub fn agreeing_states_need_alike()
-    ensures { (hides : Bool) (asked : Option ℕ) (c : Cache) (o p : Next) → NextsAgree hides o p → need_ahead asked c p ≡ need_ahead asked c o }
+    ensures { (hides : Bool) (asked : Option ℕ) (c : Cache) (o p : Next) → NextsAgree hides o p
+        → need_ahead asked c p ≡ need_ahead asked c o }
 {}

@@ -1,5 +1,6 @@
 -- What a debugger does to a machine and to a sink.
-use Rattle.std.specs.Prelude.{◌≡◌, ℕ, ◌≤◌, Bool, true, List, [], ◌∷◌, ◌++◌, drop, length, Option, Some, None, Result, OnOk, OnErr}
+use Rattle.std.specs.Prelude.{◌≡◌, ℕ, ◌≤◌, Bool, true, List, [], ◌∷◌, ◌++◌, drop, length, Option, Some, None, Result}
+use Rattle.std.specs.Prelude.{OnOk, OnErr}
 use Rattle.std.specs.List.{AllByRecursion}
 use Rattle.i9_model.specs.declared.layout.TheConstants.{MAX_LENGTH}
 use Rattle.i9_model.specs.declared.view.View.{View}
@@ -25,7 +26,8 @@ use Rattle.i9_lines.specs.declared.print.Printed.TheVariants as printed
 use Rattle.i9_debug.specs.declared.sessions.SessionEnd.{SessionEnd}
 use Rattle.i9_debug.specs.declared.sessions.SessionEnd.TheVariants as ends
 use Rattle.i9_lines.specs.Print.{Account, Prints, OnDone, IsCut, OnCut}
-use Rattle.i9_debug.specs.Session.{Place, at, ended, turn_ahead, EndsBehind, ending_lines, UnlessOver, IsBack, Runs, told, IsText, end_at}
+use Rattle.i9_debug.specs.Session.{Place, at, ended, turn_ahead, EndsBehind, ending_lines, UnlessOver, IsBack, Runs}
+use Rattle.i9_debug.specs.Session.{told, IsText, end_at}
 
 -- a machine stands at a place of the run of what is given, a schedule is its plan, and follows it as long as no end was
 -- answered
@@ -68,7 +70,8 @@ pub record Target : Type 0 where
 abbrev pub target : Machine → Plan → Target
 target m plan = record { machine = m; plan = plan }
 
--- The run went back to right after so many instructions, or memory was refused and machine and schedule stay where they are.
+-- The run went back to right after so many instructions, or memory was refused and machine and schedule stay where they
+-- are.
 pub record GoneBack {A E : Type 0} (g : Given) (c : ℕ) (result : Result A E) (old new : Target) : Type 0 where
   pub gone : OnOk result ((q : Place) × IsBack g c q × StandsAt g q new.machine new.plan)
   pub same : OnErr result ((new.machine ≡ old.machine) × StaysAt old.plan new.plan)
@@ -90,7 +93,8 @@ abbrev pub output : {K : Type 0} → Account K → K → K → Output K
 output k old new = record { account = k; old = old; new = new }
 
 -- A text was printed whole, and then a front of another one, and both lead to the place at which printing stopped.
-pub record StopsAt {K : Type 0} (cut : List ℕ → List ℕ → Place → Type 0) (answer : Printed) (k : Account K) (old new : K)
+pub record StopsAt {K : Type 0} (cut : List ℕ → List ℕ → Place → Type 0) (answer : Printed) (k : Account K)
+    (old new : K)
     (place : Place) : Type 0 where
   pub whole : List ℕ
   pub rest : List ℕ
@@ -99,10 +103,11 @@ pub record StopsAt {K : Type 0} (cut : List ℕ → List ℕ → Place → Type 
   pub first : Prints printed.Done k old between whole
   pub behind : Prints answer k between new rest
 
--- A text that leads to a place was printed on a sink of this type, or a front of it; and the machine stands at some place
--- behind whole steps, which is that one where all was printed. Where printing stopped, it is the place of the cut: all is
--- printed as it comes.
-pub record Drives {K : Type 0} (leads : List ℕ → Place → Type 0) (cut : List ℕ → List ℕ → Place → Type 0) (answer : Printed)
+-- A text that leads to a place was printed on a sink of this type, or a front of it; and the machine stands at some
+-- place behind whole steps, which is that one where all was printed. Where printing stopped, it is the place of the
+-- cut: all is printed as it comes.
+pub record Drives {K : Type 0} (leads : List ℕ → Place → Type 0) (cut : List ℕ → List ℕ → Place → Type 0)
+    (answer : Printed)
     (g : Given) (out : Output K) (driven : Target) : Type 0 where
   pub text : List ℕ
   pub last : Place
@@ -138,9 +143,11 @@ StepOf g (commands.Who a) h rs = ⊥
 
 -- A run was cut: what is shown of the records before is whole, and behind them only those of one step were done, or the
 -- end came with them.
-pub data CutInRun (g : Given) (step : List Item → List Record → Type 0) (h : List Item) : List ℕ → List ℕ → Place → Type 0 where
+pub data CutInRun (g : Given) (step : List Item → List Record → Type 0) (h : List Item) : List ℕ → List ℕ → Place
+    → Type 0 where
   behind_step : (before last : List Record) (t : ℕ) → step (steps_on before h) last
-      → CutInRun g step h (text_of (lines_of before)) (text_of (lines_of last)) (at (steps_on last (steps_on before h)) t)
+      → CutInRun g step h (text_of (lines_of before)) (text_of (lines_of last))
+      (at (steps_on last (steps_on before h)) t)
   behind_end : (before last : List Record) (t : ℕ) (f : Finish) → step (steps_on before h) last
       → CutInRun g step h (text_of (lines_of before)) (text_of (ending_lines g (steps_on before h) last f))
       (ended (steps_on last (steps_on before h)) t f)
@@ -158,20 +165,25 @@ pub data CutInAnswer (g : Given) (c : Command) (p : Place) : List ℕ → List �
 
 -- A script was cut in a command: the text of the commands before it is whole.
 pub data CutInScript (g : Given) : List Command → Place → List ℕ → List ℕ → Place → Type 0 where
-  in_command : (before : List Command) (c : Command) (left : List Command) (p q place : Place) (x y z : List ℕ) → IsText g before p x q
+  in_command : (before : List Command) (c : Command) (left : List Command) (p q place : Place) (x y z : List ℕ)
+      → IsText g before p x q
       → CutInAnswer g c q y z place → CutInScript g (before ++ c ∷ left) p (x ++ y) z place
 
 -- ---- up to a stop
 
 -- The same as running until an instruction address, by the answers that a stop may give behind each instruction. Where
 -- printing stopped, the text may be that of the records so far, of which the stop was not asked behind the newest.
-pub data StopsBy (answer : Printed) (allows : View → Bool → Type 0) (g : Given) (h : List Item) : List ℕ → Place → Type 0 where
+pub data StopsBy (answer : Printed) (allows : View → Bool → Type 0) (g : Given) (h : List Item) : List ℕ → Place
+    → Type 0 where
   stops : (rs : List Record) (r : Record) → IsCourse g (Step r ∷ steps_on rs h) → AllByRecursion (IsPassed allows) rs
       → counts_of r.kind ≡ 1 → allows (view_behind r) true
-      → StopsBy answer allows g h (text_of (lines_of (r ∷ rs))) (at (Step r ∷ steps_on rs h) (turn_ahead g (steps_on rs h)))
+      → StopsBy answer allows g h (text_of (lines_of (r ∷ rs)))
+      (at (Step r ∷ steps_on rs h) (turn_ahead g (steps_on rs h)))
   never_stops : (rs : List Record) (f : Finish) → EndsBehind g h rs f → AllByRecursion (IsPassed allows) rs
-      → StopsBy answer allows g h (text_of (ending_lines g h rs f)) (ended (steps_on rs h) (turn_ahead g (steps_on rs h)) f)
-  goes_on : (rs : List Record) (q : Place) → IsCut answer → IsCourse g (steps_on rs h) → AllByRecursion (IsPassed allows) (drop 1 rs)
+      → StopsBy answer allows g h (text_of (ending_lines g h rs f))
+      (ended (steps_on rs h) (turn_ahead g (steps_on rs h)) f)
+  goes_on : (rs : List Record) (q : Place) → IsCut answer → IsCourse g (steps_on rs h)
+      → AllByRecursion (IsPassed allows) (drop 1 rs)
       → StopsBy answer allows g h (text_of (lines_of rs)) q
 
 -- ---- whole scripts

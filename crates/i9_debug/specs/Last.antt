@@ -17,12 +17,14 @@ IsPassed allows n r = counts_of r.kind ≡ 1 → r.after.count < n → allows (v
 -- ones: how many instructions there are up to it; and 0 where it may answer false behind all of them.
 abbrev pub IsLast : (View → Bool → Type 0) → ℕ → List Record → ℕ → Type 0
 IsLast allows n [] c = c ≡ 0
-IsLast allows n (r ∷ rs) c = (Answers allows n true r × (c ≡ r.after.count)) ⊎ (IsPassed allows n r × IsLast allows n rs c)
+IsLast allows n (r ∷ rs) c = (Answers allows n true r × (c ≡ r.after.count))
+    ⊎ (IsPassed allows n r × IsLast allows n rs c)
 
 -- the same, where the stop held behind one of these records, or behind none
 abbrev pub HeldLast : (View → Bool → Type 0) → ℕ → List Record → Option ℕ → Type 0
 HeldLast allows n [] found = found ≡ None
-HeldLast allows n (r ∷ rs) found = (Answers allows n true r × (found ≡ Some r.after.count)) ⊎ (IsPassed allows n r × HeldLast allows n rs found)
+HeldLast allows n (r ∷ rs) found = (Answers allows n true r × (found ≡ Some r.after.count))
+    ⊎ (IsPassed allows n r × HeldLast allows n rs found)
 
 -- the same of a run's first n instructions
 pub record IsLastIn (allows : View → Bool → Type 0) (g : Given) (n c : ℕ) : Type 0 where

@@ -1,5 +1,6 @@
 -- The text of a script of the debugger, from a place of a run on.
-use Rattle.std.specs.Prelude.{◌≡◌, ℕ, ◌+◌, ◌-◌, ◌<◌, ◌≤◌, Bool, true, false, nat_eq, nat_lt, ◌&&◌, if◌then◌else◌, List, [], ◌∷◌, ◌++◌, Option, Some, None}
+use Rattle.std.specs.Prelude.{◌≡◌, ℕ, ◌+◌, ◌-◌, ◌<◌, ◌≤◌, Bool, true, false, nat_eq, nat_lt, ◌&&◌, if◌then◌else◌, List}
+use Rattle.std.specs.Prelude.{[], ◌∷◌, ◌++◌, Option, Some, None}
 use Rattle.std.specs.List.{AllByRecursion}
 use Rattle.std.specs.Option.{option_map}
 use Rattle.i9_model.specs.declared.run.End.{End}
@@ -57,7 +58,8 @@ NoneComesTo a rs = AllByRecursion (λ r. comes_to a r ≡ false) rs
 abbrev pub turn_ahead : Given → List Item → ℕ
 turn_ahead g h = (ahead g h).turn
 
--- These records, the newest first, are those of the run behind items that issue below a turn, and no end comes below it.
+-- These records, the newest first, are those of the run behind items that issue below a turn, and no end comes below
+-- it.
 pub record IssueBelow (g : Given) (h : List Item) (u : ℕ) (rs : List Record) : Type 0 where
   pub past : IsCourse g (steps_on rs h)
   pub issued : last_issue (late_turns (course g (steps_on rs h)).late) < u
@@ -72,14 +74,15 @@ pub record EndsBehind (g : Given) (h : List Item) (rs : List Record) (f : Finish
 abbrev pub ending_lines : Given → List Item → List Record → Finish → List Shown
 ending_lines g h rs f = lines_of rs ++ end_lines (state_at g (steps_on rs h)) f
 
--- What is shown from items on until a turn has come, and the place then: so much issues below it, or the end comes below it.
+-- What is shown from items on until a turn has come, and the place then: so much issues below it, or the end comes
+-- below it.
 pub data TurnsTo (g : Given) (h : List Item) (u : ℕ) : List ℕ → Place → Type 0 where
   turns_pass : (rs : List Record) → IssueBelow g h u rs → TurnsTo g h u (text_of (lines_of rs)) (at (steps_on rs h) u)
   turns_end : (rs : List Record) (f : Finish) → EndsBehind g h rs f → turn_ahead g (steps_on rs h) < u
       → TurnsTo g h u (text_of (ending_lines g h rs f)) (ended (steps_on rs h) (turn_ahead g (steps_on rs h)) f)
 
--- What is shown from items on until the first instruction leaves the instruction address at this one, and the place then,
--- whose turn is that at which it issues; or up to the end, where none does.
+-- What is shown from items on until the first instruction leaves the instruction address at this one, and the place
+-- then, whose turn is that at which it issues; or up to the end, where none does.
 pub data ComesTo (g : Given) (h : List Item) (a : ℕ) : List ℕ → Place → Type 0 where
   comes : (rs : List Record) (r : Record) → IsCourse g (Step r ∷ steps_on rs h) → NoneComesTo a rs → comes_to a r ≡ true
       → ComesTo g h a (text_of (lines_of (r ∷ rs))) (at (Step r ∷ steps_on rs h) (turn_ahead g (steps_on rs h)))
@@ -135,8 +138,8 @@ Runs g (commands.Who a) p shown q = Stays p shown q
 
 -- ---- what is told at a place
 
--- What a command tells at a turn behind items, after what was shown on the way there. One that runs or goes back tells the
--- turn and how many instructions have issued.
+-- What a command tells at a turn behind items, after what was shown on the way there. One that runs or goes back tells
+-- the turn and how many instructions have issued.
 abbrev pub told : Given → List Item → ℕ → Command → List ℕ
 told g h t (commands.Turn n) = turn_text t (state_at g h).count
 told g h t (commands.Until a) = turn_text t (state_at g h).count
@@ -160,5 +163,6 @@ pub record Answers (g : Given) (c : Command) (p : Place) (text : List ℕ) (q : 
 -- the text of commands from a place on, and the place behind them
 pub data IsText (g : Given) : List Command → Place → List ℕ → Place → Type 0 where
   no_command : (p : Place) → IsText g [] p [] p
-  next_command : (c : Command) (cs : List Command) (p q last : Place) (x y : List ℕ) → Answers g c p x q → IsText g cs q y last
+  next_command : (c : Command) (cs : List Command) (p q last : Place) (x y : List ℕ) → Answers g c p x q
+      → IsText g cs q y last
       → IsText g (c ∷ cs) p (x ++ y) last

@@ -23,8 +23,8 @@ use i9_script::Command;
 use i9_tracer::{Stop, ViewTest};
 use std::alloc::Global;
 
-/// How many instructions there are up to the last one, before instruction `n`, behind which a closure holds of the view,
-/// as `last` tells it. The schedule stays where it is.
+/// How many instructions there are up to the last one, before instruction `n`, behind which a closure holds of the
+/// view, as `last` tells it. The schedule stays where it is.
 fn last_by<F: Fn(&View) -> bool + ViewTest>(
     alloc: Global,
     image: &Segments,
@@ -48,8 +48,8 @@ fn last_by<F: Fn(&View) -> bool + ViewTest>(
     found
 }
 
-/// How many instructions there are up to the last one, before instruction `n`, that left the instruction address at this
-/// one; 0 where none did. The schedule stays where it is.
+/// How many instructions there are up to the last one, before instruction `n`, that left the instruction address at
+/// this one; 0 where none did. The schedule stays where it is.
 fn arrival(
     alloc: Global,
     image: &Segments,
@@ -117,7 +117,8 @@ pub(crate) fn back_to(
     requires stands { IsDebugged image.now sets m.old plan.old }
     requires trail { IsTrail (given_of image.now sets plan.old) trail.old }
     ensures gone { (g : Given) (p : Place) → IsOf image.now sets g → IsPlace g p → StandsAt g p m.old plan.old
-        → GoneBack g (last_arrival address (count_at g p) (records_of p.items)) result (target m.old plan.old) (target m.new plan.new) }
+        → GoneBack g (last_arrival address (count_at g p) (records_of p.items)) result (target m.old plan.old)
+        (target m.new plan.new) }
     ensures trail { IsTrail (given_of image.now sets plan.old) trail.new }
 {
     let issued = m.view().count;

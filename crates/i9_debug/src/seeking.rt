@@ -19,8 +19,8 @@ use i9_schedule::Schedule;
 use i9_tracer::{Stop, ViewTest};
 use std::alloc::Global;
 
-/// Goes on from the state after `from` instructions to the one after `to`, and tells of those on the way that come before
-/// instruction `n` the last one behind which a stop holds of the view: how many instructions there are up to it.
+/// Goes on from the state after `from` instructions to the one after `to`, and tells of those on the way that come
+/// before instruction `n` the last one behind which a stop holds of the view: how many instructions there are up to it.
 fn seek<F: Fn(&View) -> bool + ViewTest>(
     alloc: Global,
     m: &mut Machine,
@@ -33,7 +33,8 @@ fn seek<F: Fn(&View) -> bool + ViewTest>(
     requires order { from ≤ to }
     requires stands { CanGoOn from to m.old plan.old }
     ensures found { (g : Given) → StandsEarlier g from m.old plan.old
-        → IfOk result (λ o. FoundBetween (HeldLast (F.ViewTest.allows s.now) n) g from to o × StandsEarlier g to m.new plan.new) }
+        → IfOk result (λ o. FoundBetween (HeldLast (F.ViewTest.allows s.now) n) g from to o
+        × StandsEarlier g to m.new plan.new) }
     ensures events { plan.new.events ≡ plan.old.events }
 {
     let mut lines = Vec::new(alloc);
@@ -57,9 +58,9 @@ fn seek<F: Fn(&View) -> bool + ViewTest>(
     Ok(found)
 }
 
-/// How many instructions there are up to the last one, before instruction `n` of a run, behind which a stop holds of the
-/// view; 0 where it holds behind none of them. The run is done again from its start. The place of the schedule is open
-/// afterwards.
+/// How many instructions there are up to the last one, before instruction `n` of a run, behind which a stop holds of
+/// the view; 0 where it holds behind none of them. The run is done again from its start. The place of the schedule is
+/// open afterwards.
 pub fn last<F: Fn(&View) -> bool + ViewTest>(
     alloc: Global,
     image: &Segments,
@@ -72,7 +73,8 @@ pub fn last<F: Fn(&View) -> bool + ViewTest>(
     requires sets { IfSome sets (λ n. 0 < n × n < 16) }
     requires length { length ≤ MAX_LENGTH }
     requires reaches { HasInstructions (given (pairs_of image.now) plan.old.events length sets) n }
-    ensures last { IfOk result (λ c. IsLastIn (F.ViewTest.allows s.now) (given (pairs_of image.now) plan.old.events length sets) n c) }
+    ensures last { IfOk result
+        (λ c. IsLastIn (F.ViewTest.allows s.now) (given (pairs_of image.now) plan.old.events length sets) n c) }
     ensures events { plan.new.events ≡ plan.old.events }
 {
     plan.rewind();
@@ -96,7 +98,8 @@ fn seek_last<F: Fn(&View) -> bool + ViewTest>(
     requires sets { IfSome sets (λ n. 0 < n × n < 16) }
     requires reaches { HasInstructions (given_of image.now sets plan.old) to }
     requires trail { IsTrail (given_of image.now sets plan.old) trail.old }
-    ensures found { IfOk result (λ p. FoundBetween (HeldLast (F.ViewTest.allows s.now) n) (given_of image.now sets plan.old) p.1 to p.0) }
+    ensures found { IfOk result
+        (λ p. FoundBetween (HeldLast (F.ViewTest.allows s.now) n) (given_of image.now sets plan.old) p.1 to p.0) }
     ensures order { IfOk result (λ p. p.1 ≤ to - 1) }
     ensures trail { IsTrail (given_of image.now sets plan.old) trail.new }
     ensures events { plan.new.events ≡ plan.old.events }

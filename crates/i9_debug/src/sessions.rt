@@ -11,7 +11,8 @@ ghost use Rattle.i9_back.specs.Trail.{IsTrail};
 ghost use Rattle.i9_lines.specs.Print.{Prints, account};
 ghost use Rattle.i9_debug.specs.Session.{Place, at, UnlessOver, Stays, TurnsTo, ComesTo, Runs, Answers, told};
 ghost use Rattle.i9_debug.specs.Driven.{StandsAt, IsOf, IsPlace, IsDebugged, given_of, output, target};
-ghost use Rattle.i9_debug.specs.Driven.{Drives, InOneTurn, AtMostOne, CutInRun, CutOnWay, CutInAnswer, StopsBy, RunsScript};
+ghost use Rattle.i9_debug.specs.Driven.{Drives, InOneTurn, AtMostOne, CutInRun, CutOnWay, CutInAnswer, StopsBy};
+ghost use Rattle.i9_debug.specs.Driven.{RunsScript};
 ghost use Rattle.i9_lines.specs.declared.print.Printed.TheVariants as printed;
 
 use crate::backward::{back_by, back_to, change_told};
@@ -159,7 +160,8 @@ fn turn_on<K: Sink>(
     requires stands { IsInRun m.old plan.old }
     requires some { 1 ≤ count }
     ensures { (g : Given) (p : Place) → StandsAt g p m.old plan.old
-        → Drives (λ x q. UnlessOver p.end (TurnsTo g p.items (p.turn + count) x q) (Stays p x q)) (CutInRun g (InOneTurn g) p.items) result g
+        → Drives (λ x q. UnlessOver p.end (TurnsTo g p.items (p.turn + count) x q) (Stays p x q))
+        (CutInRun g (InOneTurn g) p.items) result g
         (output (account K.told K.faults K.writes K.sure K.pieces) out.old out.new) (target m.new plan.new) }
 {
     match m.ended() {
@@ -178,7 +180,8 @@ fn come_to<K: Sink>(
 ) -> Printed
     requires stands { IsInRun m.old plan.old }
     ensures { (g : Given) (p : Place) → StandsAt g p m.old plan.old
-        → Drives (λ x q. UnlessOver p.end (ComesTo g p.items address x q) (Stays p x q)) (CutInRun g AtMostOne p.items) result g
+        → Drives (λ x q. UnlessOver p.end (ComesTo g p.items address x q) (Stays p x q))
+        (CutInRun g AtMostOne p.items) result g
         (output (account K.told K.faults K.writes K.sure K.pieces) out.old out.new) (target m.new plan.new) }
 {
     match m.ended() {
@@ -248,7 +251,8 @@ fn tell<K: Sink>(
     requires stands { IsDebugged image.now sets m.now plan.old }
     requires trail { IsTrail (given_of image.now sets plan.old) trail.old }
     ensures told { (g : Given) (p : Place) → IsOf image.now sets g → IsPlace g p → StandsAt g p m.now plan.old
-        → Prints result (account K.told K.faults K.writes K.sure K.pieces) out.old out.new (told g p.items m.now.turn c.now) }
+        → Prints result (account K.told K.faults K.writes K.sure K.pieces) out.old out.new
+        (told g p.items m.now.turn c.now) }
     ensures same { StaysAt plan.old plan.new }
     ensures trail { IsTrail (given_of image.now sets plan.old) trail.new }
 {
@@ -289,14 +293,14 @@ fn answer<K: Sink>(
 }
 
 /// Does the commands of a script in order, and writes what they print: each line by one call of the sink, as it
-/// arises. The text is this project's own; `specs/Session.antt` defines it. The machine is new, from this image and these
-/// sets, with the longest length, and the schedule stands at its first event.
+/// arises. The text is this project's own; `specs/Session.antt` defines it. The machine is new, from this image and
+/// these sets, with the longest length, and the schedule stands at its first event.
 ///
-/// A command that goes back has the run done again, the first one from its start, and later ones from the nearest of the
-/// machines that are kept on the way; the lines that arise on the way are not written, and those that arise when the run
-/// goes forward again are written again. `Done` and `Stopped` say that the whole text was
-/// written, and whether the run stands at an end when the script is over. At an end nothing is run, and what stands then
-/// is told. Where a write fails or memory is refused, the session stops there, and a front of the text was written.
+/// A command that goes back has the run done again, the first one from its start, and later ones from the nearest of
+/// the machines that are kept on the way; the lines that arise on the way are not written, and those that arise when
+/// the run goes forward again are written again. `Done` and `Stopped` say that the whole text was written, and whether
+/// the run stands at an end when the script is over. At an end nothing is run, and what stands then is told. Where a
+/// write fails or memory is refused, the session stops there, and a front of the text was written.
 pub fn session<K: Sink>(
     alloc: Global,
     image: &Segments,

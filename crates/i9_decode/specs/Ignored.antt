@@ -26,7 +26,8 @@ reg_fields a b c =
 
 -- those of the compare-and-branch format, by whether the row uses src2, a displacement and a prediction
 abbrev pub cobr_fields : Bool → Bool → Bool → List Field
-cobr_fields b disp hint = at 24 8 true ∷ at 19 5 true ∷ at 14 5 b ∷ at 13 1 true ∷ at 2 11 disp ∷ at 1 1 hint ∷ at 0 1 b ∷ []
+cobr_fields b disp hint = at 24 8 true ∷ at 19 5 true ∷ at 14 5 b ∷ at 13 1 true ∷ at 2 11 disp ∷ at 1 1 hint
+    ∷ at 0 1 b ∷ []
 
 -- those of the control format, by whether the row uses a displacement and a prediction
 abbrev pub ctrl_fields : Bool → Bool → List Field

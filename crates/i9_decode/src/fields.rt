@@ -1,7 +1,8 @@
 //! The fields of instruction words (i960 CA/CF User's Manual, instruction formats), and what they
 //! stand for.
 ghost use Rattle.std.specs.Prelude.{◌≡◌, ◌+◌, ◌^◌, ◌<◌, ◌≤◌};
-ghost use Rattle.i9_isa.specs.Words.{field, bit, signed_of, operand_by, operand_in, src1_in, src2_in, src_dst_in, disp_in, mode_in, address_in, ea_in, has_form};
+ghost use Rattle.i9_isa.specs.Words.{field, bit, signed_of, operand_by, operand_in, src1_in, src2_in, src_dst_in};
+ghost use Rattle.i9_isa.specs.Words.{disp_in, mode_in, address_in, ea_in, has_form};
 
 use i9_isa::{Ea, Format, Mode, NO_ADDRESS, Operand, Row, Use};
 

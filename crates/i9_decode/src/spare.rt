@@ -3,7 +3,8 @@ ghost use Rattle.std.specs.Prelude.{◌≡◌, ℕ, ◌+◌, if◌then◌else◌
 ghost use Rattle.i9_isa.specs.Operands.{has_index, has_offset};
 ghost use Rattle.i9_isa.specs.Valid.{IsValid};
 ghost use Rattle.i9_isa.specs.Words.{Encodes};
-ghost use Rattle.i9_decode.specs.Ignored.{reg_fields, cobr_fields, ctrl_fields, mem_fields, fields_of, ignored_in, ignored_bits, SameOutside};
+ghost use Rattle.i9_decode.specs.Ignored.{reg_fields, cobr_fields, ctrl_fields, mem_fields, fields_of, ignored_in};
+ghost use Rattle.i9_decode.specs.Ignored.{ignored_bits, SameOutside};
 
 use i9_isa::{Format, Inst, Mode, Row, row};
 

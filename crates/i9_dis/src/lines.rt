@@ -8,7 +8,8 @@ ghost use Rattle.i9_value.specs.NumberText.{hex_byte_text};
 ghost use Rattle.i9_hex.specs.Shown.{part_of};
 ghost use Rattle.i9_hex.specs.Writing.{with_line_feed};
 ghost use Rattle.i9_runs.specs.Runs.{IsRun};
-ghost use Rattle.i9_asm.specs.Listing.{word_at, whole_size, whole_text, line_size, said_text, noted_words, first_line, org_line};
+ghost use Rattle.i9_asm.specs.Listing.{word_at, whole_size, whole_text, line_size, said_text, noted_words, first_line};
+ghost use Rattle.i9_asm.specs.Listing.{org_line};
 ghost use Rattle.i9_dis.specs.Printed.{AddsLines, AddsRuns};
 
 use crate::words::{add_instruction, add_number};

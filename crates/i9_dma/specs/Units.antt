@@ -26,7 +26,8 @@ bytes_in (Ok (Some bytes)) = Ok (Some bytes.items)
 -- the bytes of the next unit of a channel, or the hazard that it meets; none where nothing moves
 unfoldable pub planned_bytes : Memory → Frames → Dma → ℕ → Option (List ℕ) → Result (Option (List ℕ)) ℕ
 planned_bytes m f d c given =
-    if is_idle d c given then Ok None else unless (unit_hazard f (d.channels c) given) (Some (unit_bytes m (d.channels c) given))
+    if is_idle d c given then Ok None else unless (unit_hazard f (d.channels c) given)
+    (Some (unit_bytes m (d.channels c) given))
 
 -- ---- what comes of the next unit
 

@@ -1,6 +1,7 @@
 //! One channel: how it was set up, and what its next unit is.
 ghost use Rattle.std.specs.Prelude.{◌≡◌, ◌≤◌};
-ghost use Rattle.i9_model.specs.Dma.{unit_size, unit_length, is_fit, source_hazard, unit_hazard, stepped, channel_behind, posts_at_end};
+ghost use Rattle.i9_model.specs.Dma.{unit_size, unit_length, is_fit, source_hazard, unit_hazard, stepped};
+ghost use Rattle.i9_model.specs.Dma.{channel_behind, posts_at_end};
 ghost use Rattle.i9_isa.specs.Words.{bit};
 ghost use Rattle.i9_watch.specs.Watch.{frames_of};
 ghost use Rattle.i9_dma.specs.Channels.{channel_of};

@@ -61,7 +61,8 @@ impl Channels {
     pub fn setup(&mut self, c: u8, control: u32, count: u32, source: u32, target: u32)
         requires { c < CHANNELS }
         ensures { dma_of self.new
-            ≡ set_up (dma_of self.old) c (record { control = control; count = count; source = source; target = target }) }
+            ≡ set_up (dma_of self.old) c
+            (record { control = control; count = count; source = source; target = target }) }
     {
         self.channels[c as usize] = Channel {
             control,

@@ -8,7 +8,8 @@ ghost use Rattle.i9_model.specs.Dma.{unit_length, is_fit, is_last, unit_bytes, d
 ghost use Rattle.i9_memory.specs.Memory.{memory_of, HasRoom, KeepsRoom};
 ghost use Rattle.i9_watch.specs.Watch.{frames_of, spare_of, KeepsMarks};
 ghost use Rattle.i9_dma.specs.Channels.{channel_of};
-ghost use Rattle.i9_dma.specs.Units.{given_in, bytes_in, planned_bytes, moved_by, answer_by, memory_by, frames_by, dma_by};
+ghost use Rattle.i9_dma.specs.Units.{given_in, bytes_in, planned_bytes, moved_by, answer_by, memory_by, frames_by};
+ghost use Rattle.i9_dma.specs.Units.{dma_by};
 
 use crate::channel::{Channel, LARGEST_UNIT};
 use crate::channels::{Channels, Unit};
@@ -88,7 +89,8 @@ impl Channels {
         given: Option<&[u8]>,
     ) -> Result<Option<ArrayVec<u8, 16>>, u32>
         requires { c < CHANNELS }
-        ensures { bytes_in result ≡ planned_bytes (memory_of m.now) (frames_of w.now) (dma_of self.now) c (given_in given.entry) }
+        ensures { bytes_in result
+            ≡ planned_bytes (memory_of m.now) (frames_of w.now) (dma_of self.now) c (given_in given.entry) }
     {
         if self.is_idle(c, given) {
             return Ok(None);
@@ -105,8 +107,10 @@ impl Channels {
         requires channel { c < CHANNELS }
         requires room { HasRoom m.old ((dma_of self.old).channels c).target (length bytes.now.items) }
         ensures answer { result ≡ moved_by (is_last ((dma_of self.old).channels c)) }
-        ensures memory { memory_of m.new ≡ with_bytes (memory_of m.old) ((dma_of self.old).channels c).target bytes.now.items }
-        ensures frames { frames_of w.new ≡ wrote (frames_of w.old) (upwards ((dma_of self.old).channels c).target bytes.now.items) }
+        ensures memory { memory_of m.new
+            ≡ with_bytes (memory_of m.old) ((dma_of self.old).channels c).target bytes.now.items }
+        ensures frames { frames_of w.new
+            ≡ wrote (frames_of w.old) (upwards ((dma_of self.old).channels c).target bytes.now.items) }
         ensures dma { dma_of self.new ≡ dma_behind (dma_of self.old) c }
         ensures room { KeepsRoom m.old m.new }
         ensures spare { spare_of w.new ≡ spare_of w.old }
@@ -126,7 +130,8 @@ impl Channels {
     /// project's own.
     pub fn unit(&mut self, m: &mut Memory, w: &mut Watch, c: u8, given: Option<&[u8]>) -> Unit
         requires channel { c < CHANNELS }
-        requires room { HasRoom m.old ((dma_of self.old).channels c).target (unit_length ((dma_of self.old).channels c)) }
+        requires room { HasRoom m.old ((dma_of self.old).channels c).target
+            (unit_length ((dma_of self.old).channels c)) }
         ensures answer { result ≡ answer_by (is_last ((dma_of self.old).channels c))
             (next_unit (memory_of m.old) (frames_of w.old) (dma_of self.old) c (given_in given.entry)) }
         ensures memory { memory_of m.new ≡ memory_by (memory_of m.old)

@@ -4,7 +4,8 @@ use Rattle.std.specs.List.{flat_map}
 use Rattle.byteorder.specs.Endian.{little_bytes}
 use Rattle.i9_model.specs.Image.{Part, pairs_of}
 use Rattle.i9_runs.specs.Runs.{SaySameBytes}
-use Rattle.i9_elf.specs.Files.{magic, file_header_size, bits_32, low_first, executable, i960, header_size, load_kind, IsImage}
+use Rattle.i9_elf.specs.Files.{magic, file_header_size, bits_32, low_first, executable, i960, header_size, load_kind}
+use Rattle.i9_elf.specs.Files.{IsImage}
 
 -- how many runs a file has at most
 abbrev pub most_headers : ℕ
@@ -49,7 +50,8 @@ bytes_place count = file_header_size + header_size * count
 -- the file of runs
 unfoldable pub file_of : List Part → List ℕ
 file_of runs =
-    file_header (length runs) ++ program_headers (bytes_place (length runs)) runs ++ flat_map (λ (run : Part). run.bytes) runs
+    file_header (length runs) ++ program_headers (bytes_place (length runs)) runs
+    ++ flat_map (λ (run : Part). run.bytes) runs
 
 -- a file without fault that says the bytes of an image
 pub record ReadsBack (file : List ℕ) (image : List Part) : Type 0 where

@@ -1,7 +1,9 @@
 //! Reading a file.
-ghost use Rattle.std.specs.Prelude.{◌≡◌, ◌<◌, ◌≤◌, ◌^◌, ◌++◌, ℕ, List, [], length, take, true, None, OnOk, IfOk, IfErr, Ok, Err};
+ghost use Rattle.std.specs.Prelude.{◌≡◌, ◌<◌, ◌≤◌, ◌^◌, ◌++◌, ℕ, List, [], length, take, true, None, OnOk, IfOk, IfErr};
+ghost use Rattle.std.specs.Prelude.{Ok, Err};
 ghost use Rattle.i9_model.specs.Image.{pairs_of};
-ghost use Rattle.i9_elf.specs.Files.{magic, file_header_size, headers_place, header_count, loads_of, fault_of_file, loaded_bytes, loaded_pairs, IsLoadable, IsImage, IsRefused};
+ghost use Rattle.i9_elf.specs.Files.{magic, file_header_size, headers_place, header_count, loads_of, fault_of_file};
+ghost use Rattle.i9_elf.specs.Files.{loaded_bytes, loaded_pairs, IsLoadable, IsImage, IsRefused};
 ghost use Rattle.i9_elf.specs.Reading.{plain, load_all, Reads, IfBad};
 
 use crate::error::{

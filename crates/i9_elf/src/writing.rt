@@ -5,7 +5,8 @@ ghost use Rattle.i9_model.specs.Image.{Part, pairs_of};
 ghost use Rattle.i9_model.specs.HexText.{most_bytes};
 ghost use Rattle.i9_hex.specs.Shown.{part_of};
 ghost use Rattle.i9_runs.specs.Runs.{IsRun, bytes_in, AreRuns};
-ghost use Rattle.i9_elf.specs.Written.{halves, words, most_headers, file_header, program_header, program_headers, bytes_place, file_of, ReadsBack};
+ghost use Rattle.i9_elf.specs.Written.{halves, words, most_headers, file_header, program_header, program_headers};
+ghost use Rattle.i9_elf.specs.Written.{bytes_place, file_of, ReadsBack};
 
 use crate::error::WriteError;
 use crate::header::{HEADER_SIZE, LOAD};

@@ -4,7 +4,8 @@ ghost use Rattle.i9_model.specs.declared.layout.TheConstants.{PC_MASK};
 ghost use Rattle.i9_model.specs.Frames.{rounded_down};
 ghost use Rattle.i9_model.specs.Hazards.{read_hazard, save_hazard, unless};
 ghost use Rattle.i9_model.specs.Memory.{word_in};
-ghost use Rattle.i9_model.specs.Calls.{entry_address, stack_address, is_switch, entered_here, entered_switched, planned_system};
+ghost use Rattle.i9_model.specs.Calls.{entry_address, stack_address, is_switch, entered_here, entered_switched};
+ghost use Rattle.i9_model.specs.Calls.{planned_system};
 ghost use Rattle.i9_memory.specs.Memory.{memory_of};
 ghost use Rattle.i9_watch.specs.Watch.{frames_of};
 ghost use Rattle.i9_model.specs.Numbers.{IsWithin};
@@ -41,7 +42,8 @@ pub fn enter_here(
 ) -> Result<Sys, u32>
     requires extra { (extra ≡ 0) ⊎ (extra ≡ 16) }
     requires kind { kind < 8 }
-    ensures sys { result ≡ unless (save_hazard (frames_of w.now) (rounded_down fp)) (entered_here target pc fp base extra kind) }
+    ensures sys { result ≡ unless (save_hazard (frames_of w.now) (rounded_down fp))
+        (entered_here target pc fp base extra kind) }
 
     // So the frame can be saved there.
     ensures free { IfOk result (λ s. save_hazard (frames_of w.now) s.push.save ≡ None) }
@@ -75,7 +77,8 @@ fn enter_switched(
 ) -> Result<Sys, u32>
     requires extra { (extra ≡ 0) ⊎ (extra ≡ 16) }
     requires kind { kind < 8 }
-    ensures sys { result ≡ unless (save_hazard (frames_of w.now) (rounded_down fp)) (entered_switched entry stack pc fp extra kind) }
+    ensures sys { result ≡ unless (save_hazard (frames_of w.now) (rounded_down fp))
+        (entered_switched entry stack pc fp extra kind) }
     ensures free { IfOk result (λ s. save_hazard (frames_of w.now) s.push.save ≡ None) }
     ensures aligned { IfOk result (λ s. s.push.save % 16 ≡ 0) }
     ensures above { IfOk result (λ s. s.push.frame % 16 ≡ 0) }
@@ -144,7 +147,8 @@ pub fn enter_system(
     requires extra { (extra ≡ 0) ⊎ (extra ≡ 16) }
     requires here { kind_here < 8 }
     requires switched { kind_switched < 8 }
-    ensures sys { result ≡ planned_system (memory_of m.now) (frames_of w.now) table n pc fp sp extra (kind_by kind_here kind_switched) }
+    ensures sys { result ≡ planned_system (memory_of m.now) (frames_of w.now) table n pc fp sp extra
+        (kind_by kind_here kind_switched) }
 
     // So the frame can be saved there.
     ensures free { IfOk result (λ s. save_hazard (frames_of w.now) s.push.save ≡ None) }

@@ -6,11 +6,13 @@ use Rattle.i9_isa.specs.Words.{bit}
 use Rattle.i9_model.specs.declared.layout.TheConstants.{TRACE_ENABLE_PLACE}
 use Rattle.i9_model.specs.declared.setup.Breaks.{Breaks}
 use Rattle.i9_model.specs.declared.trace.Seen.{Seen}
-use Rattle.i9_model.specs.Tracing.{TraceEvent, Instruction, Dab1, trace_events, mode_of, flag_of, break_flag_of, has_match, comes_with, is_forced, counts}
+use Rattle.i9_model.specs.Tracing.{TraceEvent, Instruction, Dab1, trace_events, mode_of, flag_of, break_flag_of}
+use Rattle.i9_model.specs.Tracing.{has_match, comes_with, is_forced, counts}
 
 -- there is none where trace enable is clear, or where no event counts
 abbrev pub IsUntraced : ℕ → ℕ → Inst → Seen → Breaks → Type 0
-IsUntraced tc pc i s b = (bit pc TRACE_ENABLE_PLACE ≡ false) ⊎ ((e : TraceEvent) → counts tc i.op s (has_match s b) e ≡ false)
+IsUntraced tc pc i s b = (bit pc TRACE_ENABLE_PLACE ≡ false)
+    ⊎ ((e : TraceEvent) → counts tc i.op s (has_match s b) e ≡ false)
 
 -- bit k of the trace controls is a flag: they go from that of the instruction event to that of the last breakpoint
 abbrev pub is_flag : ℕ → Bool

@@ -1,7 +1,8 @@
 //! The result of an instruction, and how the kinds of results are made.
 ghost use Rattle.std.specs.Prelude.{◌≡◌, ◌∷◌, [], slice_index};
 ghost use Rattle.i9_model.specs.Conditions.{with_code};
-ghost use Rattle.i9_model.specs.Results.{words, word, word_and_code, code, faulting, overflowing, word_or_overflow, found};
+ghost use Rattle.i9_model.specs.Results.{words, word, word_and_code, code, faulting, overflowing, word_or_overflow};
+ghost use Rattle.i9_model.specs.Results.{found};
 ghost use Rattle.i9_exec.specs.Shown.{answer_of};
 
 use arrayvec::ArrayVec;
@@ -62,7 +63,8 @@ pub fn two_words(first: u32, second: u32, ac: u32) -> Done
 
 /// The first three words of a source.
 pub fn three_words(source: &[u32; 4], ac: u32) -> Done
-    ensures { answer_of result ≡ words (slice_index source.now 0 ∷ slice_index source.now 1 ∷ slice_index source.now 2 ∷ []) ac }
+    ensures { answer_of result
+        ≡ words (slice_index source.now 0 ∷ slice_index source.now 1 ∷ slice_index source.now 2 ∷ []) ac }
 {
     let mut values = ArrayVec::new();
     values.push(source[0]);

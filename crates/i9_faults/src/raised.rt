@@ -1,7 +1,8 @@
 //! Faults that come before an instruction does anything.
 ghost use Rattle.std.specs.Prelude.{◌≡◌};
 ghost use Rattle.i9_isa.specs.Valid.{IsValid};
-ghost use Rattle.i9_model.specs.Faults.{alignment, is_invalid, is_message, is_past_table, is_special, is_supervisor_only, is_unaligned, mismatches, raised, uses_special};
+ghost use Rattle.i9_model.specs.Faults.{alignment, is_invalid, is_message, is_past_table, is_special};
+ghost use Rattle.i9_model.specs.Faults.{is_supervisor_only, is_unaligned, mismatches, raised, uses_special};
 
 use i9_entry::in_supervisor_mode;
 use i9_isa::{Inst, Op, Operand};

@@ -1,5 +1,6 @@
 //! The sets of the local register cache.
-ghost use Rattle.std.specs.Prelude.{◌≡◌, ◌+◌, ◌-◌, ◌<◌, ◌≤◌, ◌∷◌, ◌++◌, ◌↔◌, [], length, take, drop, reverse, slice_get, option_copied, IsSome, IsNone, IfSome, IfNone, IfOk};
+ghost use Rattle.std.specs.Prelude.{◌≡◌, ◌+◌, ◌-◌, ◌<◌, ◌≤◌, ◌∷◌, ◌++◌, ◌↔◌, [], length, take, drop, reverse};
+ghost use Rattle.std.specs.Prelude.{slice_get, option_copied, IsSome, IsNone, IfSome, IfNone, IfOk};
 
 use circular_buffer::HeapCircularBuffer;
 use i9_isa::NoMemory;

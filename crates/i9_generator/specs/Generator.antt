@@ -63,7 +63,8 @@ set_up_text =
     ++ codes "mov 0, g10\n"
     ++ codes "modpc g10, g9, g10\n"
 
--- the end of the loop and of the run, whose word is the number of interrupts; the procedure; and the handler of the pins
+-- the end of the loop and of the run, whose word is the number of interrupts; the procedure; and the handler of the
+-- pins
 unfoldable pub calls_text : List ℕ
 calls_text =
     codes "call f\n"

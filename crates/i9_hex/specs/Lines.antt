@@ -1,9 +1,11 @@
 -- The state after a line, as a function of the state before it. It counts only where the line has no fault.
-use Rattle.std.specs.Prelude.{◌≡◌, ℕ, ◌+◌, ◌*◌, ◌≤◌, List, [], ◌∷◌, ◌++◌, length, take, drop, slice_index, true, ◌==◌, if◌then◌else◌, Result, Ok, Err}
+use Rattle.std.specs.Prelude.{◌≡◌, ℕ, ◌+◌, ◌*◌, ◌≤◌, List, [], ◌∷◌, ◌++◌, length, take, drop, slice_index, true, ◌==◌}
+use Rattle.std.specs.Prelude.{if◌then◌else◌, Result, Ok, Err}
 use Rattle.hex.specs.Hex.{decode_of}
 use Rattle.hex.specs.declared.error.FromHexError.{FromHexError}
 use Rattle.i9_model.specs.Image.{pairs_at}
-use Rattle.i9_model.specs.HexText.{HexState, Upper, Base, address_in, data_type, end_type, base_type, upper_type, fits_type, start_address_type}
+use Rattle.i9_model.specs.HexText.{HexState, Upper, Base, address_in, data_type, end_type, base_type, upper_type}
+use Rattle.i9_model.specs.HexText.{fits_type, start_address_type}
 
 -- the number of two bytes, the high one first
 abbrev pub short_at : List ℕ → ℕ → ℕ

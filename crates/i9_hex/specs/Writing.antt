@@ -1,5 +1,6 @@
 -- The text that is written for an image.
-use Rattle.std.specs.Prelude.{ℕ, zero, suc, ◌+◌, ◌-◌, ◌/◌, ◌%◌, List, [], ◌∷◌, ◌++◌, length, take, drop, sum, min, ◌==◌, if◌then◌else◌}
+use Rattle.std.specs.Prelude.{ℕ, zero, suc, ◌+◌, ◌-◌, ◌/◌, ◌%◌, List, [], ◌∷◌, ◌++◌, length, take, drop, sum, min, ◌==◌}
+use Rattle.std.specs.Prelude.{if◌then◌else◌}
 use Rattle.std.specs.List.{flat_map}
 use Rattle.hex.specs.Hex.{encode_upper}
 use Rattle.i9_text.specs.Text.{line_feed}
@@ -32,7 +33,8 @@ unfoldable pub cut : ℕ → ℕ → List ℕ → List Part
 cut zero a bs = []
 cut (suc n) a [] = []
 cut (suc n) a (b ∷ bs) =
-    record { address = a; bytes = take (piece_len a) (b ∷ bs) } ∷ cut n (wrapped (a + piece_len a)) (drop (piece_len a) (b ∷ bs))
+    record { address = a; bytes = take (piece_len a) (b ∷ bs) }
+    ∷ cut n (wrapped (a + piece_len a)) (drop (piece_len a) (b ∷ bs))
 
 -- all pieces of a segment; there are no more than bytes
 abbrev pub pieces_of : Part → List Part

@@ -5,7 +5,8 @@ ghost use Rattle.i9_text.specs.Text.{lines_of};
 ghost use Rattle.i9_model.specs.Image.{Part, pairs_of};
 ghost use Rattle.i9_model.specs.HexText.{most_bytes, IsImage};
 ghost use Rattle.i9_hex.specs.Shown.{part_of};
-ghost use Rattle.i9_hex.specs.Writing.{check_of, record_line, piece_len, pieces_of, upper_lines, piece_lines, body_lines, upper_after, hex_text, with_line_feed};
+ghost use Rattle.i9_hex.specs.Writing.{check_of, record_line, piece_len, pieces_of, upper_lines, piece_lines};
+ghost use Rattle.i9_hex.specs.Writing.{body_lines, upper_after, hex_text, with_line_feed};
 
 use crate::record::{DATA, END, UPPER, sum_of};
 use crate::segments::{Segment, Segments};
@@ -32,7 +33,8 @@ fn add_record(
     content: &[u8],
 ) -> Result<(), AllocError>
     requires { length content.now < 256 }
-    ensures { OnOk result (text.new.items ≡ text.old.items ++ with_line_feed (record_line record_type address content.now)) }
+    ensures { OnOk result
+        (text.new.items ≡ text.old.items ++ with_line_feed (record_line record_type address content.now)) }
 {
     let [high, low] = address.to_be_bytes();
     let mut bytes = Vec::from_slice(alloc, &[content.len() as u8, high, low, record_type])?;

@@ -1,5 +1,6 @@
 -- Best: which line and which request of software come first, said by what they are greater than.
-use Rattle.std.specs.Prelude.{◌≡◌, ℕ, ◌<◌, ◌≤◌, Bool, true, false, nat_le, nat_lt, ◌&&◌, if◌then◌else◌, List, Option, Some, None}
+use Rattle.std.specs.Prelude.{◌≡◌, ℕ, ◌<◌, ◌≤◌, Bool, true, false, nat_le, nat_lt, ◌&&◌, if◌then◌else◌, List, Option}
+use Rattle.std.specs.Prelude.{Some, None}
 use Rattle.i9_model.specs.declared.interrupts.Cause.TheVariants.{Line, Soft}
 use Rattle.i9_model.specs.declared.interrupts.Chosen.{Chosen}
 use Rattle.i9_model.specs.State.{Interrupts}
@@ -42,7 +43,8 @@ is_wanted soft pc v = soft v && is_let_in pc v
 -- the line, or the vector that software asks for where that one has the greater priority
 abbrev pub line_or_soft : List ℕ → ℕ → ℕ → Chosen
 line_or_soft maps k v =
-    if nat_lt (vector_priority (line_vector maps k)) (vector_priority v) then choice Soft v else choice (Line k) (line_vector maps k)
+    if nat_lt (vector_priority (line_vector maps k)) (vector_priority v) then choice Soft v else choice (Line k)
+    (line_vector maps k)
 
 -- of the best line and the greatest vector that software asks for, the one of the greater priority; at one priority
 -- the line

@@ -4,7 +4,8 @@ ghost use Rattle.i9_model.specs.declared.layout.TheConstants.{RECORD_SIZE};
 ghost use Rattle.i9_model.specs.Memory.{Memory as Bytes};
 ghost use Rattle.i9_model.specs.Frames.{record_address};
 ghost use Rattle.i9_model.specs.Hazards.{port_hazard, record_write_hazard};
-ghost use Rattle.i9_model.specs.Interrupts.{byte_hazard, priority_hazard, taken_hazard, taken_writes, cleared_hazard, clearing_writes};
+ghost use Rattle.i9_model.specs.Interrupts.{byte_hazard, priority_hazard, taken_hazard, taken_writes, cleared_hazard};
+ghost use Rattle.i9_model.specs.Interrupts.{clearing_writes};
 ghost use Rattle.i9_memory.specs.Memory.{memory_of};
 ghost use Rattle.i9_watch.specs.Watch.{frames_of};
 ghost use Rattle.i9_ints.specs.After.{memory_after, frames_after};
@@ -141,7 +142,8 @@ fn taken_bytes(m: &Memory, table: u32, vector: u8, e: &Entry) -> ArrayVec<(u32, 
 /// User's Manual, interrupts.
 pub fn clearing_bytes(m: &Memory, table: u32, c: &Chosen, e: &Entry) -> ArrayVec<(u32, u8), 2>
     requires { port_hazard (record_address e.now.push.frame) RECORD_SIZE ≡ None }
-    ensures { result.items ≡ clearing_writes c.now.cause (memory_after (memory_of m.now) e.now.push e.now.words) table c.now.vector }
+    ensures { result.items
+        ≡ clearing_writes c.now.cause (memory_after (memory_of m.now) e.now.push e.now.words) table c.now.vector }
 {
     match c.cause {
         Cause::Soft => taken_bytes(m, table, c.vector, e),

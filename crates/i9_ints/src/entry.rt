@@ -1,7 +1,8 @@
 //! The entry of an interrupt.
 ghost use Rattle.std.specs.Prelude.{◌≡◌, ◌%◌, None, IfOk};
 ghost use Rattle.i9_model.specs.Hazards.{save_hazard, record_write_hazard};
-ghost use Rattle.i9_model.specs.Interrupts.{vector_place, base_for, interrupt_pc, interrupt_record, clearing_hazard, planned_interrupt};
+ghost use Rattle.i9_model.specs.Interrupts.{vector_place, base_for, interrupt_pc, interrupt_record, clearing_hazard};
+ghost use Rattle.i9_model.specs.Interrupts.{planned_interrupt};
 ghost use Rattle.i9_memory.specs.Memory.{memory_of};
 ghost use Rattle.i9_watch.specs.Watch.{frames_of};
 ghost use Rattle.i9_ints.specs.After.{memory_after, frames_after};

@@ -4,7 +4,8 @@ ghost use Rattle.i9_model.specs.declared.interrupts.TheConstants.{PENDING_SIZE};
 ghost use Rattle.i9_model.specs.Memory.{with_writes};
 ghost use Rattle.i9_model.specs.Frames.{wrote};
 ghost use Rattle.i9_model.specs.Hazards.{unless};
-ghost use Rattle.i9_model.specs.Interrupts.{priority_place, pending_place, byte_hazard, request_hazard, request_writes, taken_writes, cleared, clearing_writes, clearing_hazard};
+ghost use Rattle.i9_model.specs.Interrupts.{priority_place, pending_place, byte_hazard, request_hazard, request_writes};
+ghost use Rattle.i9_model.specs.Interrupts.{taken_writes, cleared, clearing_writes, clearing_hazard};
 ghost use Rattle.i9_memory.specs.Memory.{memory_of, HasRoom, KeepsRoom};
 ghost use Rattle.i9_watch.specs.Watch.{frames_of, spare_of, KeepsMarks};
 
@@ -118,8 +119,10 @@ impl Ints {
     pub fn request(m: &mut Memory, w: &mut Watch, table: u32, v: u8) -> Result<(), u32>
         requires { HasRoom m.old table PENDING_SIZE }
         ensures hazard { result ≡ unless (request_hazard (frames_of w.old) table v) tt }
-        ensures memory { OnOk result (memory_of m.new ≡ with_writes (memory_of m.old) (request_writes (memory_of m.old) table v)) }
-        ensures frames { OnOk result (frames_of w.new ≡ wrote (frames_of w.old) (request_writes (memory_of m.old) table v)) }
+        ensures memory { OnOk result
+            (memory_of m.new ≡ with_writes (memory_of m.old) (request_writes (memory_of m.old) table v)) }
+        ensures frames { OnOk result
+            (frames_of w.new ≡ wrote (frames_of w.old) (request_writes (memory_of m.old) table v)) }
         ensures same_memory { OnErr result (memory_of m.new ≡ memory_of m.old) }
         ensures same_frames { OnErr result (frames_of w.new ≡ frames_of w.old) }
         ensures room { KeepsRoom m.old m.new }
@@ -141,7 +144,8 @@ impl Ints {
         ensures interrupts { interrupts_of self.new ≡ cleared c.now.cause (interrupts_of self.old) }
         ensures memory { memory_of m.new
             ≡ with_writes (memory_of m.old) (clearing_writes c.now.cause (memory_of m.old) table c.now.vector) }
-        ensures frames { frames_of w.new ≡ wrote (frames_of w.old) (clearing_writes c.now.cause (memory_of m.old) table c.now.vector) }
+        ensures frames { frames_of w.new
+            ≡ wrote (frames_of w.old) (clearing_writes c.now.cause (memory_of m.old) table c.now.vector) }
         ensures room { KeepsRoom m.old m.new }
         ensures spare { spare_of w.new ≡ spare_of w.old }
         ensures marks { KeepsMarks w.old w.new }

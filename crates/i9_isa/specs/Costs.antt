@@ -1,7 +1,8 @@
 -- Where an instruction issues, and how long it takes.
 use Rattle.std.specs.Prelude.{ℕ}
 use Rattle.i9_isa.specs.declared.op.Op.{Op}
-use Rattle.i9_isa.specs.declared.op.Op.TheVariants.{Mulo, Muli, Emul, Divo, Divi, Remo, Remi, Modi, Ediv, Bx, Balx, Call, Callx, Calls, Ret, Sysctl, Sdma, Atadd, Atmod}
+use Rattle.i9_isa.specs.declared.op.Op.TheVariants.{Mulo, Muli, Emul, Divo, Divi, Remo, Remi, Modi, Ediv, Bx, Balx}
+use Rattle.i9_isa.specs.declared.op.Op.TheVariants.{Call, Callx, Calls, Ret, Sysctl, Sdma, Atadd, Atmod}
 use Rattle.i9_isa.specs.declared.inst.Inst.{Inst}
 use Rattle.i9_isa.specs.declared.inst.Side.{Side}
 use Rattle.i9_isa.specs.declared.format.Format.{Format}

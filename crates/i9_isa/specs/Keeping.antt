@@ -1,7 +1,10 @@
 -- Which names keep marks: a mark of a source goes with the result to the destination, and decides nothing.
 use Rattle.std.specs.Prelude.{Bool, true, false}
 use Rattle.i9_isa.specs.declared.op.Op.{Op}
-use Rattle.i9_isa.specs.declared.op.Op.TheVariants.{And, Andnot, Notand, Xor, Or, Nor, Xnor, Not, Ornot, Notor, Nand, Setbit, Clrbit, Notbit, Alterbit, Addo, Subo, Mulo, Emul, Shro, Shlo, Shri, Shrdi, Rotate, Modify, Extract, Mov, Movl, Movt, Movq, Lda}
+use Rattle.i9_isa.specs.declared.op.Op.TheVariants.{And, Andnot, Notand, Xor, Or, Nor, Xnor, Not, Ornot, Notor, Nand}
+use Rattle.i9_isa.specs.declared.op.Op.TheVariants.{Setbit, Clrbit, Notbit, Alterbit, Addo, Subo, Mulo, Emul, Shro}
+use Rattle.i9_isa.specs.declared.op.Op.TheVariants.{Shlo, Shri, Shrdi, Rotate, Modify, Extract, Mov, Movl, Movt, Movq}
+use Rattle.i9_isa.specs.declared.op.Op.TheVariants.{Lda}
 
 -- this project's own: results that neither fault nor change the condition code, moves of words, and lda
 abbrev pub keeps_marks : Op → Bool

@@ -3,7 +3,13 @@
 use Rattle.std.specs.Prelude.{◌≡◌, ℕ, ◌+◌, ◌==◌, nat_le, nat_lt, ◌&&◌, ◌||◌, Bool, true, false}
 use Rattle.std.specs.Int.{bit_at, from_bool}
 use Rattle.i9_isa.specs.declared.op.Op.{Op}
-use Rattle.i9_isa.specs.declared.op.Op.TheVariants.{Alterbit, Cmpinco, Cmpinci, Cmpdeco, Cmpdeci, Addc, Subc, Modac, Spanbit, Scanbit, Cmpo, Cmpi, Concmpo, Concmpi, Scanbyte, Chkbit, Sysctl, Calls, Testno, Testg, Teste, Testge, Testl, Testne, Testle, Testo, Bbc, Cmpobg, Cmpobe, Cmpobge, Cmpobl, Cmpobne, Cmpoble, Bbs, Cmpibno, Cmpibg, Cmpibe, Cmpibge, Cmpibl, Cmpibne, Cmpible, Cmpibo, Call, Ret, Bal, Bno, Bg, Be, Bge, Bl, Bne, Ble, Bo, Faultno, Faultg, Faulte, Faultge, Faultl, Faultne, Faultle, Faulto, Callx}
+use Rattle.i9_isa.specs.declared.op.Op.TheVariants.{Alterbit, Cmpinco, Cmpinci, Cmpdeco, Cmpdeci, Addc, Subc, Modac}
+use Rattle.i9_isa.specs.declared.op.Op.TheVariants.{Spanbit, Scanbit, Cmpo, Cmpi, Concmpo, Concmpi, Scanbyte, Chkbit}
+use Rattle.i9_isa.specs.declared.op.Op.TheVariants.{Sysctl, Calls, Testno, Testg, Teste, Testge, Testl, Testne, Testle}
+use Rattle.i9_isa.specs.declared.op.Op.TheVariants.{Testo, Bbc, Cmpobg, Cmpobe, Cmpobge, Cmpobl, Cmpobne, Cmpoble, Bbs}
+use Rattle.i9_isa.specs.declared.op.Op.TheVariants.{Cmpibno, Cmpibg, Cmpibe, Cmpibge, Cmpibl, Cmpibne, Cmpible, Cmpibo}
+use Rattle.i9_isa.specs.declared.op.Op.TheVariants.{Call, Ret, Bal, Bno, Bg, Be, Bge, Bl, Bne, Ble, Bo, Faultno, Faultg}
+use Rattle.i9_isa.specs.declared.op.Op.TheVariants.{Faulte, Faultge, Faultl, Faultne, Faultle, Faulto, Callx}
 use Rattle.i9_isa.specs.declared.inst.Operand.{Operand}
 use Rattle.i9_isa.specs.declared.inst.Operand.TheVariants.{Reg, Lit, Sfr}
 use Rattle.i9_isa.specs.declared.inst.Inst.{Inst}

@@ -1,7 +1,20 @@
 -- The instruction table: one row for each name.
 use Rattle.std.specs.Prelude.{ℕ, Bool, true, false, List, [], ◌∷◌}
 use Rattle.i9_isa.specs.declared.op.Op.{Op}
-use Rattle.i9_isa.specs.declared.op.Op.TheVariants.{Notbit, And, Andnot, Setbit, Notand, Xor, Or, Nor, Xnor, Ornot, Clrbit, Notor, Nand, Alterbit, Addo, Addi, Subo, Subi, Shro, Shrdi, Shri, Shlo, Rotate, Shli, Cmpinco, Cmpinci, Cmpdeco, Cmpdeci, Addc, Subc, Atadd, Modac, Modtc, Emul, Ediv, Mulo, Remo, Divo, Muli, Remi, Modi, Divi, Not, Mov, Movl, Movt, Movq, Spanbit, Scanbit, Cmpo, Cmpi, Concmpo, Concmpi, Scanbyte, Chkbit, Atmod, Modify, Extract, Modpc, Sdma, Sysctl, Calls, Udma, Mark, Fmark, Flushreg, Syncf, Testno, Testg, Teste, Testge, Testl, Testne, Testle, Testo, Bbc, Cmpobg, Cmpobe, Cmpobge, Cmpobl, Cmpobne, Cmpoble, Bbs, Cmpibno, Cmpibg, Cmpibe, Cmpibge, Cmpibl, Cmpibne, Cmpible, Cmpibo, B, Call, Ret, Bal, Bno, Bg, Be, Bge, Bl, Bne, Ble, Bo, Faultno, Faultg, Faulte, Faultge, Faultl, Faultne, Faultle, Faulto, Ldob, Stob, Bx, Balx, Callx, Ldos, Stos, Lda, Ld, St, Ldl, Stl, Ldt, Stt, Ldq, Stq, Ldib, Stib, Ldis, Stis}
+use Rattle.i9_isa.specs.declared.op.Op.TheVariants.{Notbit, And, Andnot, Setbit, Notand, Xor, Or, Nor, Xnor, Ornot}
+use Rattle.i9_isa.specs.declared.op.Op.TheVariants.{Clrbit, Notor, Nand, Alterbit, Addo, Addi, Subo, Subi, Shro, Shrdi}
+use Rattle.i9_isa.specs.declared.op.Op.TheVariants.{Shri, Shlo, Rotate, Shli, Cmpinco, Cmpinci, Cmpdeco, Cmpdeci, Addc}
+use Rattle.i9_isa.specs.declared.op.Op.TheVariants.{Subc, Atadd, Modac, Modtc, Emul, Ediv, Mulo, Remo, Divo, Muli, Remi}
+use Rattle.i9_isa.specs.declared.op.Op.TheVariants.{Modi, Divi, Not, Mov, Movl, Movt, Movq, Spanbit, Scanbit, Cmpo}
+use Rattle.i9_isa.specs.declared.op.Op.TheVariants.{Cmpi, Concmpo, Concmpi, Scanbyte, Chkbit, Atmod, Modify, Extract}
+use Rattle.i9_isa.specs.declared.op.Op.TheVariants.{Modpc, Sdma, Sysctl, Calls, Udma, Mark, Fmark, Flushreg, Syncf}
+use Rattle.i9_isa.specs.declared.op.Op.TheVariants.{Testno, Testg, Teste, Testge, Testl, Testne, Testle, Testo, Bbc}
+use Rattle.i9_isa.specs.declared.op.Op.TheVariants.{Cmpobg, Cmpobe, Cmpobge, Cmpobl, Cmpobne, Cmpoble, Bbs, Cmpibno}
+use Rattle.i9_isa.specs.declared.op.Op.TheVariants.{Cmpibg, Cmpibe, Cmpibge, Cmpibl, Cmpibne, Cmpible, Cmpibo, B, Call}
+use Rattle.i9_isa.specs.declared.op.Op.TheVariants.{Ret, Bal, Bno, Bg, Be, Bge, Bl, Bne, Ble, Bo, Faultno, Faultg}
+use Rattle.i9_isa.specs.declared.op.Op.TheVariants.{Faulte, Faultge, Faultl, Faultne, Faultle, Faulto, Ldob, Stob, Bx}
+use Rattle.i9_isa.specs.declared.op.Op.TheVariants.{Balx, Callx, Ldos, Stos, Lda, Ld, St, Ldl, Stl, Ldt, Stt, Ldq, Stq}
+use Rattle.i9_isa.specs.declared.op.Op.TheVariants.{Ldib, Stib, Ldis, Stis}
 use Rattle.i9_isa.specs.declared.format.Row.{Row}
 use Rattle.i9_isa.specs.declared.format.Format.TheVariants as Format
 use Rattle.i9_isa.specs.declared.format.Use.{Use}
@@ -9,23 +22,44 @@ use Rattle.i9_isa.specs.declared.format.Use.TheVariants.{Unused, Source, Left, R
 
 -- a row of the register format: opcode, extension, and the uses of src1, src2 and src/dst
 abbrev pub reg_row : ℕ → ℕ → Use → Use → Use → Row
-reg_row o e a b c = record { opcode = o; extension = e; format = Format.Reg; a = a; b = b; c = c; disp = false; hint = false }
+reg_row o e a b c = record
+    { opcode = o; extension = e; format = Format.Reg; a = a; b = b; c = c; disp = false; hint = false }
 
 -- a row of the compare-and-branch format that writes the register of src1 and uses nothing else
 abbrev pub test_row : ℕ → Row
-test_row o = record { opcode = o; extension = 0; format = Format.Cobr; a = Load 1; b = Unused; c = Unused; disp = false; hint = false }
+test_row o = record {
+  opcode = o;
+  extension = 0;
+  format = Format.Cobr;
+  a = Load 1;
+  b = Unused;
+  c = Unused;
+  disp = false;
+  hint = false;
+}
 
 -- a row of the compare-and-branch format with two sources, a displacement and a prediction
 abbrev pub branch_row : ℕ → Row
-branch_row o = record { opcode = o; extension = 0; format = Format.Cobr; a = Left; b = Right; c = Unused; disp = true; hint = true }
+branch_row o = record
+    { opcode = o; extension = 0; format = Format.Cobr; a = Left; b = Right; c = Unused; disp = true; hint = true }
 
 -- a row of the control format, with or without a displacement and a prediction
 abbrev pub ctrl_row : ℕ → Bool → Bool → Row
-ctrl_row o disp hint = record { opcode = o; extension = 0; format = Format.Ctrl; a = Unused; b = Unused; c = Unused; disp = disp; hint = hint }
+ctrl_row o disp hint = record
+    { opcode = o; extension = 0; format = Format.Ctrl; a = Unused; b = Unused; c = Unused; disp = disp; hint = hint }
 
 -- a row of the memory format: what is done with src/dst
 abbrev pub mem_row : ℕ → Use → Row
-mem_row o c = record { opcode = o; extension = 0; format = Format.Mem; a = Unused; b = Unused; c = c; disp = false; hint = false }
+mem_row o c = record {
+  opcode = o;
+  extension = 0;
+  format = Format.Mem;
+  a = Unused;
+  b = Unused;
+  c = c;
+  disp = false;
+  hint = false;
+}
 
 -- the row of each name
 abbrev pub row_of : Op → Row

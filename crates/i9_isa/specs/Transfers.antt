@@ -1,7 +1,8 @@
 -- What each load and each store moves.
 use Rattle.std.specs.Prelude.{ℕ, ◌*◌, Bool, true, false, Option, Some, None}
 use Rattle.i9_isa.specs.declared.op.Op.{Op}
-use Rattle.i9_isa.specs.declared.op.Op.TheVariants.{Ldob, Ldib, Ldos, Ldis, Ld, Ldl, Ldt, Ldq, Stob, Stib, Stos, Stis, St, Stl, Stt, Stq}
+use Rattle.i9_isa.specs.declared.op.Op.TheVariants.{Ldob, Ldib, Ldos, Ldis, Ld, Ldl, Ldt, Ldq, Stob, Stib, Stos, Stis}
+use Rattle.i9_isa.specs.declared.op.Op.TheVariants.{St, Stl, Stt, Stq}
 use Rattle.i9_isa.specs.declared.size.Size.{Size}
 use Rattle.i9_isa.specs.declared.size.Size.TheVariants.{Byte, Half, Words}
 use Rattle.i9_isa.specs.declared.size.Direction.{Direction}

@@ -2,7 +2,8 @@
 //! for the condition code.
 ghost use Rattle.std.specs.Prelude.{◌≡◌, ◌==◌, ◌&&◌, ◌<◌, ◌≤◌};
 ghost use Rattle.i9_isa.specs.Operands.{field_number};
-ghost use Rattle.i9_isa.specs.Resources.{IsSetOf, is_in_group, is_in_operand, is_in_frame, is_read, is_written, reads_code, writes_code, writes_link, changes_frame};
+ghost use Rattle.i9_isa.specs.Resources.{IsSetOf, is_in_group, is_in_operand, is_in_frame, is_read, is_written};
+ghost use Rattle.i9_isa.specs.Resources.{reads_code, writes_code, writes_link, changes_frame};
 ghost use Rattle.i9_isa.specs.Valid.{IsValid};
 
 use crate::inst::{Inst, Operand};

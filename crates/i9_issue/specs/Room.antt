@@ -1,5 +1,6 @@
 -- Why few records are open.
-use Rattle.std.specs.Prelude.{◌≡◌, ℕ, ◌+◌, ◌<◌, ◌≤◌, ◌^◌, ◌&&◌, if◌then◌else◌, max, List, [], ◌∷◌, length, reverse, take, IsTrue, nat_eq}
+use Rattle.std.specs.Prelude.{◌≡◌, ℕ, ◌+◌, ◌<◌, ◌≤◌, ◌^◌, ◌&&◌, if◌then◌else◌, max, List, [], ◌∷◌, length, reverse}
+use Rattle.std.specs.Prelude.{take, IsTrue, nat_eq}
 use Rattle.std.specs.List.{AllByRecursion, count_by}
 use Rattle.i9_isa.specs.declared.inst.Side.{Side}
 use Rattle.i9_model.specs.declared.need.Need.{Need}
@@ -17,8 +18,9 @@ pub record Fits (last : ℕ) (rs : List TimedNeed) : Type 0 where
   pub sides : (side : Side) → count_by (λ r. same_side side r.need.side && nat_eq r.issue last) rs ≤ 1
   pub barrier : 0 < count_by (λ r. r.need.barrier) rs → length rs ≤ 1
 
--- What the scoreboard keeps of its open records, of which so many stand at the front of a list, the oldest first: the turn
--- at which all are done, and one that is that of the last request, or is not above the last issue turn where that is not.
+-- What the scoreboard keeps of its open records, of which so many stand at the front of a list, the oldest first: the
+-- turn at which all are done, and one that is that of the last request, or is not above the last issue turn where that
+-- is not.
 pub record Holds (last until asked count : ℕ) (places : List TimedNeed) : Type 0 where
   pub few : count ≤ 7
   pub whole : length places ≡ 7

@@ -1,9 +1,12 @@
 //! The open records, and when the next one may issue.
 
-ghost use Rattle.std.specs.Prelude.{◌≡◌, ◌<◌, ◌^◌, ◌≤◌, ◌+◌, ℕ, List, [], ◌∷◌, length, max, reverse, take, slice_set, slice_index_or, if◌then◌else◌};
+ghost use Rattle.std.specs.Prelude.{◌≡◌, ◌<◌, ◌^◌, ◌≤◌, ◌+◌, ℕ, List, [], ◌∷◌, length, max, reverse, take, slice_set};
+ghost use Rattle.std.specs.Prelude.{slice_index_or, if◌then◌else◌};
 ghost use Rattle.i9_model.specs.declared.need.TimedNeed.{TimedNeed};
 ghost use Rattle.std.specs.List.{AllByRecursion};
-ghost use Rattle.i9_model.specs.Turns.{issue_turn, turn_from, with_need, end_turn, StandsFor, AreAllDone, last_issue, IssuesAt, FollowsOpen, pending_after, placed_record, open_at, IsAllDone, HasCost};
+ghost use Rattle.i9_model.specs.Turns.{issue_turn, turn_from, with_need, end_turn, StandsFor, AreAllDone, last_issue};
+ghost use Rattle.i9_model.specs.Turns.{IssuesAt, FollowsOpen, pending_after, placed_record, open_at, IsAllDone};
+ghost use Rattle.i9_model.specs.Turns.{HasCost};
 ghost use Rattle.i9_model.specs.Turns as spec;
 ghost use Rattle.i9_issue.specs.Room.{IsEarly, side_from};
 

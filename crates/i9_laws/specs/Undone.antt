@@ -69,8 +69,8 @@ pc_by_name _ i s u = u.pc
 abbrev pub pc_of_record : State → ℕ
 pc_of_record u = if in_supervisor_mode u.pc then bit_and (saved_pc u.memory (u.regs FP)) PC_MASK else u.pc
 
--- The process controls after a return in the state u from what was called in the state s: those before the return, but for
--- such a system call, and after a fault or an interrupt those of the record.
+-- The process controls after a return in the state u from what was called in the state s: those before the return, but
+-- for such a system call, and after a fault or an interrupt those of the record.
 abbrev pub pc_back : Kind → State → State → ℕ
 pc_back (Instruction i) s u = pc_by_name i.op i s u
 pc_back (Faulted inst fault) s u = u.pc
@@ -91,8 +91,8 @@ ac_back (Reached e does) u = u.ac
 
 -- ---- what a return gives back
 
--- The local registers are again what they were before the call, but r2 is the return address; fp is what it was, rounded
--- down to a multiple of 16; g0 to g14 stay as the return found them; and control goes to the return address.
+-- The local registers are again what they were before the call, but r2 is the return address; fp is what it was,
+-- rounded down to a multiple of 16; g0 to g14 stay as the return found them; and control goes to the return address.
 pub record GivesRegisters (call back : Record) : Type 0 where
   pub locals : (r : ℕ) → r < LOCALS → r ≢ RIP → back.after.regs r ≡ call.before.regs r
   pub rip : back.after.regs RIP ≡ return_address call.kind call.before
@@ -115,10 +115,11 @@ abbrev pub AreBeside : Cause → ℕ → ℕ → ℕ → Type 0
 AreBeside Nmi table v at = Unit {0}
 AreBeside (Line k) table v at = Unit {0}
 AreBeside Soft table v at =
-    (in_bytes at RECORD_SIZE (priority_place table v) ≡ false) × (in_bytes at RECORD_SIZE (pending_place table v) ≡ false)
+    (in_bytes at RECORD_SIZE (priority_place table v) ≡ false)
+    × (in_bytes at RECORD_SIZE (pending_place table v) ≡ false)
 
--- An entry leaves its record as it wrote it: that of an interrupt clears what chose it afterwards, where software asked for
--- it in bytes of the interrupt table.
+-- An entry leaves its record as it wrote it: that of an interrupt clears what chose it afterwards, where software asked
+-- for it in bytes of the interrupt table.
 abbrev pub LeavesRecord : Kind → State → Type 0
 LeavesRecord (Instruction i) s = Unit {0}
 LeavesRecord (Faulted inst fault) s = Unit {0}

@@ -14,7 +14,8 @@ ghost use Rattle.i9_model.specs.Run.{Given, Record, IsPast, state_after};
 ghost use Rattle.i9_model.specs.HeldFrames.{AreInMemory};
 ghost use Rattle.i9_laws.specs.Kept.{IsWithin, IsWord, HasBytes};
 ghost use Rattle.i9_laws.specs.LiveFrames.{live_after, addresses_of, AreSaved};
-ghost use Rattle.i9_laws.specs.Undone.{is_call, is_entry, is_return, LeavesRecord, GivesRegisters, GivesControls, HasControls, GivesOldControls};
+ghost use Rattle.i9_laws.specs.Undone.{is_call, is_entry, is_return, LeavesRecord, GivesRegisters, GivesControls};
+ghost use Rattle.i9_laws.specs.Undone.{HasControls, GivesOldControls};
 
 /// Kept bits stay: along every run the arithmetic, the process and the trace controls have no bits but those that are
 /// kept, and the instruction address is a multiple of 4; where the plan is one of a schedule, whose pins are 0 to 7 and
@@ -47,7 +48,8 @@ pub fn kept_bits_stay()
 pub fn a_live_frame_keeps_its_words()
     ensures addresses { (g : Given) (rs : List Record) → IsPast g rs
         → (state_after g rs).frames.live ≡ addresses_of (live_after rs) }
-    ensures words { (g : Given) (rs : List Record) → IsPast g rs → AreInMemory (state_after g rs).memory (live_after rs) }
+    ensures words { (g : Given) (rs : List Record) → IsPast g rs
+        → AreInMemory (state_after g rs).memory (live_after rs) }
     ensures saved { (g : Given) (rs : List Record) → HasBytes g.image → IsPlan g.plan → IsPast g rs
         → AreSaved (state_after g rs).memory (live_after rs) }
 {}
@@ -68,7 +70,8 @@ pub fn a_return_undoes_a_call()
         → back.before.regs PFP ≡ call.after.regs PFP → GivesControls call back }
     ensures entry { (g : Given) (rs between : List Record) (call back : Record)
         → IsPast g (back ∷ between ++ call ∷ rs) → IsTrue (is_entry call.kind) → IsTrue (is_return back.kind)
-        → back.before.regs PFP ≡ call.after.regs PFP → HasControls call.before back.before → GivesOldControls call back }
+        → back.before.regs PFP ≡ call.after.regs PFP → HasControls call.before back.before
+        → GivesOldControls call back }
     ensures at_once { (g : Given) (rs : List Record) (call back : Record) → HasBytes g.image → IsPlan g.plan
         → IsPast g (back ∷ call ∷ rs) → IsTrue (is_call call.kind) → IsTrue (is_return back.kind)
         → GivesRegisters call back × GivesControls call back }

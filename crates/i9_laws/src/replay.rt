@@ -6,7 +6,8 @@ ghost use Rattle.i9_model.specs.declared.event.Timed.{Timed};
 ghost use Rattle.i9_model.specs.declared.layout.TheConstants.{MAX_LENGTH};
 ghost use Rattle.i9_model.specs.declared.run.End.{End};
 ghost use Rattle.i9_model.specs.ScheduleText.{InOrder, IsByCounts, IsVersion, AreOfVersion, IsPlan, IsSchedule};
-ghost use Rattle.i9_model.specs.Run.{Given, Record, IsPast, IsRun, state_after, reached_after, Finish, finish, reached_in};
+ghost use Rattle.i9_model.specs.Run.{Given, Record, IsPast, IsRun, state_after, reached_after, Finish, finish};
+ghost use Rattle.i9_model.specs.Run.{reached_in};
 ghost use Rattle.i9_model.specs.PrintedText.{heading_text, run_text};
 ghost use Rattle.i9_course.specs.LateRun.{IsLatePast, IsLateRun};
 

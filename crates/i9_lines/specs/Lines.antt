@@ -8,7 +8,8 @@ use Rattle.i9_model.specs.PrintedText.{end_text}
 
 -- the first line at fault and its kind
 unfoldable pub refused_line : List ℕ → ℕ × ℕ → List ℕ
-refused_line what fault = codes "#" ++ what ++ codes " line " ++ decimal fault.0 ++ codes " kind " ++ decimal fault.1 ++ 10 ∷ []
+refused_line what fault = codes "#" ++ what ++ codes " line " ++ decimal fault.0 ++ codes " kind " ++ decimal fault.1
+    ++ 10 ∷ []
 
 -- of an ELF image the kind of its fault
 unfoldable pub elf_line : ℕ → List ℕ
@@ -23,4 +24,5 @@ ending f = drop (length (codes "#end ")) (end_text f)
 -- the number, the instructions that were done, the events that were taken, and the end
 unfoldable pub generated_line : ℕ → ℕ → ℕ → End → List ℕ
 generated_line number count events f =
-    codes "#gen " ++ decimal number ++ codes " " ++ decimal count ++ codes " " ++ decimal events ++ codes " " ++ ending f
+    codes "#gen " ++ decimal number ++ codes " " ++ decimal count ++ codes " " ++ decimal events ++ codes " "
+    ++ ending f

@@ -43,7 +43,8 @@ raw_bytes_text a bs = codes "#rawmem" ++ spaced a ++ flat_map spaced_byte bs ++ 
 
 -- the bytes of raw memory from an address up, at a turn behind items
 abbrev pub raw_bytes : Given → List Item → ℕ → ℕ → ℕ → List (Option ℕ)
-raw_bytes g h t a n = map (λ k. Some (raw_memory (boot g.image).memory.bytes t (course g h).late (wrapped (a + k)))) (range_with_len 0 n)
+raw_bytes g h t a n = map (λ k. Some (raw_memory (boot g.image).memory.bytes t (course g h).late (wrapped (a + k))))
+    (range_with_len 0 n)
 
 -- what last changed a byte: how many instructions there are up to it, and its address
 unfoldable pub who_text : Option (ℕ × ℕ) → List ℕ

@@ -11,8 +11,8 @@ use Rattle.i9_text.specs.Text.{is_line_feed}
 use Rattle.i9_outside.specs.Counts.{one_more, Rose}
 use Rattle.i9_outside.specs.Traits.{AppendsFront}
 
--- What the members of a sink's type say: its bytes, how many faults were met, how many writes were begun, of how many bytes
--- it is sure, and which pieces the last calls took.
+-- What the members of a sink's type say: its bytes, how many faults were met, how many writes were begun, of how many
+-- bytes it is sure, and which pieces the last calls took.
 pub record Account (K : Type 0) : Type 1 where
   pub told : K → Option (List ℕ)
   pub faults : K → ℕ
@@ -20,9 +20,11 @@ pub record Account (K : Type 0) : Type 1 where
   pub sure : K → ℕ → Type 0
   pub pieces : K → List (List ℕ) → Type 0
 
-abbrev pub account : {K : Type 0} → (K → Option (List ℕ)) → (K → ℕ) → (K → ℕ) → (K → ℕ → Type 0) → (K → List (List ℕ) → Type 0)
+abbrev pub account : {K : Type 0} → (K → Option (List ℕ)) → (K → ℕ) → (K → ℕ) → (K → ℕ → Type 0)
+    → (K → List (List ℕ) → Type 0)
     → Account K
-account told faults writes sure pieces = record { told = told; faults = faults; writes = writes; sure = sure; pieces = pieces }
+account told faults writes sure pieces = record
+    { told = told; faults = faults; writes = writes; sure = sure; pieces = pieces }
 
 -- ---- lines
 
@@ -70,7 +72,8 @@ abbrev pub Takes : {K : Type 0} → (K → List (List ℕ) → Type 0) → List 
 Takes taken pieces old new = (before : List (List ℕ)) → taken old before → taken new (before ++ pieces)
 
 -- The first of some lines were taken, and then a front of the next one.
-pub record TakesFront {K : Type 0} (taken : K → List (List ℕ) → Type 0) (lines : List (List ℕ)) (old new : K) : Type 0 where
+pub record TakesFront {K : Type 0} (taken : K → List (List ℕ) → Type 0) (lines : List (List ℕ))
+    (old new : K) : Type 0 where
   pub first : List (List ℕ)
   pub front : List ℕ
   pub back : List ℕ
@@ -79,7 +82,8 @@ pub record TakesFront {K : Type 0} (taken : K → List (List ℕ) → Type 0) (l
   pub takes : Takes taken (first ++ front ∷ []) old new
 
 -- The first of some lines were taken.
-pub record TakesFirst {K : Type 0} (taken : K → List (List ℕ) → Type 0) (lines : List (List ℕ)) (old new : K) : Type 0 where
+pub record TakesFirst {K : Type 0} (taken : K → List (List ℕ) → Type 0) (lines : List (List ℕ))
+    (old new : K) : Type 0 where
   pub first : List (List ℕ)
   pub left : List (List ℕ)
   pub parts : first ++ left ≡ lines

@@ -1,8 +1,8 @@
-//! The lines that are printed, and printing them: those of a run, of what was refused, of the run of a made job, and those
-//! that tell of the place at which a machine stands.
+//! The lines that are printed, and printing them: those of a run, of what was refused, of the run of a made job, and
+//! those that tell of the place at which a machine stands.
 //!
-//! `specs/Lines.antt` and `specs/PlaceText.antt` define the lines beside those of a run, `specs/Print.antt` what printing a
-//! text does to a sink.
+//! `specs/Lines.antt` and `specs/PlaceText.antt` define the lines beside those of a run, `specs/Print.antt` what
+//! printing a text does to a sink.
 #![tactic(auto)]
 
 mod heading;

@@ -6,7 +6,8 @@ ghost use Rattle.i9_model.specs.PrintedText.{overlays};
 ghost use Rattle.i9_model.specs.Run.{Finish, state_after};
 ghost use Rattle.i9_course.specs.Course.{Item, records_of};
 ghost use Rattle.i9_machine.specs.StandsFor.{StandsFor};
-ghost use Rattle.i9_lines.specs.PlaceText.{turn_text, view_text, raw_text, held_text, raw_bytes_text, raw_bytes, who_text};
+ghost use Rattle.i9_lines.specs.PlaceText.{turn_text, view_text, raw_text, held_text, raw_bytes_text, raw_bytes};
+ghost use Rattle.i9_lines.specs.PlaceText.{who_text};
 
 use crate::text::{add_bytes, add_count, add_registers, add_word, add_words, add_words_line};
 use i9_frames::Sets;

@@ -136,7 +136,8 @@ pub fn print_line<K: Sink>(alloc: Global, l: &Line, out: &mut K) -> Printed
 #[inline(never)]
 #[tactic(auto, using(crate::proofs::Prints::prints_rules))]
 fn print_each<K: Sink>(alloc: Global, lines: &[Line], out: &mut K) -> Printed
-    ensures { Prints result (account K.told K.faults K.writes K.sure K.pieces) out.old out.new (flat_map line_text lines.now) }
+    ensures { Prints result (account K.told K.faults K.writes K.sure K.pieces) out.old out.new
+        (flat_map line_text lines.now) }
 {
     let mut text = Vec::new(alloc);
     for line in lines {
@@ -153,7 +154,8 @@ fn print_each<K: Sink>(alloc: Global, lines: &[Line], out: &mut K) -> Printed
 #[inline(always)]
 #[tactic(auto, using(crate::proofs::Prints::prints_rules))]
 pub fn print_lines<K: Sink>(alloc: Global, lines: &[Line], out: &mut K) -> Printed
-    ensures { Prints result (account K.told K.faults K.writes K.sure K.pieces) out.old out.new (flat_map line_text lines.now) }
+    ensures { Prints result (account K.told K.faults K.writes K.sure K.pieces) out.old out.new
+        (flat_map line_text lines.now) }
 {
     if lines.is_empty() {
         Printed::Done

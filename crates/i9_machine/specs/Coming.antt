@@ -46,7 +46,8 @@ pub record ArrivesAt (g : Given) (h : List Item) (m : Machine) (t : ℕ) (coming
 
 -- whatever the machine stands for
 abbrev pub Arrives : Machine → Plan → ℕ → Coming → Type 0
-Arrives m plan t coming = (g : Given) (h : List Item) → StandsFor g h None m → Follows g h plan → ArrivesAt g h m t coming
+Arrives m plan t coming = (g : Given) (h : List Item) → StandsFor g h None m → Follows g h plan
+    → ArrivesAt g h m t coming
 
 -- a machine stands for the first items of some run, a schedule follows them, and the turn of what comes next has come
 pub record HasArrived (m : Machine) (plan : Plan) (coming : Coming) : Type 0 where
@@ -109,7 +110,8 @@ pub record IsNextInstruction (m : Machine) (coming : Coming) : Type 0 where
 -- ---- what it has done
 
 -- the last record is an arithmetic fault at this address that an instruction overtook, which ended the run
-pub record Overtaken (a : ℕ) (before : Machine) (e : End) (m : Machine) (was plan : Plan) (old new : List Line) : Type 0 where
+pub record Overtaken (a : ℕ) (before : Machine) (e : End) (m : Machine) (was plan : Plan)
+    (old new : List Line) : Type 0 where
   pub is_end : e ≡ Imprecise a
   pub same : IsSame before m
   pub ended : m.ended ≡ Some e

@@ -1,5 +1,6 @@
 -- What a step prints and what it needs, from its effect.
-use Rattle.std.specs.Prelude.{◌≡◌, ℕ, ◌+◌, ◌≤◌, Bool, false, ◌||◌, nat_lt, List, [], ◌∷◌, ◌++◌, length, Option, None, Some, if◌then◌else◌}
+use Rattle.std.specs.Prelude.{◌≡◌, ℕ, ◌+◌, ◌≤◌, Bool, false, ◌||◌, nat_lt, List, [], ◌∷◌, ◌++◌, length, Option, None}
+use Rattle.std.specs.Prelude.{Some, if◌then◌else◌}
 use Rattle.std.specs.List.{slice_get}
 use Rattle.std.specs.Option.{option_map}
 use Rattle.i9_model.specs.declared.event.Event.{Event}
@@ -13,7 +14,8 @@ use Rattle.i9_processor.specs.State.{state_of}
 use Rattle.i9_model.specs.declared.run.Point.{Point}
 use Rattle.i9_model.specs.PrintedText.{Shown, Journal, bytes_lines, out_lines, point_lines}
 use Rattle.i9_processor.specs.declared.effect.Effect.{Effect}
-use Rattle.i9_processor.specs.Effect.{writes_in, action_in, control_in, AreRegisters, CanPost, CanChange, CanControl, CanMove, HasSpaceFor, has_writes, is_restart}
+use Rattle.i9_processor.specs.Effect.{writes_in, action_in, control_in, AreRegisters, CanPost, CanChange, CanControl}
+use Rattle.i9_processor.specs.Effect.{CanMove, HasSpaceFor, has_writes, is_restart}
 use Rattle.i9_machine.specs.declared.machine.Machine.{Machine}
 use Rattle.i9_machine.specs.declared.step.Step.{Step}
 
@@ -32,7 +34,8 @@ event_in plan step = next_event plan step.reaches
 
 -- the lines of a step that reaches an event or none, from the states before and after it
 abbrev pub lines_of : Effect → Step → Option Event → State → State → List Shown
-lines_of e step event s t = reached_lines event s ++ (out_lines (console_byte (writes_in e)) ++ point_lines (step.point) t)
+lines_of e step event s t = reached_lines event s
+    ++ (out_lines (console_byte (writes_in e)) ++ point_lines (step.point) t)
 
 -- how many bytes lines an event has
 abbrev pub bytes_count : Event → ℕ
@@ -55,7 +58,8 @@ point_count (Some kind) = 1
 
 -- how many lines are printed
 abbrev pub line_count : Effect → Step → Option Event → ℕ
-line_count e step event = reached_count event + (length (out_lines (console_byte (writes_in e))) + point_count (step.point))
+line_count e step event = reached_count event +
+    (length (out_lines (console_byte (writes_in e))) + point_count (step.point))
 
 -- it prints lines, stores bytes, saves a frame, or makes new sets
 abbrev pub asks_room : State → Effect → Step → Option Event → Bool

@@ -23,8 +23,8 @@ pub record IsFreeToIssue (m : Machine) : Type 0 where
   pub below : (state_of m.processor).count < m.length
   pub chosen : choice_in (state_of m.processor) ≡ Ok None
 
--- Where nothing is open, the turn has come at which the instruction would issue; and it is not past where the instruction
--- comes next.
+-- Where nothing is open, the turn has come at which the instruction would issue; and it is not past where the
+-- instruction comes next.
 pub record IsTimely (m : Machine) (plan : Plan) : Type 0 where
   pub come : turn_at m ≤ m.turn
   pub early : IsFreeToIssue m → event_for m plan ≡ None → m.turn ≤ turn_at m
@@ -33,7 +33,8 @@ pub record IsTimely (m : Machine) (plan : Plan) : Type 0 where
 -- open, since software's requests are to be looked at
 abbrev pub NextWaits : Machine → Plan → Type 0
 NextWaits m plan =
-    ((state_of m.processor).check ≡ true) ⊎ ((asked : Option ℕ) (c : Cache) → IsTrue (need_ahead asked c (next_for m plan)).barrier)
+    ((state_of m.processor).check ≡ true)
+    ⊎ ((asked : Option ℕ) (c : Cache) → IsTrue (need_ahead asked c (next_for m plan)).barrier)
 
 -- ---- the need that is kept
 

@@ -36,4 +36,5 @@ pub record IsNeedAhead (m : Machine) (need : Need) : Type 0 where
 -- the turn at which it would issue, as if no entry and no event stood before it
 abbrev pub IssuesAhead : Machine → ℕ → Type 0
 IssuesAhead m t =
-    (g : Given) (h : List Item) → StandsFor g h None m → t ≡ issue_of_next g h (instruction_ahead (state_after g (records_of h)))
+    (g : Given) (h : List Item) → StandsFor g h None m
+    → t ≡ issue_of_next g h (instruction_ahead (state_after g (records_of h)))

@@ -112,7 +112,8 @@ pub record MovesOn (g : Given) (h : List Item) (before m : Machine) (plan : Plan
   pub lines : new ≡ old
 
 -- the next record was done, whose turn has come, and its lines were appended
-pub record DoesNext (g : Given) (h : List Item) (answer : Turn) (before m : Machine) (plan : Plan) (old new : List Line) : Type 0 where
+pub record DoesNext (g : Given) (h : List Item) (answer : Turn) (before m : Machine) (plan : Plan)
+    (old new : List Line) : Type 0 where
   pub done : Record
   pub is_next : comes_next g h ≡ Does done
   pub now : (ahead g h).turn ≡ before.turn
@@ -124,7 +125,8 @@ pub record DoesNext (g : Given) (h : List Item) (answer : Turn) (before m : Mach
 
 -- the end was answered, of the run or at an imprecise fault, whose turn has come, and its lines were appended, behind
 -- that of an event that was reached with it
-pub record EndsRun (g : Given) (h : List Item) (e : End) (before m : Machine) (plan : Plan) (old new : List Line) : Type 0 where
+pub record EndsRun (g : Given) (h : List Item) (e : End) (before m : Machine) (plan : Plan)
+    (old new : List Line) : Type 0 where
   pub finish : Finish
   pub answers : finish.end ≡ e
   pub is_end : end_ahead g h ≡ Some finish
@@ -158,7 +160,8 @@ Advances g h answer before m plan old new = Comes g h answer before m plan old n
 
 -- The turn moved to the one at which something comes, where the machine was below it, and then that was done. Memory is
 -- refused only where room was lacking before, with this many lines to spare.
-pub record Proceeds (g : Given) (h : List Item) (answer : Turn) (before m : Machine) (plan : Plan) (spare : ℕ) (old new : List Line) : Type 0 where
+pub record Proceeds (g : Given) (h : List Item) (answer : Turn) (before m : Machine) (plan : Plan) (spare : ℕ)
+    (old new : List Line) : Type 0 where
   pub mid : Machine
   pub now : (ahead g h).turn ≡ mid.turn
   pub stands : StandsFor g h None mid

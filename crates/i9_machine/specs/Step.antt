@@ -1,5 +1,6 @@
 -- One step of a machine from its own fields, with no word on the records before.
-use Rattle.std.specs.Prelude.{◌≡◌, ℕ, ◌+◌, ◌-◌, ◌*◌, ◌^◌, ◌<◌, ◌≤◌, Bool, true, false, ◌||◌, nat_lt, List, length, drop, Option, Some, None, is_some, Result, Ok, Err}
+use Rattle.std.specs.Prelude.{◌≡◌, ℕ, ◌+◌, ◌-◌, ◌*◌, ◌^◌, ◌<◌, ◌≤◌, Bool, true, false, ◌||◌, nat_lt, List, length, drop}
+use Rattle.std.specs.Prelude.{Option, Some, None, is_some, Result, Ok, Err}
 use Rattle.i9_isa.specs.Words.{words_of}
 use Rattle.i9_model.specs.State.{State}
 use Rattle.i9_model.specs.declared.event.Event.{Event}
@@ -7,7 +8,9 @@ use Rattle.i9_model.specs.ScheduleText.{standing_by}
 use Rattle.i9_model.specs.Left.{left_in}
 use Rattle.i9_model.specs.HeldFrames.{Cache}
 use Rattle.i9_model.specs.declared.run.Due.{Due}
-use Rattle.i9_model.specs.Run.{Kind, Instruction, Faulted, Entered, Interrupted, Reached, Record, Next, Does, Ends, next_in, due_by, faulted_words, action_by_kind, counts_of, point_of, record_of, reached_by, action_done, Finish, reached_last}
+use Rattle.i9_model.specs.Run.{Kind, Instruction, Faulted, Entered, Interrupted, Reached, Record, Next, Does, Ends}
+use Rattle.i9_model.specs.Run.{next_in, due_by, faulted_words, action_by_kind, counts_of, point_of, record_of}
+use Rattle.i9_model.specs.Run.{reached_by, action_done, Finish, reached_last}
 use Rattle.i9_schedule.specs.Plan.{Plan}
 use Rattle.i9_model.specs.Alike.{AreAlike}
 use Rattle.i9_model.specs.PrintedText.{record_lines, end_lines, journal_lines}
@@ -33,8 +36,8 @@ use Rattle.i9_machine.specs.declared.step.Ending.{Ending}
 use Rattle.i9_machine.specs.declared.step.Ending.TheVariants as endings
 use Rattle.i9_model.specs.declared.run.End.TheVariants.{Hazard}
 
--- what the instruction at the instruction address would need, and the turn at which it would issue by the scoreboard, if
--- nothing came before it
+-- what the instruction at the instruction address would need, and the turn at which it would issue by the scoreboard,
+-- if nothing came before it
 abbrev pub need_at : Machine → Need
 need_at m = need_ahead (Some (size_of m.processor)) (cache_of m.processor) (instruction_ahead (state_of m.processor))
 
@@ -102,9 +105,11 @@ HasRoom m spare (Does r) = HasRoomToDo m spare r
 -- ---- what a step is to do
 
 -- What comes next, where this event stands or none, is a record of this effect, drained point and count, which reaches
--- the next event of a schedule or none, makes this due, is answered so, and needs this. The bytes of a request stand in a
--- row. It is said of the length, what is due, the state, the number of sets, and the frames in them and the memory behind.
-pub record IsStepIn (limit : ℕ) (due_now : Due) (s : State) (size : ℕ) (cache : Cache) (stands : Option Event) (plan : Plan) (step : Step) (need : Need) (e : Effect) : Type 0 where
+-- the next event of a schedule or none, makes this due, is answered so, and needs this. The bytes of a request stand in
+-- a row. It is said of the length, what is due, the state, the number of sets, and the frames in them and the memory
+-- behind.
+pub record IsStepIn (limit : ℕ) (due_now : Due) (s : State) (size : ℕ) (cache : Cache) (stands : Option Event)
+    (plan : Plan) (step : Step) (need : Need) (e : Effect) : Type 0 where
   pub kind : Kind
   pub is_next : next_in limit due_now stands s ≡ Does (record_of kind s)
   pub effect : IsEffect s (action_by_kind kind s) e
@@ -195,7 +200,8 @@ pub record Finished (before : Machine) (f : Finish) (m : Machine) (was plan : Pl
   pub behind : plan ≡ plan_at_end was f
   pub lines : AddsLines old new (end_lines (state_of before.processor) f)
 
-pub record Unfinished (before : Machine) (f : Finish) (spare : ℕ) (m : Machine) (was plan : Plan) (old new : List Line) : Type 0 where
+pub record Unfinished (before : Machine) (f : Finish) (spare : ℕ) (m : Machine) (was plan : Plan)
+    (old new : List Line) : Type 0 where
   pub same : IsSame before m
   pub ended : m.ended ≡ None
   pub kept : plan ≡ was

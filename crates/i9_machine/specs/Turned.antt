@@ -43,7 +43,8 @@ pub record TurnsOn (g : Given) (h : List Item) (before m : Machine) (plan : Plan
   pub pages : AddsRecordsOnly before m (with_next (comes_next g (steps_on done h)) done)
 
 -- the end was answered, at the machine's turn
-pub record EndsTurn (g : Given) (h : List Item) (e : End) (before m : Machine) (plan : Plan) (old new : List Line) : Type 0 where
+pub record EndsTurn (g : Given) (h : List Item) (e : End) (before m : Machine) (plan : Plan)
+    (old new : List Line) : Type 0 where
   pub done : List Record
   pub finish : Finish
   pub answers : finish.end ≡ e

@@ -1,5 +1,6 @@
 //! The machine, one step at a time.
-ghost use Rattle.std.specs.Prelude.{◌≡◌, ◌-◌, ◌^◌, ◌<◌, ◌≤◌, [], ◌∷◌, length, max, ℕ, List, Option, None, Some, IfOk, IfSome, vec_len, vec_capacity, true, false};
+ghost use Rattle.std.specs.Prelude.{◌≡◌, ◌-◌, ◌^◌, ◌<◌, ◌≤◌, [], ◌∷◌, length, max, ℕ, List, Option, None, Some, IfOk};
+ghost use Rattle.std.specs.Prelude.{IfSome, vec_len, vec_capacity, true, false};
 ghost use Rattle.std.proofs.Props.{props};
 ghost use Rattle.i9_model.specs.declared.layout.TheConstants.{MAX_LENGTH};
 ghost use Rattle.i9_model.specs.declared.event.Timed.{Timed};
@@ -72,7 +73,8 @@ pub struct Machine {
 
 impl Machine {
     ghost use Rattle.i9_machine.specs.Coming.{HasArrived, HasRead, IsAhead, RunsAhead, IsReadyFor, Came};
-    ghost use Rattle.i9_machine.specs.StandsFor.{StandsFor, Follows, Advances, Proceeds, AnswersAgain, LeavesFewer, IsUnderWay, HasCome};
+    ghost use Rattle.i9_machine.specs.StandsFor.{StandsFor, Follows, Advances, Proceeds, AnswersAgain, LeavesFewer};
+    ghost use Rattle.i9_machine.specs.StandsFor.{IsUnderWay, HasCome};
     ghost use Rattle.i9_machine.specs.Issuing.{KeepsPlanned, IsMovedTo, IsPassedTo, IsMoved, IsSettled, IsQuiet};
     ghost use Rattle.i9_machine.specs.NewPages.{AddsNextOnly};
     ghost use Rattle.i9_machine.specs.Opening.{IsTimely};
@@ -153,11 +155,16 @@ impl Machine {
     /// fence is set, so that nothing issues below the turn at which they are; after an end none is. It succeeds
     /// at every moment, and takes no memory.
     pub fn settle(&mut self)
-        ensures fenced { (g : Given) (h : List Item) → StandsFor g h None self.old → StandsFor g (Fence ∷ h) None self.new }
-        ensures ended { (g : Given) (h : List Item) (f : Finish) → StandsFor g h (Some f) self.old → StandsFor g h (Some f) self.new }
-        ensures turn { (rs : List TimedNeed) → board.StandsFor self.old.board rs → self.new.turn ≡ max self.old.turn (end_turn rs) }
-        ensures quiet { (g : Given) (h : List Item) (end : Option Finish) → StandsFor g h end self.old → IsQuiet self.new }
-        ensures level { (g : Given) (h : List Item) (end : Option Finish) → StandsFor g h end self.old → IsLevel g h self.new.turn }
+        ensures fenced { (g : Given) (h : List Item) → StandsFor g h None self.old
+            → StandsFor g (Fence ∷ h) None self.new }
+        ensures ended { (g : Given) (h : List Item) (f : Finish) → StandsFor g h (Some f) self.old
+            → StandsFor g h (Some f) self.new }
+        ensures turn { (rs : List TimedNeed) → board.StandsFor self.old.board rs
+            → self.new.turn ≡ max self.old.turn (end_turn rs) }
+        ensures quiet { (g : Given) (h : List Item) (end : Option Finish) → StandsFor g h end self.old
+            → IsQuiet self.new }
+        ensures level { (g : Given) (h : List Item) (end : Option Finish) → StandsFor g h end self.old
+            → IsLevel g h self.new.turn }
         ensures room { KeepsRoom self.old.processor self.new.processor }
         ensures no_more { AddsNoPage self.old.processor self.new.processor }
     {
@@ -235,8 +242,8 @@ impl Machine {
         Turn::On
     }
 
-    /// One step of a machine for which nothing is open. Where `read` is set, nothing comes before the instruction in the
-    /// decode cache but an event.
+    /// One step of a machine for which nothing is open. Where `read` is set, nothing comes before the instruction in
+    /// the decode cache but an event.
     // Loops seldom come here, and this is no part of their code.
     #[inline(never)]
     fn step_drained(&mut self, read: bool, plan: &mut Schedule, out: &mut Vec<Line>) -> Turn
@@ -405,15 +412,16 @@ impl Machine {
         }
     }
 
-    /// As `advance`, behind the turns at which nothing comes, which it passes in one go: what comes next is done, or the
-    /// end is answered, and never does it answer that the turn moved alone. Memory is refused only where room was
+    /// As `advance`, behind the turns at which nothing comes, which it passes in one go: what comes next is done, or
+    /// the end is answered, and never does it answer that the turn moved alone. Memory is refused only where room was
     /// lacking before, or where new sets are to be made.
     // Each caller goes round a loop with it, and has its answer where it is made.
     #[inline(always)]
     pub fn proceed(&mut self, plan: &mut Schedule, out: &mut Vec<Line>) -> Turn
         requires stands { self.old.ended ≡ None → IsUnderWay self.old plan.old }
         ensures next { (g : Given) (h : List Item) → StandsFor g h None self.old → Follows g h plan.old
-            → Proceeds g h result self.old self.new plan.new (vec_capacity out.old - vec_len out.old) out.old.items out.new.items }
+            → Proceeds g h result self.old self.new plan.new
+            (vec_capacity out.old - vec_len out.old) out.old.items out.new.items }
         ensures again { (g : Given) (h : List Item) (f : Finish) → StandsFor g h (Some f) self.old
             → AnswersAgain f result self.old self.new out.old.items out.new.items × (plan.new ≡ plan.old) }
         ensures only { (g : Given) (h : List Item) → StandsFor g h None self.old → Follows g h plan.old

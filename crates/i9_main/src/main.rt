@@ -77,7 +77,8 @@ fn answer<F: Files, K: Sink>(
     out: &mut K,
 ) -> ExitCode
     ensures given { IfOk words (λ w. EndsWith
-        (shelf F.told F.faults F.fetches F.sure) (account K.told K.faults K.writes K.sure K.pieces) w.items (exit_status result)
+        (shelf F.told F.faults F.fetches F.sure) (account K.told K.faults K.writes K.sure K.pieces) w.items
+        (exit_status result)
         files.old files.new out.old out.new) }
     ensures memory { IfErr words (λ e. error_kind e ≡ ErrorKind.OutOfMemory → exit_status result ≡ 7) }
     ensures system { IfErr words (λ e. error_kind e ≢ ErrorKind.OutOfMemory → exit_status result ≡ 8) }

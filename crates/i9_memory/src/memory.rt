@@ -1,6 +1,8 @@
 //! Memory.
-ghost use Rattle.std.specs.Prelude.{◌≡◌, ℕ, ◌+◌, ◌*◌, ◌/◌, ◌%◌, ◌<◌, ◌≤◌, ◌↔◌, ◌∷◌, [], IsTrue, Some, OnOk, OnErr, IfOk, length};
-ghost use Rattle.i9_model.specs.Memory.{region_of, is_big, waits_of, half_in, word_in, words_in, ordered_word, half_bytes, word_bytes, with_bytes, with_words, with_mcon};
+ghost use Rattle.std.specs.Prelude.{◌≡◌, ℕ, ◌+◌, ◌*◌, ◌/◌, ◌%◌, ◌<◌, ◌≤◌, ◌↔◌, ◌∷◌, [], IsTrue, Some, OnOk, OnErr};
+ghost use Rattle.std.specs.Prelude.{IfOk, length};
+ghost use Rattle.i9_model.specs.Memory.{region_of, is_big, waits_of, half_in, word_in, words_in, ordered_word};
+ghost use Rattle.i9_model.specs.Memory.{half_bytes, word_bytes, with_bytes, with_words, with_mcon};
 
 use crate::order::{bytes_of_half, bytes_of_word, half_of, word_of};
 use crate::pages::{PAGE_SIZE, Page, Pages};
@@ -30,7 +32,8 @@ fn region_of(a: u32) -> u8
 
 #[tactic(auto, unfolding(crate::specs::Memory::memory_of, crate::specs::Memory::IsReserved))]
 impl Memory {
-    ghost use Rattle.i9_memory.specs.Memory.{no_memory, memory_of, IsReserved, HasRoom, HasNoRoom, KeepsRoom, AddsRoomOnly};
+    ghost use Rattle.i9_memory.specs.Memory.{no_memory, memory_of, IsReserved, HasRoom, HasNoRoom, KeepsRoom};
+    ghost use Rattle.i9_memory.specs.Memory.{AddsRoomOnly};
     ghost use Rattle.i9_memory.specs.Pages.{page_of};
 
     /// All bytes and configuration words are 0, and there is room for none.

@@ -1,5 +1,6 @@
 //! Bytes by address, in pages.
-ghost use Rattle.std.specs.Prelude.{◌≡◌, ◌≢◌, ℕ, ◌+◌, ◌/◌, ◌%◌, ◌^◌, ◌<◌, ◌≤◌, ◌↔◌, ◌∷◌, [], IsTrue, OnOk, OnErr, IfOk, IfSome, Some, length};
+ghost use Rattle.std.specs.Prelude.{◌≡◌, ◌≢◌, ℕ, ◌+◌, ◌/◌, ◌%◌, ◌^◌, ◌<◌, ◌≤◌, ◌↔◌, ◌∷◌, [], IsTrue, OnOk, OnErr, IfOk};
+ghost use Rattle.std.specs.Prelude.{IfSome, Some, length};
 ghost use Rattle.i9_model.specs.Writes.{wrapped, written, pairs_at, upwards};
 ghost use Rattle.i9_model.specs.Memory.{stored};
 
@@ -32,7 +33,8 @@ impl Page {
     /// The four bytes from a place up.
     pub(crate) fn four(&self, place: usize) -> [u8; 4]
         requires { place + 4 ≤ 256 }
-        ensures { result ≡ byte_in (Some self.now) place ∷ byte_in (Some self.now) (place + 1) ∷ byte_in (Some self.now) (place + 2) ∷ byte_in (Some self.now) (place + 3) ∷ [] }
+        ensures { result ≡ byte_in (Some self.now) place ∷ byte_in (Some self.now) (place + 1)
+            ∷ byte_in (Some self.now) (place + 2) ∷ byte_in (Some self.now) (place + 3) ∷ [] }
     {
         [
             self.bytes[place],
@@ -154,7 +156,8 @@ impl Pages {
     /// The four bytes from an address up, one by one.
     #[inline(never)]
     fn four_apart(&self, a: u32) -> [u8; 4]
-        ensures { result ≡ byte_of self.now a ∷ byte_of self.now (wrapped (a + 1)) ∷ byte_of self.now (wrapped (a + 2)) ∷ byte_of self.now (wrapped (a + 3)) ∷ [] }
+        ensures { result ≡ byte_of self.now a ∷ byte_of self.now (wrapped (a + 1)) ∷ byte_of self.now (wrapped (a + 2))
+            ∷ byte_of self.now (wrapped (a + 3)) ∷ [] }
     {
         [
             self.byte(a),
@@ -167,7 +170,8 @@ impl Pages {
     /// The four bytes from an address up.
     #[inline(always)]
     pub(crate) fn four(&self, a: u32) -> [u8; 4]
-        ensures { result ≡ byte_of self.now a ∷ byte_of self.now (wrapped (a + 1)) ∷ byte_of self.now (wrapped (a + 2)) ∷ byte_of self.now (wrapped (a + 3)) ∷ [] }
+        ensures { result ≡ byte_of self.now a ∷ byte_of self.now (wrapped (a + 1)) ∷ byte_of self.now (wrapped (a + 2))
+            ∷ byte_of self.now (wrapped (a + 3)) ∷ [] }
     {
         let place = (a % PAGE_SIZE) as usize;
         if place > 252 {

@@ -19,10 +19,11 @@ use Rattle.i9_model.specs.Requests.{request_hazard}
 use Rattle.i9_model.specs.Calls.{system_hazard_by, ret_hazard}
 use Rattle.i9_model.specs.Tables.{tables_hazard, group_hazard}
 use Rattle.i9_model.specs.Operands.{value, address}
-use Rattle.i9_model.specs.Step.{Message, AsksNothing, AsksCheck, AsksInterrupt, AsksRestart, AsksGroup, first_word, next_word, atomic_address, argument_of, asked_message}
+use Rattle.i9_model.specs.Step.{Message, AsksNothing, AsksCheck, AsksInterrupt, AsksRestart, AsksGroup, first_word}
+use Rattle.i9_model.specs.Step.{next_word, atomic_address, argument_of, asked_message}
 
--- a read or a write of so many bytes, both after one another, the save of a frame, a system procedure, a return, a request of
--- a vector, or as after a flush the reads of a PRCB with its control table, or of a control group
+-- a read or a write of so many bytes, both after one another, the save of a frame, a system procedure, a return, a
+-- request of a vector, or as after a flush the reads of a PRCB with its control table, or of a control group
 pub data Access : Type 0 where
   NoAccess : Access
   Reads : (address : ℕ) → (count : ℕ) → Access

@@ -1,7 +1,8 @@
 -- Effective addresses, of the values of the base and index registers and the instruction's own address.
 use Rattle.std.specs.Prelude.{ℕ, ◌+◌, ◌*◌, ◌^◌}
 use Rattle.i9_isa.specs.declared.inst.Mode.{Mode}
-use Rattle.i9_isa.specs.declared.inst.Mode.TheVariants.{Offset, BaseOffset, Base, Ip, BaseIndex, Disp, BaseDisp, IndexDisp, BaseIndexDisp}
+use Rattle.i9_isa.specs.declared.inst.Mode.TheVariants.{Offset, BaseOffset, Base, Ip, BaseIndex, Disp, BaseDisp}
+use Rattle.i9_isa.specs.declared.inst.Mode.TheVariants.{IndexDisp, BaseIndexDisp}
 use Rattle.i9_isa.specs.declared.inst.Ea.{Ea}
 use Rattle.i9_model.specs.Writes.{wrapped}
 

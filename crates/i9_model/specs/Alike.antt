@@ -1,5 +1,6 @@
 -- States that are alike: the same but for the bytes of memory that are not compared.
-use Rattle.std.specs.Prelude.{◌≡◌, ℕ, Bool, true, false, not, ◌||◌, ◌==◌, if◌then◌else◌, nat_le, List, [], ◌∷◌, Option, Some, None}
+use Rattle.std.specs.Prelude.{◌≡◌, ℕ, Bool, true, false, not, ◌||◌, ◌==◌, if◌then◌else◌, nat_le, List, [], ◌∷◌, Option}
+use Rattle.std.specs.Prelude.{Some, None}
 use Rattle.i9_model.specs.Writes.{address_count, wrapped}
 use Rattle.i9_model.specs.Memory.{Memory, in_port_page, console_byte}
 use Rattle.i9_model.specs.State.{State, Frames}
@@ -7,7 +8,8 @@ use Rattle.i9_model.specs.Frames.{in_frames, has}
 use Rattle.i9_model.specs.Stale.{picked, byte_marks}
 use Rattle.i9_model.specs.Step.{Move, Stays, Saves, Returns, Flushes, Action, first_word, next_word}
 use Rattle.i9_isa.specs.Words.{words_of}
-use Rattle.i9_model.specs.Run.{Kind, Instruction, Faulted, Entered, Interrupted, Reached, Record, Next, Does, Ends, faulted_words, action_by_kind, due_by}
+use Rattle.i9_model.specs.Run.{Kind, Instruction, Faulted, Entered, Interrupted, Reached, Record, Next, Does, Ends}
+use Rattle.i9_model.specs.Run.{faulted_words, action_by_kind, due_by}
 use Rattle.i9_model.specs.Access.{Access, access_of}
 
 -- no frame can have a byte here
@@ -40,9 +42,9 @@ pub record AreAlike (s t : State) : Type 0 where
 
 -- ---- states that agree but for stale values
 
--- Whether marks hide what has them. Where they do not, states are compared in all their registers and in all bytes of live
--- frames: so two machines that read soft bytes alike are compared. Where they do, states of machines that read soft bytes
--- in two ways are.
+-- Whether marks hide what has them. Where they do not, states are compared in all their registers and in all bytes of
+-- live frames: so two machines that read soft bytes alike are compared. Where they do, states of machines that read
+-- soft bytes in two ways are.
 abbrev pub shows : Bool → Bool → Bool
 shows hides mark = if hides then not mark else true
 
@@ -78,7 +80,8 @@ AreValuesAlike hides bs vs ws = ⊥
 -- writes at the same places, with the same values but for those that marks hide
 abbrev pub AreWritesAlike : Bool → List ℕ → List (ℕ × ℕ) → List (ℕ × ℕ) → Type 0
 AreWritesAlike hides marked [] [] = Unit {0}
-AreWritesAlike hides marked (p ∷ ps) (q ∷ qs) = (q.0 ≡ p.0) × (shows hides (has marked p.0) ≡ true → q.1 ≡ p.1) × AreWritesAlike hides marked ps qs
+AreWritesAlike hides marked (p ∷ ps) (q ∷ qs) = (q.0 ≡ p.0) × (shows hides (has marked p.0) ≡ true → q.1 ≡ p.1)
+    × AreWritesAlike hides marked ps qs
 AreWritesAlike hides marked ps qs = ⊥
 
 -- the same is done to frames, and a frame that is saved has the same words but for marked ones
@@ -130,8 +133,8 @@ access_by_kind (Instruction i) s = Some (access_of i s)
 access_by_kind (Faulted (Some i) fault) s = Some (access_of i s)
 access_by_kind _ s = None
 
--- records of the same kind and the same words, of actions that are alike, between states that agree; their accesses are the
--- same, the same is due after them, and the same byte goes to the console
+-- records of the same kind and the same words, of actions that are alike, between states that agree; their accesses are
+-- the same, the same is due after them, and the same byte goes to the console
 pub record DoAgree (hides : Bool) (r q : Record) : Type 0 where
   pub kind : q.kind ≡ r.kind
   pub before : Agree hides r.before q.before

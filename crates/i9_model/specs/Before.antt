@@ -10,7 +10,8 @@ use Rattle.i9_model.specs.Memory.{with_writes}
 use Rattle.i9_model.specs.State.{State, Interrupts}
 use Rattle.i9_model.specs.State as states
 use Rattle.i9_model.specs.Dma.{Unit, next_unit}
-use Rattle.i9_model.specs.Interrupts.{posted, posted_nmi, lowered, raised, chosen, chosen_soft, cleared, clearing_writes, record_writes, planned_interrupt_by}
+use Rattle.i9_model.specs.Interrupts.{posted, posted_nmi, lowered, raised, chosen, chosen_soft, cleared}
+use Rattle.i9_model.specs.Interrupts.{clearing_writes, record_writes, planned_interrupt_by}
 use Rattle.i9_model.specs.Stale.{area_hazard}
 use Rattle.i9_model.specs.Step.{Action, going, pushing}
 
@@ -25,7 +26,8 @@ choice_in s =
 -- its entry, or the hazard that this meets
 unfoldable pub interrupt_in : State → Chosen → Result Entry ℕ
 interrupt_in s c =
-    planned_interrupt_by s.memory s.frames s.tables.interrupt_table s.tables.interrupt_stack c s.pc s.ac (s.regs FP) (s.regs SP) (area_hazard s)
+    planned_interrupt_by s.memory s.frames s.tables.interrupt_table s.tables.interrupt_stack c s.pc s.ac (s.regs FP)
+    (s.regs SP) (area_hazard s)
 
 -- the bytes that it writes: those of its record, and then those that clear the request
 abbrev pub entry_writes : State → Chosen → Entry → List (ℕ × ℕ)

@@ -1,7 +1,8 @@
 -- Start-up: the boot record, the processor control block (PRCB) and the control table that it names.
 use Rattle.std.specs.Prelude.{ℕ, ◌+◌, ◌*◌, ◌%◌, bit_and, max, List, map, take, drop}
 use Rattle.std.specs.Int.{w32, from_le_bytes}
-use Rattle.i9_model.specs.declared.layout.TheConstants.{BOOT_BYTES, FIRST_INSTRUCTION, PRCB_POINTER, AC_MASK, LEAST_SETS}
+use Rattle.i9_model.specs.declared.layout.TheConstants.{BOOT_BYTES, FIRST_INSTRUCTION, PRCB_POINTER, AC_MASK}
+use Rattle.i9_model.specs.declared.layout.TheConstants.{LEAST_SETS}
 use Rattle.i9_model.specs.declared.setup.TheConstants.{CONTROL_WORDS}
 use Rattle.i9_model.specs.declared.setup.Setup.{Setup}
 use Rattle.i9_model.specs.declared.setup.Tables.{Tables}

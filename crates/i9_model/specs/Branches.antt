@@ -1,7 +1,10 @@
 -- What branches do: the condition code afterwards, and whether control goes to the target.
 use Rattle.std.specs.Prelude.{ℕ, Bool, true, false, not}
 use Rattle.i9_isa.specs.declared.op.Op.{Op}
-use Rattle.i9_isa.specs.declared.op.Op.TheVariants.{B, Bal, Bno, Bg, Be, Bge, Bl, Bne, Ble, Bo, Faultno, Faultg, Faulte, Faultge, Faultl, Faultne, Faultle, Faulto, Bbc, Bbs, Cmpobg, Cmpobe, Cmpobge, Cmpobl, Cmpobne, Cmpoble, Cmpibno, Cmpibg, Cmpibe, Cmpibge, Cmpibl, Cmpibne, Cmpible, Cmpibo}
+use Rattle.i9_isa.specs.declared.op.Op.TheVariants.{B, Bal, Bno, Bg, Be, Bge, Bl, Bne, Ble, Bo, Faultno, Faultg, Faulte}
+use Rattle.i9_isa.specs.declared.op.Op.TheVariants.{Faultge, Faultl, Faultne, Faultle, Faulto, Bbc, Bbs, Cmpobg, Cmpobe}
+use Rattle.i9_isa.specs.declared.op.Op.TheVariants.{Cmpobge, Cmpobl, Cmpobne, Cmpoble, Cmpibno, Cmpibg, Cmpibe, Cmpibge}
+use Rattle.i9_isa.specs.declared.op.Op.TheVariants.{Cmpibl, Cmpibne, Cmpible, Cmpibo}
 use Rattle.i9_isa.specs.declared.inst.Inst.{Inst}
 use Rattle.i9_model.specs.Conditions.{code_of, with_code, code_where, holds, compared, signed_compared, bit_in}
 

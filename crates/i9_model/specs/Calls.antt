@@ -1,8 +1,12 @@
 -- Calls and returns: what they make of frames and controls, or the hazard that they meet.
-use Rattle.std.specs.Prelude.{◌≡◌, ℕ, ◌+◌, ◌*◌, ◌%◌, ◌^◌, Bool, true, false, not, ◌==◌, ◌&&◌, ◌||◌, nat_le, nat_lt, if◌then◌else◌, bit_and, length, Option, None, Result, Ok, Err}
+use Rattle.std.specs.Prelude.{◌≡◌, ℕ, ◌+◌, ◌*◌, ◌%◌, ◌^◌, Bool, true, false, not, ◌==◌, ◌&&◌, ◌||◌, nat_le, nat_lt}
+use Rattle.std.specs.Prelude.{if◌then◌else◌, bit_and, length, Option, None, Result, Ok, Err}
 use Rattle.i9_isa.specs.Words.{bit, field}
 use Rattle.i9_model.specs.declared.interrupts.TheConstants.{PRIORITY_PLACE}
-use Rattle.i9_model.specs.declared.layout.TheConstants.{LOCALS, SUPERVISOR_PLACE, SUPERVISOR_STACK, SYSTEM_TABLE_ENTRIES, MOST_SYSTEM_CALL, ASKS_SUPERVISOR_PLACE, LOCAL_RETURN, FAULT_RETURN, SUPERVISOR_RETURN, INTERRUPT_RETURN, PC_MASK, AC_MASK}
+use Rattle.i9_model.specs.declared.layout.TheConstants.{LOCALS, SUPERVISOR_PLACE, SUPERVISOR_STACK}
+use Rattle.i9_model.specs.declared.layout.TheConstants.{SYSTEM_TABLE_ENTRIES, MOST_SYSTEM_CALL, ASKS_SUPERVISOR_PLACE}
+use Rattle.i9_model.specs.declared.layout.TheConstants.{LOCAL_RETURN, FAULT_RETURN, SUPERVISOR_RETURN, INTERRUPT_RETURN}
+use Rattle.i9_model.specs.declared.layout.TheConstants.{PC_MASK, AC_MASK}
 use Rattle.i9_model.specs.declared.push.Push.{Push}
 use Rattle.i9_model.specs.declared.calls.Sys.{Sys}
 use Rattle.i9_model.specs.declared.calls.CallsStop.{CallsStop}
@@ -62,8 +66,8 @@ is_switch entry pc = bit entry ASKS_SUPERVISOR_PLACE && not (in_supervisor_mode 
 abbrev pub stack_hazard : Frames → ℕ → Bool → Option ℕ
 stack_hazard f table switched = if switched then read_hazard f (stack_address table) 4 else None
 
--- the accesses of a procedure's entry: its word in the table, the supervisor stack word, and what is checked of the push, by
--- whether stacks are switched
+-- the accesses of a procedure's entry: its word in the table, the supervisor stack word, and what is checked of the
+-- push, by whether stacks are switched
 abbrev pub system_hazard_by : Memory → Frames → ℕ → ℕ → ℕ → (Bool → Option ℕ) → Option ℕ
 system_hazard_by m f table n pc area =
     or_else (read_hazard f (entry_address table n) 4)
@@ -79,7 +83,8 @@ system_hazard m f table n pc fp = system_hazard_by m f table n pc (save_area f f
 
 -- a procedure's frame is on the stack in use
 abbrev pub entered_here : ℕ → ℕ → ℕ → ℕ → ℕ → ℕ → Sys
-entered_here entry pc fp sp extra kind = record { push = pushed fp sp extra kind; target = aligned entry; pc = pc; switched = false }
+entered_here entry pc fp sp extra kind = record
+    { push = pushed fp sp extra kind; target = aligned entry; pc = pc; switched = false }
 
 -- a procedure's frame is on the supervisor stack: of its word, the low two bits are no address, and the lowest is
 -- the new trace enable
@@ -100,11 +105,13 @@ entered_by m table entry pc fp sp extra kind =
 
 -- procedure n is entered, above a record of so many bytes
 unfoldable pub system_entered : Memory → ℕ → ℕ → ℕ → ℕ → ℕ → ℕ → (Bool → ℕ) → Sys
-system_entered m table n pc fp sp extra kind = entered_by m table (word_in m (entry_address table n)) pc fp sp extra kind
+system_entered m table n pc fp sp extra kind = entered_by m table
+    (word_in m (entry_address table n)) pc fp sp extra kind
 
 -- what is planned of procedure n, or the hazard that it meets
 abbrev pub planned_system : Memory → Frames → ℕ → ℕ → ℕ → ℕ → ℕ → ℕ → (Bool → ℕ) → Result Sys ℕ
-planned_system m f table n pc fp sp extra kind = unless (system_hazard m f table n pc fp) (system_entered m table n pc fp sp extra kind)
+planned_system m f table n pc fp sp extra kind = unless (system_hazard m f table n pc fp)
+    (system_entered m table n pc fp sp extra kind)
 
 -- the return type of a system call: 000, or where stacks are switched 010 plus the old trace enable
 abbrev pub call_type : ℕ → Bool → ℕ
@@ -118,7 +125,8 @@ calls_answer (Err a) = Err (Hazard a)
 -- a system call, of a number that is not too great
 abbrev pub planned_calls : Memory → Frames → ℕ → ℕ → ℕ → ℕ → ℕ → Result Sys CallsStop
 planned_calls m f table n pc fp sp =
-    if nat_le n MOST_SYSTEM_CALL then calls_answer (planned_system m f table n pc fp sp 0 (call_type pc)) else Err Length
+    if nat_le n MOST_SYSTEM_CALL then calls_answer
+    (planned_system m f table n pc fp sp 0 (call_type pc)) else Err Length
 
 -- ---- returns
 
@@ -189,8 +197,10 @@ planned_ret m f pfp fp pc ac = unless (ret_hazard f pfp fp) (popped m f pfp fp p
 
 -- the return that undoes a system call goes to the frame that the call saved, with the controls from before it
 abbrev pub undone : Frames → Sys → ℕ → ℕ → Pop
-undone f s pc ac = record { frame = s.push.save; live = true; pc = pc; ac = ac; check = false; marks = return_marks f s.push.save }
+undone f s pc ac = record
+    { frame = s.push.save; live = true; pc = pc; ac = ac; check = false; marks = return_marks f s.push.save }
 
 -- a return right after a system call, made with the pfp, fp and process controls that the call left, undoes it
 abbrev pub Undoes : Memory → Frames → ℕ → ℕ → Sys → Type 0
-Undoes later f pc ac s = planned_ret later (saved f s.push.save) s.push.pfp s.push.frame s.pc ac ≡ Ok (undone (saved f s.push.save) s pc ac)
+Undoes later f pc ac s = planned_ret later (saved f s.push.save) s.push.pfp s.push.frame s.pc ac
+    ≡ Ok (undone (saved f s.push.save) s pc ac)

@@ -1,5 +1,6 @@
 -- What sysctl does to the controls: it starts the processor anew, or loads a control group.
-use Rattle.std.specs.Prelude.{ℕ, ◌-◌, ◌*◌, ◌==◌, Bool, ◌||◌, ◌&&◌, not, if◌then◌else◌, bit_and, slice_index, List, [], ◌∷◌}
+use Rattle.std.specs.Prelude.{ℕ, ◌-◌, ◌*◌, ◌==◌, Bool, ◌||◌, ◌&&◌, not, if◌then◌else◌, bit_and, slice_index, List, []}
+use Rattle.std.specs.Prelude.{◌∷◌}
 use Rattle.i9_model.specs.declared.layout.TheConstants.{TC_MASK}
 use Rattle.i9_model.specs.Boot.{setup_of, with_regions, configured}
 use Rattle.i9_model.specs.State.{State, start_sets, started}
@@ -25,7 +26,10 @@ with_breakpoints s ws = record s {
 
 -- the four words as the interrupt maps and the control word of pins
 abbrev pub with_maps : State → List ℕ → State
-with_maps s ws = record s { interrupts = record s.interrupts { maps = slice_index ws 0 ∷ slice_index ws 1 ∷ slice_index ws 2 ∷ []; icon = slice_index ws 3 } }
+with_maps s ws = record s {
+  interrupts = record s.interrupts
+      { maps = slice_index ws 0 ∷ slice_index ws 1 ∷ slice_index ws 2 ∷ []; icon = slice_index ws 3 };
+}
 
 -- the second and the third as the controls of breakpoints and of tracing
 abbrev pub with_trace_controls : State → List ℕ → State
@@ -49,8 +53,8 @@ with_group s group ws =
 abbrev pub marks_after : (ℕ → Bool) → List (ℕ × ℕ) → List ℕ → ℕ → Bool
 marks_after marks sets marked r = has marked r || (marks r && not (is_put sets r))
 
--- g0 to g14 with their marks, the bytes of memory, the frames, the levels of pins and the count stay where the processor
--- starts anew
+-- g0 to g14 with their marks, the bytes of memory, the frames, the levels of pins and the count stay where the
+-- processor starts anew
 abbrev pub controlled : State → Control → State
 controlled s KeepsControls = s
 controlled s (Restarts first prcb) =

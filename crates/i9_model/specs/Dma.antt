@@ -1,7 +1,9 @@
 -- DMA: what a channel is set up with, and the unit that it moves next.
-use Rattle.std.specs.Prelude.{ℕ, ◌+◌, ◌-◌, Bool, not, ◌==◌, ◌||◌, ◌&&◌, nat_lt, if◌then◌else◌, List, length, map, take, Option, Some, None, Result, Ok}
+use Rattle.std.specs.Prelude.{ℕ, ◌+◌, ◌-◌, Bool, not, ◌==◌, ◌||◌, ◌&&◌, nat_lt, if◌then◌else◌, List, length, map, take}
+use Rattle.std.specs.Prelude.{Option, Some, None, Result, Ok}
 use Rattle.i9_isa.specs.Words.{bit, field}
-use Rattle.i9_model.specs.declared.dma.TheConstants.{FIRST_ENDED_PLACE, SOURCE_HELD_PLACE, TARGET_HELD_PLACE, FED_PLACE, POSTS_PLACE}
+use Rattle.i9_model.specs.declared.dma.TheConstants.{FIRST_ENDED_PLACE, SOURCE_HELD_PLACE, TARGET_HELD_PLACE, FED_PLACE}
+use Rattle.i9_model.specs.declared.dma.TheConstants.{POSTS_PLACE}
 use Rattle.i9_model.specs.Writes.{wrapped, upwards}
 use Rattle.i9_model.specs.Memory.{Memory}
 use Rattle.i9_model.specs.State.{Frames, Dma, Channel}
@@ -16,7 +18,8 @@ with_channel d c channel = record d { channels = λ k. if k == c then channel el
 
 -- a channel that is set up is neither enabled nor ended
 unfoldable pub set_up : Dma → ℕ → Channel → Dma
-set_up d c channel = record (with_channel d c channel) { dmac = without_bit (without_bit d.dmac c) (FIRST_ENDED_PLACE + c) }
+set_up d c channel = record (with_channel d c channel)
+    { dmac = without_bit (without_bit d.dmac c) (FIRST_ENDED_PLACE + c) }
 
 -- ---- what a unit moves
 
@@ -29,7 +32,8 @@ unit_size control = size_by (field control 0 2)
 
 -- the lesser of a unit's size and of what is left
 abbrev pub unit_length : Channel → ℕ
-unit_length channel = if nat_lt channel.count (unit_size channel.control) then channel.count else unit_size channel.control
+unit_length channel = if nat_lt channel.count
+    (unit_size channel.control) then channel.count else unit_size channel.control
 
 -- bytes come from memory or from a device, as the control word says; a device gives as many as a unit has
 abbrev pub is_fit : Channel → Option (List ℕ) → Bool
@@ -99,7 +103,8 @@ unit m d c given = record {
   posts = is_last (d.channels c) && posts_at_end (d.channels c);
 }
 
--- The next unit of a channel, with the bytes that a device gives, or the hazard that it meets; none where nothing moves.
+-- The next unit of a channel, with the bytes that a device gives, or the hazard that it meets; none where nothing
+-- moves.
 unfoldable pub next_unit : Memory → Frames → Dma → ℕ → Option (List ℕ) → Result (Option Unit) ℕ
 next_unit m f d c given =
     if is_idle d c given then Ok None else unless (unit_hazard f (d.channels c) given) (Some (unit m d c given))

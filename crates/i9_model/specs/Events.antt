@@ -1,5 +1,6 @@
 -- Events: which words say them, and the words that a journal prints for them.
-use Rattle.std.specs.Prelude.{◌≡◌, ℕ, ◌≤◌, ◌⊎◌, List, [], ◌∷◌, length, ◌==◌, ◌||◌, nat_lt, if◌then◌else◌, codes, Option, Some, None, Result, Err}
+use Rattle.std.specs.Prelude.{◌≡◌, ℕ, ◌≤◌, ◌⊎◌, List, [], ◌∷◌, length, ◌==◌, ◌||◌, nat_lt, if◌then◌else◌, codes, Option}
+use Rattle.std.specs.Prelude.{Some, None, Result, Err}
 use Rattle.std.specs.Option.{option_and_then, ok_or}
 use Rattle.std.specs.Result.{result_ok}
 use Rattle.std.specs.List.{join_with_byte}

@@ -1,6 +1,7 @@
 -- Faults: the first that an instruction raises before it does anything, and the entry of a fault through the fault
 -- table.
-use Rattle.std.specs.Prelude.{ℕ, ◌+◌, ◌*◌, ◌/◌, ◌%◌, ◌^◌, Bool, true, false, not, ◌==◌, nat_le, nat_lt, ◌&&◌, ◌||◌, if◌then◌else◌, bit_and, List, [], ◌∷◌, Option, Some, None, Result, Ok, Err}
+use Rattle.std.specs.Prelude.{ℕ, ◌+◌, ◌*◌, ◌/◌, ◌%◌, ◌^◌, Bool, true, false, not, ◌==◌, nat_le, nat_lt, ◌&&◌, ◌||◌}
+use Rattle.std.specs.Prelude.{if◌then◌else◌, bit_and, List, [], ◌∷◌, Option, Some, None, Result, Ok, Err}
 use Rattle.i9_isa.specs.declared.op.Op.{Op}
 use Rattle.i9_isa.specs.declared.op.Op.TheVariants.{Calls, Modpc, Sdma, Sysctl}
 use Rattle.i9_isa.specs.declared.inst.Operand.{Operand}
@@ -8,7 +9,9 @@ use Rattle.i9_isa.specs.declared.inst.Operand.TheVariants.{Reg, Lit, Sfr}
 use Rattle.i9_isa.specs.declared.inst.Inst.{Inst}
 use Rattle.i9_isa.specs.Words.{bit, field}
 use Rattle.i9_model.specs.declared.layout.TheConstants.{MOST_SYSTEM_CALL, FAULT_RETURN, RECORD_SIZE}
-use Rattle.i9_model.specs.declared.faults.TheConstants.{OPERATION, PROTECTION, TYPE, UNALIGNED, INVALID_OPERAND, LENGTH, MISMATCH, FAULT_ENTRY_SIZE, SYSTEM_ENTRY, TRACE_MASK, NO_HANDLER, NO_SYSTEM_ENTRY, NO_PROCEDURE}
+use Rattle.i9_model.specs.declared.faults.TheConstants.{OPERATION, PROTECTION, TYPE, UNALIGNED, INVALID_OPERAND, LENGTH}
+use Rattle.i9_model.specs.declared.faults.TheConstants.{MISMATCH, FAULT_ENTRY_SIZE, SYSTEM_ENTRY, TRACE_MASK}
+use Rattle.i9_model.specs.declared.faults.TheConstants.{NO_HANDLER, NO_SYSTEM_ENTRY, NO_PROCEDURE}
 use Rattle.i9_model.specs.declared.faults.Fault.{Fault}
 use Rattle.i9_model.specs.declared.faults.Entry.{Entry}
 use Rattle.i9_model.specs.declared.faults.Handler.{Handler}
@@ -126,7 +129,8 @@ planned_handler m f at = do
 -- The handler is entered above a record and with the return type of a fault: on the stack in use, or as by a system
 -- call. What is checked of the push goes by whether stacks are switched.
 unfoldable pub planned_frame : Memory → Frames → ℕ → ℕ → ℕ → ℕ → (Bool → Option ℕ) → Handler → Result Sys ℕ
-planned_frame m f system pc fp sp area (Local target) = unless (area false) (entered_here target pc fp sp RECORD_SIZE FAULT_RETURN)
+planned_frame m f system pc fp sp area (Local target) = unless (area false)
+    (entered_here target pc fp sp RECORD_SIZE FAULT_RETURN)
 planned_frame m f system pc fp sp area (System n) =
     unless (system_hazard_by m f system n pc area) (system_entered m system n pc fp sp RECORD_SIZE (λ _. FAULT_RETURN))
 
@@ -139,11 +143,13 @@ abbrev pub fault_record : Fault → ℕ → ℕ → List ℕ
 fault_record fault pc ac = pc ∷ ac ∷ (fault.kind * 2 ^ 16 + fault.subtype) ∷ fault.address ∷ []
 
 abbrev pub entry_of : Fault → ℕ → ℕ → Sys → Entry
-entry_of fault pc ac s = record { push = s.push; target = s.target; pc = without_trace s.pc; words = fault_record fault pc ac }
+entry_of fault pc ac s = record
+    { push = s.push; target = s.target; pc = without_trace s.pc; words = fault_record fault pc ac }
 
 -- The entry of a fault by a fault table and a system procedure table, or what stops it first: the entry's words are
 -- read, then what a system procedure needs, then the frame is saved, and then the record is written.
-unfoldable pub planned_fault_by : Memory → Frames → ℕ → ℕ → Fault → ℕ → ℕ → ℕ → ℕ → (Bool → Option ℕ) → Result Entry FaultStop
+unfoldable pub planned_fault_by : Memory → Frames → ℕ → ℕ → Fault → ℕ → ℕ → ℕ → ℕ → (Bool → Option ℕ)
+    → Result Entry FaultStop
 planned_fault_by m f table system fault pc ac fp sp area = do
   handler ← planned_handler m f (table_entry table fault.kind)
   sys ← or_stop (planned_frame m f system pc fp sp area handler)

@@ -1,6 +1,7 @@
 -- Hazards: accesses that lean on the frame of a call that the processor may not have written to memory yet. Each names
 -- the least byte of the access that is concerned, counted upwards from its address.
-use Rattle.std.specs.Prelude.{ℕ, ◌+◌, Bool, ◌==◌, if◌then◌else◌, List, [], ◌∷◌, Option, Some, None, Result, Ok, Err, find}
+use Rattle.std.specs.Prelude.{ℕ, ◌+◌, Bool, ◌==◌, if◌then◌else◌, List, [], ◌∷◌, Option, Some, None, Result, Ok, Err}
+use Rattle.std.specs.Prelude.{find}
 use Rattle.i9_model.specs.declared.layout.TheConstants.{FRAME_SIZE, RECORD_SIZE}
 use Rattle.i9_model.specs.declared.push.Push.{Push}
 use Rattle.i9_model.specs.Writes.{wrapped, places_of}
@@ -61,4 +62,5 @@ planned_push s fp base extra kind = unless (save_hazard s (rounded_down fp)) (pu
 -- The record below a new frame is written once the old one is saved, and may not lie in the port page.
 unfoldable pub record_write_hazard : Frames → Push → Option ℕ
 record_write_hazard f push =
-    or_else (write_hazard (saved f push.save) (record_address push.frame) RECORD_SIZE) (port_hazard (record_address push.frame) RECORD_SIZE)
+    or_else (write_hazard (saved f push.save) (record_address push.frame) RECORD_SIZE)
+    (port_hazard (record_address push.frame) RECORD_SIZE)

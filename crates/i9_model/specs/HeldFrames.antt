@@ -1,5 +1,6 @@
 -- Frames held in sets, and the memory behind them: what each record of a run makes of both.
-use Rattle.std.specs.Prelude.{◌≡◌, ℕ, ◌+◌, ◌-◌, ◌*◌, ◌^◌, ◌<◌, nat_lt, if◌then◌else◌, Option, unwrap_or, List, [], ◌∷◌, ◌++◌, length, take, get_or}
+use Rattle.std.specs.Prelude.{◌≡◌, ℕ, ◌+◌, ◌-◌, ◌*◌, ◌^◌, ◌<◌, nat_lt, if◌then◌else◌, Option, unwrap_or, List, [], ◌∷◌}
+use Rattle.std.specs.Prelude.{◌++◌, length, take, get_or}
 use Rattle.std.specs.List.{AllByRecursion}
 use Rattle.i9_model.specs.declared.layout.TheConstants.{LOCALS}
 use Rattle.i9_model.specs.declared.frame.Frame.{Frame}
@@ -87,7 +88,8 @@ renewed asked m (LoadsGroup group) n = n
 -- what is held after the records of a run, and what is behind
 abbrev pub cache_after : Given → List Record → Cache
 cache_after g [] = cache [] (boot g.image).memory
-cache_after g (r ∷ rs) = cache_configured r.after.memory (cache_acted (sets_in g.sets r.before) (action_done r) (cache_after g rs))
+cache_after g (r ∷ rs) = cache_configured r.after.memory
+    (cache_acted (sets_in g.sets r.before) (action_done r) (cache_after g rs))
 
 -- ---- what they stand for
 

@@ -1,5 +1,6 @@
 -- Intel HEX text: what its lines say, as an image's pairs, and which fault a line has.
-use Rattle.std.specs.Prelude.{◌≡◌, ℕ, ◌+◌, ◌*◌, ◌/◌, ◌%◌, ◌≤◌, List, [], ◌∷◌, ◌++◌, length, slice_index, sum, Bool, true, false, not, ◌==◌, ◌||◌, nat_lt, if◌then◌else◌, Option, Some, None, Result, Ok, Err}
+use Rattle.std.specs.Prelude.{◌≡◌, ℕ, ◌+◌, ◌*◌, ◌/◌, ◌%◌, ◌≤◌, List, [], ◌∷◌, ◌++◌, length, slice_index, sum, Bool}
+use Rattle.std.specs.Prelude.{true, false, not, ◌==◌, ◌||◌, nat_lt, if◌then◌else◌, Option, Some, None, Result, Ok, Err}
 use Rattle.hex.specs.Hex.{decode_of}
 use Rattle.hex.specs.declared.error.FromHexError.{FromHexError}
 use Rattle.i9_text.specs.FirstFault as texts
@@ -85,7 +86,8 @@ start = record { pairs = []; origin = Upper 0; ended = false }
 
 -- the bytes of a record: count, address field with the high byte first, type, data and check byte
 abbrev pub record_bytes : ℕ → ℕ → List ℕ → ℕ → List ℕ
-record_bytes record_type address content check = length content ∷ address / 256 ∷ address % 256 ∷ record_type ∷ content ++ check ∷ []
+record_bytes record_type address content check = length content ∷ address / 256 ∷ address % 256 ∷ record_type ∷ content
+    ++ check ∷ []
 
 -- the line is a record: a colon, and two digits for each of its bytes, which with the check byte sum to 0 modulo 256
 pub record IsRecord (line : List ℕ) (record_type address : ℕ) (content : List ℕ) : Type 0 where
@@ -98,17 +100,22 @@ pub record IsRecord (line : List ℕ) (record_type address : ℕ) (content : Lis
 -- what a line without fault says: nothing where it is empty, else one case for each type of record
 pub data Says : HexState → List ℕ → HexState → Type 0 where
   says_nothing : (s : HexState) → Says s [] s
-  says_bytes : (s : HexState) (line : List ℕ) (a : ℕ) (bs : List ℕ) → s.ended ≡ false → IsRecord line data_type a bs → length s.pairs + length bs ≤ most_bytes
+  says_bytes : (s : HexState) (line : List ℕ) (a : ℕ) (bs : List ℕ) → s.ended ≡ false → IsRecord line data_type a bs
+      → length s.pairs + length bs ≤ most_bytes
       → Says s line (record s { pairs = s.pairs ++ pairs_at (address_in s.origin) a bs })
   says_end : (s : HexState) (line : List ℕ) (a : ℕ) → s.ended ≡ false → IsRecord line end_type a []
       → Says s line (record s { ended = true })
-  says_base : (s : HexState) (line : List ℕ) (a high low : ℕ) → s.ended ≡ false → IsRecord line base_type a (high ∷ low ∷ [])
+  says_base : (s : HexState) (line : List ℕ) (a high low : ℕ) → s.ended ≡ false
+      → IsRecord line base_type a (high ∷ low ∷ [])
       → Says s line (record s { origin = Base (high * 256 + low) })
-  says_start_segment : (s : HexState) (line : List ℕ) (a : ℕ) (c : List ℕ) → s.ended ≡ false → length c ≡ 4 → IsRecord line start_segment_type a c
+  says_start_segment : (s : HexState) (line : List ℕ) (a : ℕ) (c : List ℕ) → s.ended ≡ false → length c ≡ 4
+      → IsRecord line start_segment_type a c
       → Says s line s
-  says_upper : (s : HexState) (line : List ℕ) (a high low : ℕ) → s.ended ≡ false → IsRecord line upper_type a (high ∷ low ∷ [])
+  says_upper : (s : HexState) (line : List ℕ) (a high low : ℕ) → s.ended ≡ false
+      → IsRecord line upper_type a (high ∷ low ∷ [])
       → Says s line (record s { origin = Upper (high * 256 + low) })
-  says_start_address : (s : HexState) (line : List ℕ) (a : ℕ) (c : List ℕ) → s.ended ≡ false → length c ≡ 4 → IsRecord line start_address_type a c
+  says_start_address : (s : HexState) (line : List ℕ) (a : ℕ) (c : List ℕ) → s.ended ≡ false → length c ≡ 4
+      → IsRecord line start_address_type a c
       → Says s line s
 
 -- ---- which fault a line has

@@ -1,9 +1,12 @@
 -- Interrupts: how they are posted, which one is chosen, and what its entry makes.
-use Rattle.std.specs.Prelude.{ℕ, ◌+◌, ◌-◌, ◌*◌, ◌/◌, ◌%◌, ◌^◌, Bool, true, false, ◌==◌, ◌&&◌, ◌||◌, not, nat_lt, if◌then◌else◌, slice_index, List, [], ◌∷◌, ◌++◌, map, filter, flat_map, find, Option, Some, None, Result}
+use Rattle.std.specs.Prelude.{ℕ, ◌+◌, ◌-◌, ◌*◌, ◌/◌, ◌%◌, ◌^◌, Bool, true, false, ◌==◌, ◌&&◌, ◌||◌, not, nat_lt}
+use Rattle.std.specs.Prelude.{if◌then◌else◌, slice_index, List, [], ◌∷◌, ◌++◌, map, filter, flat_map, find, Option}
+use Rattle.std.specs.Prelude.{Some, None, Result}
 use Rattle.std.specs.List.{range_with_len}
 use Rattle.i9_isa.specs.Words.{bit, field}
 use Rattle.i9_model.specs.declared.layout.TheConstants.{RECORD_SIZE, INTERRUPT_RETURN, SUPERVISOR_PLACE}
-use Rattle.i9_model.specs.declared.interrupts.TheConstants.{LINES, NMI_VECTOR, HIGHEST_PRIORITY, PRIORITY_PLACE, INTERRUPTED_PLACE, PENDING_SIZE, VECTOR_WORDS}
+use Rattle.i9_model.specs.declared.interrupts.TheConstants.{LINES, NMI_VECTOR, HIGHEST_PRIORITY, PRIORITY_PLACE}
+use Rattle.i9_model.specs.declared.interrupts.TheConstants.{INTERRUPTED_PLACE, PENDING_SIZE, VECTOR_WORDS}
 use Rattle.i9_model.specs.declared.interrupts.Cause.{Cause}
 use Rattle.i9_model.specs.declared.interrupts.Cause.TheVariants.{Nmi, Line, Soft}
 use Rattle.i9_model.specs.declared.interrupts.Chosen.{Chosen}
@@ -15,7 +18,8 @@ use Rattle.i9_model.specs.State.{Frames, Interrupts, aligned}
 pub use Rattle.i9_model.specs.Pins.{by_edge, is_low, pending_word}
 use Rattle.i9_model.specs.Frames.{saved, wrote, pushed, record_address}
 use Rattle.i9_model.specs.Hazards.{or_else, unless, read_hazard, record_write_hazard}
-pub use Rattle.i9_model.specs.Requests.{with_bit, without_bit, vector_priority, priority_place, pending_place, byte_hazard}
+pub use Rattle.i9_model.specs.Requests.{with_bit, without_bit, vector_priority, priority_place, pending_place}
+pub use Rattle.i9_model.specs.Requests.{byte_hazard}
 unfoldable pub use Rattle.i9_model.specs.Requests.{request_hazard, request_writes}
 use Rattle.i9_model.specs.Calls.{save_area}
 pub use Rattle.i9_model.specs.Calls.{priority_of}
@@ -79,8 +83,8 @@ lines_with maps v = map (λ k. choice (Line k) v) (filter (λ k. line_vector map
 abbrev pub choices_at : List ℕ → ℕ → List Chosen
 choices_at maps p = flat_map (lines_with maps) (vectors_of p) ++ map (choice Soft) (vectors_of p)
 
--- All that may be chosen, in the order of preference: from the highest priority down to 1. A vector below 8 has priority 0,
--- and is never chosen.
+-- All that may be chosen, in the order of preference: from the highest priority down to 1. A vector below 8 has
+-- priority 0, and is never chosen.
 abbrev pub choices : List ℕ → List Chosen
 choices maps = flat_map (choices_at maps) (below (HIGHEST_PRIORITY + 1) HIGHEST_PRIORITY)
 
@@ -173,9 +177,11 @@ record_writes m push words = upwards (record_address push.frame) (bytes_of_words
 -- What is read of the requests after the push and its record: bytes of the saved frame are soft then, and are not read.
 abbrev pub cleared_hazard : Memory → Frames → ℕ → Chosen → Push → List ℕ → Option ℕ
 cleared_hazard m f table c push words =
-    clearing_hazard c.cause (with_writes m (record_writes m push words)) (wrote (saved f push.save) (record_writes m push words)) table c.vector
+    clearing_hazard c.cause (with_writes m (record_writes m push words))
+    (wrote (saved f push.save) (record_writes m push words)) table c.vector
 
--- the accesses of an entry: the word of its vector, what is checked of the push, its record, and what clears its request
+-- the accesses of an entry: the word of its vector, what is checked of the push, its record, and what clears its
+-- request
 unfoldable pub interrupt_hazard : Memory → Frames → ℕ → Chosen → Push → List ℕ → Option ℕ → Option ℕ
 interrupt_hazard m f table c push words area =
     or_else (read_hazard f (vector_place table c.vector) 4)
@@ -191,11 +197,13 @@ interrupt_entry m table c push words = record {
 }
 
 -- what the entry of an interrupt makes, or the hazard that it meets
-unfoldable pub planned_interrupt_by : Memory → Frames → ℕ → ℕ → Chosen → ℕ → ℕ → ℕ → ℕ → (Bool → Option ℕ) → Result Entry ℕ
+unfoldable pub planned_interrupt_by : Memory → Frames → ℕ → ℕ → Chosen → ℕ → ℕ → ℕ → ℕ → (Bool → Option ℕ)
+    → Result Entry ℕ
 planned_interrupt_by m f table stack c pc ac fp sp area =
     let push = interrupt_push stack pc fp sp in
     let words = interrupt_record c.vector pc ac in
-    unless (interrupt_hazard m f table c push words (area (not (bit pc INTERRUPTED_PLACE)))) (interrupt_entry m table c push words)
+    unless (interrupt_hazard m f table c push words (area (not (bit pc INTERRUPTED_PLACE))))
+    (interrupt_entry m table c push words)
 
 -- of the push, the save area is checked alone
 abbrev pub planned_interrupt : Memory → Frames → ℕ → ℕ → Chosen → ℕ → ℕ → ℕ → ℕ → Result Entry ℕ

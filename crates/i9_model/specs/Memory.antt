@@ -1,5 +1,6 @@
 -- Memory: a byte for each address below 2^32, and the memory configuration word of each of its sixteen regions.
-use Rattle.std.specs.Prelude.{ℕ, ◌+◌, ◌*◌, ◌/◌, ◌%◌, ◌^◌, Bool, not, ◌==◌, ◌&&◌, nat_le, nat_lt, if◌then◌else◌, List, [], ◌∷◌, filter, map, Option, Some}
+use Rattle.std.specs.Prelude.{ℕ, ◌+◌, ◌*◌, ◌/◌, ◌%◌, ◌^◌, Bool, not, ◌==◌, ◌&&◌, nat_le, nat_lt, if◌then◌else◌, List}
+use Rattle.std.specs.Prelude.{[], ◌∷◌, filter, map, Option, Some}
 use Rattle.std.specs.List.{range_with_len}
 use Rattle.std.specs.Option.{option_and_then}
 use Rattle.std.specs.Int.{w16, w32, from_le_bytes, from_be_bytes, to_le_bytes, to_be_bytes}
@@ -42,7 +43,8 @@ abbrev pub ordered_word : Memory → ℕ → List ℕ → ℕ
 ordered_word m a bytes = if is_big m (region_of a) then from_be_bytes w32 bytes else from_le_bytes w32 bytes
 
 unfoldable pub word_in : Memory → ℕ → ℕ
-word_in m a = ordered_word m a (m.bytes a ∷ m.bytes (wrapped (a + 1)) ∷ m.bytes (wrapped (a + 2)) ∷ m.bytes (wrapped (a + 3)) ∷ [])
+word_in m a = ordered_word m a
+    (m.bytes a ∷ m.bytes (wrapped (a + 1)) ∷ m.bytes (wrapped (a + 2)) ∷ m.bytes (wrapped (a + 3)) ∷ [])
 
 -- the bytes of a half and of a word that are stored at an address
 unfoldable pub half_bytes : Memory → ℕ → ℕ → List ℕ

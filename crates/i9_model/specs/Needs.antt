@@ -1,8 +1,11 @@
 -- What a record needs: its side, the resources that it reads and writes, whether it is a request, slow or a barrier,
 -- and how long it takes.
-use Rattle.std.specs.Prelude.{ℕ, zero, suc, ◌+◌, ◌*◌, ◌^◌, ◌==◌, ◌&&◌, ◌||◌, not, Bool, true, false, if◌then◌else◌, Option, Some, None, is_some}
+use Rattle.std.specs.Prelude.{ℕ, zero, suc, ◌+◌, ◌*◌, ◌^◌, ◌==◌, ◌&&◌, ◌||◌, not, Bool, true, false, if◌then◌else◌}
+use Rattle.std.specs.Prelude.{Option, Some, None, is_some}
 use Rattle.i9_isa.specs.declared.op.Op.{Op}
-use Rattle.i9_isa.specs.declared.op.Op.TheVariants.{Atadd, Atmod, Call, Callx, Calls, Ret, Flushreg, Syncf, Modac, Modtc, Modpc, Sysctl, Sdma, Mulo, Muli, Emul, Divo, Divi, Remo, Remi, Modi, Ediv}
+use Rattle.i9_isa.specs.declared.op.Op.TheVariants.{Atadd, Atmod, Call, Callx, Calls, Ret, Flushreg, Syncf, Modac}
+use Rattle.i9_isa.specs.declared.op.Op.TheVariants.{Modtc, Modpc, Sysctl, Sdma, Mulo, Muli, Emul, Divo, Divi, Remo}
+use Rattle.i9_isa.specs.declared.op.Op.TheVariants.{Remi, Modi, Ediv}
 use Rattle.i9_isa.specs.declared.inst.Operand.{Operand}
 use Rattle.i9_isa.specs.declared.inst.Operand.TheVariants.{Reg, Lit, Sfr}
 use Rattle.i9_isa.specs.declared.inst.Inst.{Inst}
@@ -86,7 +89,8 @@ is_barrier_name _ = false
 -- the turns of an instruction that does not fault but by its result: those of its name, its waits, and 16 for each
 -- frame
 abbrev pub cost_by : Op → ℕ → ℕ → ℕ
-cost_by op waits frames = latency_of op + (if has_access op then waits else 0) + 16 * (if moves_frames op then frames else 0)
+cost_by op waits frames = latency_of op + (if has_access op then waits else 0) + 16 *
+    (if moves_frames op then frames else 0)
 
 -- the operand is a special function register, and words are written to it
 abbrev pub is_written_sfr : Operand → ℕ → Bool

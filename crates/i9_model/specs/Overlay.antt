@@ -4,8 +4,8 @@ use Rattle.i9_model.specs.Memory.{in_port_page}
 use Rattle.i9_model.specs.State.{State}
 use Rattle.i9_model.specs.Frames.{is_kept}
 
--- A byte of a state: 0 in the port page; not compared where it is soft and in no word of a live frame that is not marked;
--- else the byte of memory, where the words of live frames are.
+-- A byte of a state: 0 in the port page; not compared where it is soft and in no word of a live frame that is not
+-- marked; else the byte of memory, where the words of live frames are.
 unfoldable pub overlay : State → ℕ → Option ℕ
 overlay s a =
     if in_port_page a then Some 0

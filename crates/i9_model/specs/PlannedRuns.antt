@@ -21,7 +21,8 @@ pub record IsHeedful (next : Stepping) (t : Tally) : Type 0 where
   pub quiet : (rs : List Record) (r : Record) → next None rs ≡ Does r → t.reached (r ∷ rs) ≡ t.reached rs
   pub silent : (rs : List Record) (f : Finish) → next None rs ≡ Ends f → f.event ≡ None
   pub heard : (rs : List Record) (e : Event) → (next (Some e) rs ≡ next None rs)
-      ⊎ ((r : Record) × (next (Some e) rs ≡ Does r) × (t.reached (r ∷ rs) ≡ t.reached rs ++ timed_at (t.count rs) e ∷ []))
+      ⊎ ((r : Record) × (next (Some e) rs ≡ Does r)
+      × (t.reached (r ∷ rs) ≡ t.reached rs ++ timed_at (t.count rs) e ∷ []))
       ⊎ ((f : Finish) × (next (Some e) rs ≡ Ends f) × (f.event ≡ Some e))
 
 -- what comes after records by a plan: the event that stands is the first that was not reached, once its count has come
@@ -36,8 +37,8 @@ reached_with t rs f = t.reached rs ++ reached_last (t.count rs) f.event
 abbrev pub IsPastBy : Stepping → Tally → List Timed → List Record → Type 0
 IsPastBy next t plan rs = IsPastOf (next_by next t plan) rs
 
--- No record makes the count less; and where an event would be reached, by a record or with the end, what is done without
--- it is an instruction.
+-- No record makes the count less; and where an event would be reached, by a record or with the end, what is done
+-- without it is an instruction.
 pub record IsCounted (next : Stepping) (t : Tally) : Type 0 where
   pub grows : (o : Option Event) (rs : List Record) (r : Record) → next o rs ≡ Does r → t.count rs ≤ t.count (r ∷ rs)
   pub counts : (rs : List Record) (e : Event) (q r : Record) → next (Some e) rs ≡ Does q

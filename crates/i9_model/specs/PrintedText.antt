@@ -1,5 +1,6 @@
 -- The printed text of a run: its lines, and their bytes.
-use Rattle.std.specs.Prelude.{ℕ, ◌+◌, ◌==◌, if◌then◌else◌, Option, Some, None, List, [], ◌∷◌, ◌++◌, codes, map, slice_index}
+use Rattle.std.specs.Prelude.{ℕ, ◌+◌, ◌==◌, if◌then◌else◌, Option, Some, None, List, [], ◌∷◌, ◌++◌, codes, map}
+use Rattle.std.specs.Prelude.{slice_index}
 use Rattle.std.specs.Fmt.{decimal}
 use Rattle.std.specs.List.{flat_map, range_with_len}
 use Rattle.i9_isa.specs.Words.{bit}
@@ -15,7 +16,8 @@ use Rattle.i9_model.specs.Needs.{set_below}
 use Rattle.i9_model.specs.Events.{journal_text}
 use Rattle.i9_model.specs.ScheduleText.{levels_version, timed_at}
 use Rattle.i9_model.specs.State.{State}
-use Rattle.i9_model.specs.Run.{Given, Point, End, Exit, Limit, Hazard, Dead, Imprecise, Finish, Kind, Instruction, Faulted, Entered, Interrupted, Reached, Record, point_of, action_done, state_after}
+use Rattle.i9_model.specs.Run.{Given, Point, End, Exit, Limit, Hazard, Dead, Imprecise, Finish, Kind, Instruction}
+use Rattle.i9_model.specs.Run.{Faulted, Entered, Interrupted, Reached, Record, point_of, action_done, state_after}
 use Rattle.i9_model.specs.declared.run.Point.TheVariants as points
 
 -- a printed line; a drained point has three
@@ -32,7 +34,15 @@ register_list regs = map regs (range_with_len 0 32)
 
 -- what is shown of a state, with the marks of its registers as a number
 abbrev pub view_of : State → View
-view_of s = record { count = s.count; ip = s.ip; ac = s.ac; pc = s.pc; tc = s.trace.tc; regs = register_list s.regs; marks = set_below 32 s.marks }
+view_of s = record {
+  count = s.count;
+  ip = s.ip;
+  ac = s.ac;
+  pc = s.pc;
+  tc = s.trace.tc;
+  regs = register_list s.regs;
+  marks = set_below 32 s.marks;
+}
 
 -- ---- the lines of a run
 
@@ -70,7 +80,8 @@ event_lines (Reached e u) s = Journal s.count e ∷ bytes_lines e s
 -- the lines of a record: those of an event, from the state before it; a console byte; and a drained point
 abbrev pub record_lines : Record → List Shown
 record_lines r =
-    event_lines r.kind r.before ++ (out_lines (console_byte (action_done r).writes) ++ point_lines (point_of r.kind) r.after)
+    event_lines r.kind r.before
+    ++ (out_lines (console_byte (action_done r).writes) ++ point_lines (point_of r.kind) r.after)
 
 -- the line of the event that was reached with an end, where one was
 abbrev pub journal_lines : ℕ → Option Event → List Shown
@@ -117,7 +128,8 @@ drained_text points.End = codes "end"
 
 -- the count and kind of a drained point, and its address, AC and PC
 unfoldable pub point_text : Point → View → List ℕ
-point_text k v = words_text (codes "#point " ++ decimal v.count ++ codes " " ++ drained_text k) (v.ip ∷ v.ac ∷ v.pc ∷ [])
+point_text k v = words_text (codes "#point " ++ decimal v.count ++ codes " " ++ drained_text k)
+    (v.ip ∷ v.ac ∷ v.pc ∷ [])
 
 unfoldable pub end_text : End → List ℕ
 end_text (Exit w) = words_text (codes "#end exit") (w ∷ [])

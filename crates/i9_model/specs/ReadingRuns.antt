@@ -18,7 +18,8 @@ state_from s (r ∷ rs) = r.after
 
 abbrev pub next_from : State → Given → List Record → Next
 next_from s g rs =
-    next_in g.length (due_after rs) (standing g.plan (length (reached_after rs)) (state_from s rs).count) (state_from s rs)
+    next_in g.length (due_after rs) (standing g.plan (length (reached_after rs)) (state_from s rs).count)
+    (state_from s rs)
 
 -- these are the records of the run of such a machine, and this is its end
 pub record IsRunReading (reading : ℕ → ℕ) (g : Given) (rs : List Record) (f : Finish) : Type 0 where

@@ -1,11 +1,20 @@
 -- Results of instructions over registers: the words for the destination, the arithmetic controls afterwards, and
 -- perhaps a fault. The table is that of the i960 CA/CF User's Manual, instruction set; what is this project's own is
 -- said beside it. Numbers are whole numbers without bound, reduced at the end.
-use Rattle.std.specs.Prelude.{ℕ, ◌+◌, ◌*◌, ◌/◌, ◌%◌, ◌^◌, ◌==◌, nat_lt, nat_le, Option, Some, None, bit_and, bit_or, bit_xor, Bool, true, false, not, ◌||◌, List, [], ◌∷◌, slice_index, if◌then◌else◌, ℤ, pos, ◌+ℤ◌, ◌-ℤ◌, ◌*ℤ◌, int_lt}
+use Rattle.std.specs.Prelude.{ℕ, ◌+◌, ◌*◌, ◌/◌, ◌%◌, ◌^◌, ◌==◌, nat_lt, nat_le, Option, Some, None, bit_and, bit_or}
+use Rattle.std.specs.Prelude.{bit_xor, Bool, true, false, not, ◌||◌, List, [], ◌∷◌, slice_index, if◌then◌else◌, ℤ, pos}
+use Rattle.std.specs.Prelude.{◌+ℤ◌, ◌-ℤ◌, ◌*ℤ◌, int_lt}
 use Rattle.std.specs.Int.{from_bool}
 use Rattle.std.specs.Int.RustNames.{int_div, int_rem}
 use Rattle.i9_isa.specs.declared.op.Op.{Op}
-use Rattle.i9_isa.specs.declared.op.Op.TheVariants.{And, Or, Xor, Nor, Xnor, Nand, Andnot, Notand, Ornot, Notor, Not, Modify, Mov, Setbit, Clrbit, Notbit, Alterbit, Chkbit, Addo, Subo, Mulo, Addi, Subi, Muli, Addc, Subc, Emul, Divo, Remo, Divi, Remi, Modi, Shro, Shlo, Shri, Shrdi, Shli, Rotate, Extract, Cmpo, Cmpi, Cmpinco, Cmpinci, Cmpdeco, Cmpdeci, Concmpo, Concmpi, Scanbyte, Spanbit, Scanbit, Testno, Testg, Teste, Testge, Testl, Testne, Testle, Testo, Movl, Movt, Movq, Ediv, Atadd, Atmod, Modac, Modtc, Modpc, Sdma, Udma, Sysctl, Calls, Mark, Fmark, Flushreg, Syncf}
+use Rattle.i9_isa.specs.declared.op.Op.TheVariants.{And, Or, Xor, Nor, Xnor, Nand, Andnot, Notand, Ornot, Notor, Not}
+use Rattle.i9_isa.specs.declared.op.Op.TheVariants.{Modify, Mov, Setbit, Clrbit, Notbit, Alterbit, Chkbit, Addo, Subo}
+use Rattle.i9_isa.specs.declared.op.Op.TheVariants.{Mulo, Addi, Subi, Muli, Addc, Subc, Emul, Divo, Remo, Divi, Remi}
+use Rattle.i9_isa.specs.declared.op.Op.TheVariants.{Modi, Shro, Shlo, Shri, Shrdi, Shli, Rotate, Extract, Cmpo, Cmpi}
+use Rattle.i9_isa.specs.declared.op.Op.TheVariants.{Cmpinco, Cmpinci, Cmpdeco, Cmpdeci, Concmpo, Concmpi, Scanbyte}
+use Rattle.i9_isa.specs.declared.op.Op.TheVariants.{Spanbit, Scanbit, Testno, Testg, Teste, Testge, Testl, Testne}
+use Rattle.i9_isa.specs.declared.op.Op.TheVariants.{Testle, Testo, Movl, Movt, Movq, Ediv, Atadd, Atmod, Modac, Modtc}
+use Rattle.i9_isa.specs.declared.op.Op.TheVariants.{Modpc, Sdma, Udma, Sysctl, Calls, Mark, Fmark, Flushreg, Syncf}
 use Rattle.i9_isa.specs.declared.inst.Inst.{Inst}
 use Rattle.i9_isa.specs.declared.format.Format.{Format}
 use Rattle.i9_isa.specs.Table.{row_of}
@@ -142,7 +151,8 @@ result_of Mov a b c ac = Some (word a ac)
 result_of Setbit a b c ac = Some (word (bit_or b (bit_word a)) ac)
 result_of Clrbit a b c ac = Some (word (bit_and b (complement (bit_word a))) ac)
 result_of Notbit a b c ac = Some (word (bit_xor b (bit_word a)) ac)
-result_of Alterbit a b c ac = Some (word (if bit ac 1 then bit_or b (bit_word a) else bit_and b (complement (bit_word a))) ac)
+result_of Alterbit a b c ac = Some
+    (word (if bit ac 1 then bit_or b (bit_word a) else bit_and b (complement (bit_word a))) ac)
 result_of Chkbit a b c ac = Some (code (code_where (bit_in b a)) ac)
 -- sums, differences and products
 result_of Addo a b c ac = Some (word (wrapped (b + a)) ac)
@@ -198,7 +208,8 @@ abbrev pub results_by : Op → List ℕ → List ℕ → ℕ → ℕ → Option 
 results_by Movl a b c ac = Some (words (slice_index a 0 ∷ slice_index a 1 ∷ []) ac)
 results_by Movt a b c ac = Some (words (slice_index a 0 ∷ slice_index a 1 ∷ slice_index a 2 ∷ []) ac)
 results_by Movq a b c ac = Some (words (slice_index a 0 ∷ slice_index a 1 ∷ slice_index a 2 ∷ slice_index a 3 ∷ []) ac)
-results_by Ediv a b c ac = Some (divided (slice_index a 0) (words (long_divided (long (slice_index b 0) (slice_index b 1)) (slice_index a 0)) ac) ac)
+results_by Ediv a b c ac = Some
+    (divided (slice_index a 0) (words (long_divided (long (slice_index b 0) (slice_index b 1)) (slice_index a 0)) ac) ac)
 results_by op a b c ac = result_of op (slice_index a 0) (slice_index b 0) c ac
 
 -- what an instruction gives

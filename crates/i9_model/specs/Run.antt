@@ -1,5 +1,6 @@
 -- A run as the list of its records, newest first.
-use Rattle.std.specs.Prelude.{◌≡◌, ℕ, ◌==◌, if◌then◌else◌, Option, Some, None, List, [], ◌∷◌, ◌++◌, length, Result, Ok, Err}
+use Rattle.std.specs.Prelude.{◌≡◌, ℕ, ◌==◌, if◌then◌else◌, Option, Some, None, List, [], ◌∷◌, ◌++◌, length, Result, Ok}
+use Rattle.std.specs.Prelude.{Err}
 use Rattle.std.specs.Option.{option_map}
 use Rattle.i9_isa.specs.declared.op.Op.{Op}
 use Rattle.i9_isa.specs.declared.op.Op.TheVariants.{Flushreg, Syncf}
@@ -161,7 +162,8 @@ next_by_entry s (Err (stops.Dead code a)) = Ends (finish (Dead code a))
 
 -- the entry of a fault in a state
 unfoldable pub entry_in : State → Fault → Result Entry FaultStop
-entry_in s fault = planned_fault_by s.memory s.frames s.tables.fault_table s.tables.system_table fault s.pc s.ac (s.regs FP) (s.regs SP) (area_hazard s)
+entry_in s fault = planned_fault_by s.memory s.frames s.tables.fault_table s.tables.system_table fault s.pc s.ac
+    (s.regs FP) (s.regs SP) (area_hazard s)
 
 -- an event does what it does, unless that meets a hazard; it is reached in either case
 abbrev pub next_by_received : State → Event → Result Received ℕ → Next
@@ -189,7 +191,8 @@ next_by_choice stands s (Err a) = Ends (finish (Hazard a))
 abbrev pub next_in : ℕ → Due → Option Event → State → Next
 next_in limit (dues.End f) stands s = Ends (finish f)
 next_in limit (dues.Entry fault) stands s = next_by_entry s (entry_in s fault)
-next_in limit dues.Nothing stands s = if s.count == limit then Ends (finish Limit) else next_by_choice stands s (choice_in s)
+next_in limit dues.Nothing stands s = if s.count == limit then Ends (finish Limit) else next_by_choice stands s
+    (choice_in s)
 
 -- ---- runs of what is given
 
@@ -220,8 +223,8 @@ reached_last k (Some e) = timed_at k e ∷ []
 abbrev pub reached_in : Given → List Record → Finish → List Timed
 reached_in g rs f = reached_after rs ++ reached_last (state_after g rs).count f.event
 
--- The event that stands there: the first one of the plan that was not reached, once its count has come. One machine that
--- does one thing after the other knows no turns, so no event that waits for a turn stands anywhere for it.
+-- The event that stands there: the first one of the plan that was not reached, once its count has come. One machine
+-- that does one thing after the other knows no turns, so no event that waits for a turn stands anywhere for it.
 abbrev pub event_after : Given → List Record → Option Event
 event_after g rs = standing g.plan (length (reached_after rs)) (state_after g rs).count
 

@@ -1,5 +1,6 @@
 -- Schedules: what their lines say, and which fault a line has.
-use Rattle.std.specs.Prelude.{◌≡◌, ℕ, ◌-◌, ◌≤◌, List, [], ◌∷◌, ◌++◌, length, Bool, true, false, not, ◌==◌, ◌||◌, nat_lt, nat_le, if◌then◌else◌, codes, slice_index, Option, Some, None, Result, Ok, Err}
+use Rattle.std.specs.Prelude.{◌≡◌, ℕ, ◌-◌, ◌≤◌, List, [], ◌∷◌, ◌++◌, length, Bool, true, false, not, ◌==◌, ◌||◌, nat_lt}
+use Rattle.std.specs.Prelude.{nat_le, if◌then◌else◌, codes, slice_index, Option, Some, None, Result, Ok, Err}
 use Rattle.std.specs.Option.{ok_or, option_map}
 use Rattle.std.specs.List.{slice_get, list_all, AllByRecursion}
 use Rattle.std.specs.Str.{bytes_eq}
@@ -58,9 +59,11 @@ timed_by_turn t e = record { when = Turn t; event = e }
 
 -- which words say an event and when it happens, in a version
 pub data IsTimed (version : ℕ) : Words → Timed → Type 0 where
-  is_at : (k name : List ℕ) (operands : Words) (n : ℕ) (e : Event) → count_of k ≡ Some n → IsEvent version name operands e
+  is_at : (k name : List ℕ) (operands : Words) (n : ℕ) (e : Event) → count_of k ≡ Some n
+      → IsEvent version name operands e
       → IsTimed version (codes "at" ∷ k ∷ name ∷ operands) (timed_at n e)
-  is_turn : (t name : List ℕ) (operands : Words) (n : ℕ) (e : Event) → turn_of t ≡ Some n → IsEvent version name operands e
+  is_turn : (t name : List ℕ) (operands : Words) (n : ℕ) (e : Event) → turn_of t ≡ Some n
+      → IsEvent version name operands e
       → IsTimed version (codes "turn" ∷ t ∷ name ∷ operands) (timed_by_turn n e)
 
 abbrev pub and_then : {A B : Type 0} → Result A ℕ → (A → Result B ℕ) → Result B ℕ
@@ -78,8 +81,8 @@ count_time word = option_map At (count_of word)
 abbrev pub turn_time : List ℕ → Option When
 turn_time word = option_map Turn (turn_of word)
 
--- what the words behind the first one say, where the next one is read as this time, or the kind of their fault; an unknown
--- event comes before a bad time
+-- what the words behind the first one say, where the next one is read as this time, or the kind of their fault; an
+-- unknown event comes before a bad time
 unfoldable pub timed_by : ℕ → (List ℕ → Option When) → Words → Result Timed ℕ
 timed_by version time [] = Err unknown_event
 timed_by version time (k ∷ []) = Err unknown_event

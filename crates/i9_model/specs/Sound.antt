@@ -16,8 +16,8 @@ AreApart (f ∷ live) = ((x : ℕ) → in_bytes f FRAME_SIZE x ≡ true → in_f
 abbrev pub in_returns : List ℕ → ℕ → Bool
 in_returns live x = list_any (λ f. in_bytes (return_place f) 4 x) live
 
--- the live frames are apart, their bytes are soft, and none of these lies in the port page; marked bytes are some of them,
--- and none is in a return address
+-- the live frames are apart, their bytes are soft, and none of these lies in the port page; marked bytes are some of
+-- them, and none is in a return address
 pub record IsSound (s : Frames) : Type 0 where
   pub apart : AreApart s.live
   pub soft : (x : ℕ) → in_frames s.live x ≡ true → s.soft x ≡ true

@@ -1,9 +1,11 @@
 -- Stale values: the marks that go with them, and the uses that marked registers allow. A register is marked where soft
 -- bytes decide its value. All of this is this project's own.
-use Rattle.std.specs.Prelude.{ℕ, ◌+◌, ◌*◌, ◌/◌, ◌%◌, ◌^◌, ◌==◌, Bool, true, false, ◌||◌, ◌&&◌, not, if◌then◌else◌, List, [], ◌∷◌, ◌++◌, map, replicate, Option, Some, None}
+use Rattle.std.specs.Prelude.{ℕ, ◌+◌, ◌*◌, ◌/◌, ◌%◌, ◌^◌, ◌==◌, Bool, true, false, ◌||◌, ◌&&◌, not, if◌then◌else◌, List}
+use Rattle.std.specs.Prelude.{[], ◌∷◌, ◌++◌, map, replicate, Option, Some, None}
 use Rattle.std.specs.List.{list_any, range_with_len}
 use Rattle.i9_isa.specs.declared.op.Op.{Op}
-use Rattle.i9_isa.specs.declared.op.Op.TheVariants.{Mov, Movl, Movt, Movq, Lda, Atadd, Atmod, Bx, Balx, Callx, Ret, Modpc, Sysctl}
+use Rattle.i9_isa.specs.declared.op.Op.TheVariants.{Mov, Movl, Movt, Movq, Lda, Atadd, Atmod, Bx, Balx, Callx, Ret}
+use Rattle.i9_isa.specs.declared.op.Op.TheVariants.{Modpc, Sysctl}
 use Rattle.i9_isa.specs.declared.size.Size.{Size}
 use Rattle.i9_isa.specs.declared.size.Size.TheVariants.{Byte, Half, Words}
 use Rattle.i9_isa.specs.declared.size.Direction.{Direction}
@@ -155,8 +157,8 @@ restart_registers i s = if value s i.a / 2 ^ 8 % 2 ^ 8 == 3 then registers_of i.
 abbrev pub record_registers : State → List ℕ
 record_registers s = if takes_record (return_type (s.regs PFP)) then FP ∷ [] else []
 
--- The registers that decide more than values: an address, a condition, a fault, a count, a control word. Names that keep
--- marks have none, nor has lda. What sysctl and a return read beside these depends on the first of them.
+-- The registers that decide more than values: an address, a condition, a fault, a count, a control word. Names that
+-- keep marks have none, nor has lda. What sysctl and a return read beside these depends on the first of them.
 abbrev pub deciding : Op → Inst → State → List ℕ
 deciding Lda i s = []
 deciding Atadd i s = registers_of i.a 1
@@ -181,10 +183,11 @@ touches_port a n = list_any in_port_page (places a n)
 -- a store of a marked value to the port page
 abbrev pub stored_out : Direction → Size → Inst → State → Bool
 stored_out Load size i s = false
-stored_out Store size i s = is_marked s (registers_of i.c (register_count size)) && touches_port (address s i.ea) (byte_count size)
+stored_out Store size i s = is_marked s (registers_of i.c (register_count size))
+    && touches_port (address s i.ea) (byte_count size)
 
--- The same of an atomic instruction, whose new word is marked where the old one is stale or a data register is marked. With
--- marked data its destination is no special function register.
+-- The same of an atomic instruction, whose new word is marked where the old one is stale or a data register is marked.
+-- With marked data its destination is no special function register.
 abbrev pub changed_out : List ℕ → Inst → State → Bool
 changed_out datas i s =
     let a = aligned (value s i.a) in
@@ -205,7 +208,8 @@ reaches_special i s = is_special i.c && list_any (λ b. b) (destination_marks i 
 
 -- a marked register is used otherwise than it may be
 unfoldable pub misuses : Inst → State → Bool
-misuses i s = is_marked s (deciding_by (transfer_of i.op) i s) || (reaches_special i s || goes_out_by (transfer_of i.op) i s)
+misuses i s = is_marked s (deciding_by (transfer_of i.op) i s)
+    || (reaches_special i s || goes_out_by (transfer_of i.op) i s)
 
 -- ---- pushes
 

@@ -10,7 +10,8 @@ use Rattle.i9_isa.specs.declared.inst.BadWord.TheVariants.{Opcode, Operand}
 use Rattle.i9_isa.specs.Words.{decoded}
 use Rattle.i9_model.specs.declared.arith.Arith.{Arith}
 use Rattle.i9_model.specs.declared.arith.Arith.TheVariants.{Overflow, ZeroDivide}
-use Rattle.i9_model.specs.declared.faults.TheConstants.{OPERATION, ARITHMETIC, CONSTRAINT, INVALID_OPCODE, INVALID_OPERAND, OVERFLOW, ZERO_DIVIDE, RANGE}
+use Rattle.i9_model.specs.declared.faults.TheConstants.{OPERATION, ARITHMETIC, CONSTRAINT, INVALID_OPCODE}
+use Rattle.i9_model.specs.declared.faults.TheConstants.{INVALID_OPERAND, OVERFLOW, ZERO_DIVIDE, RANGE}
 use Rattle.i9_model.specs.State.{State}
 use Rattle.i9_model.specs.Operands.{value}
 use Rattle.i9_model.specs.Results.{Answer}
@@ -49,7 +50,8 @@ is_fault_name Faulto = true
 is_fault_name _ = false
 
 abbrev pub range_fault : Inst → State → Option (ℕ × ℕ)
-range_fault i s = if is_fault_name i.op && is_taken i (value s i.a) (value s i.b) s.ac then Some (CONSTRAINT, RANGE) else None
+range_fault i s = if is_fault_name i.op
+    && is_taken i (value s i.a) (value s i.b) s.ac then Some (CONSTRAINT, RANGE) else None
 
 abbrev pub first_fault : Option (ℕ × ℕ) → Option (ℕ × ℕ) → Option (ℕ × ℕ)
 first_fault (Some f) later = Some f

@@ -9,8 +9,8 @@ pub use Rattle.i9_model.specs.Writes.{aligned}
 use Rattle.i9_model.specs.Memory.{Memory, stored}
 use Rattle.i9_model.specs.Boot.{tables_of, boot_setup, boot_memory}
 
--- bytes that only the save of a frame or a marked value wrote; the save addresses of the frames that may be returned to,
--- youngest first; and the bytes of these frames that are in marked words
+-- bytes that only the save of a frame or a marked value wrote; the save addresses of the frames that may be returned
+-- to, youngest first; and the bytes of these frames that are in marked words
 pub record Frames : Type 0 where
   pub soft : ℕ → Bool
   pub live : List ℕ
@@ -43,9 +43,9 @@ pub record TraceControls : Type 0 where
   pub breaks : Breaks
 
 -- The registers (r0 to r15 are 0 to 15, g0 to g15 are 16 to 31), instruction address, arithmetic and process controls,
--- count of instructions, whether the next choice of an interrupt looks at software ones, and the words of the PRCB; which
--- registers are marked, that is, have values that stale bytes decide; and, the same for the whole run, what a soft byte is
--- read as, by what memory holds there.
+-- count of instructions, whether the next choice of an interrupt looks at software ones, and the words of the PRCB;
+-- which registers are marked, that is, have values that stale bytes decide; and, the same for the whole run, what a
+-- soft byte is read as, by what memory holds there.
 pub record State : Type 0 where
   pub regs : ℕ → ℕ
   pub ip : ℕ
@@ -113,8 +113,8 @@ as_zero b = 0
 abbrev pub as_held : ℕ → ℕ
 as_held b = b
 
--- The state that start-up leaves, from the registers, the count and the low pins before it, and the memory and the frames
--- behind it.
+-- The state that start-up leaves, from the registers, the count and the low pins before it, and the memory and the
+-- frames behind it.
 unfoldable pub started : Setup → (ℕ → ℕ) → ℕ → ℕ → Memory → Frames → State
 started u regs count low m f = record {
   regs = written regs (start_sets u);

@@ -1,8 +1,10 @@
 -- One instruction in a state: what it does is data, and one function applies it.
-use Rattle.std.specs.Prelude.{ℕ, ◌+◌, ◌-◌, ◌*◌, ◌/◌, nat_lt, ◌%◌, ◌^◌, ◌==◌, Bool, true, false, ◌||◌, if◌then◌else◌, bit_and, bit_or, List, [], ◌∷◌, ◌++◌, map, replicate, Option, Some, None}
+use Rattle.std.specs.Prelude.{ℕ, ◌+◌, ◌-◌, ◌*◌, ◌/◌, nat_lt, ◌%◌, ◌^◌, ◌==◌, Bool, true, false, ◌||◌, if◌then◌else◌}
+use Rattle.std.specs.Prelude.{bit_and, bit_or, List, [], ◌∷◌, ◌++◌, map, replicate, Option, Some, None}
 use Rattle.std.specs.List.{range_with_len}
 use Rattle.i9_isa.specs.declared.op.Op.{Op}
-use Rattle.i9_isa.specs.declared.op.Op.TheVariants.{Lda, Atadd, Atmod, Bx, Balx, Bal, Call, Callx, Calls, Ret, Flushreg, Modac, Modtc, Modpc, Sdma, Sysctl}
+use Rattle.i9_isa.specs.declared.op.Op.TheVariants.{Lda, Atadd, Atmod, Bx, Balx, Bal, Call, Callx, Calls, Ret, Flushreg}
+use Rattle.i9_isa.specs.declared.op.Op.TheVariants.{Modac, Modtc, Modpc, Sdma, Sysctl}
 use Rattle.i9_isa.specs.declared.size.Transfer.{Transfer}
 use Rattle.i9_isa.specs.declared.size.Direction.{Direction}
 use Rattle.i9_isa.specs.declared.size.Direction.TheVariants.{Load, Store}
@@ -15,7 +17,8 @@ use Rattle.i9_isa.specs.Operands.{words_written}
 use Rattle.i9_isa.specs.Table.{row_of}
 use Rattle.i9_isa.specs.Transfers.{transfer_of}
 use Rattle.i9_isa.specs.Words.{words_of}
-use Rattle.i9_model.specs.declared.layout.TheConstants.{LOCALS, PFP, SP, RIP, LINK, FP, LOCAL_RETURN, AC_MASK, PC_MASK, TC_MASK}
+use Rattle.i9_model.specs.declared.layout.TheConstants.{LOCALS, PFP, SP, RIP, LINK, FP, LOCAL_RETURN, AC_MASK, PC_MASK}
+use Rattle.i9_model.specs.declared.layout.TheConstants.{TC_MASK}
 use Rattle.i9_model.specs.declared.push.Push.{Push}
 use Rattle.i9_model.specs.declared.calls.Sys.{Sys}
 use Rattle.i9_model.specs.declared.calls.Pop.{Pop}
@@ -29,11 +32,14 @@ pub use Rattle.i9_model.specs.State.{frame_sets}
 use Rattle.i9_model.specs.Controls.{Control, KeepsControls, Restarts, LoadsGroup, marks_after, controlled}
 use Rattle.i9_model.specs.Frames.{pushed, saved, with_marked, returned, flushed, wrote, softened}
 use Rattle.i9_model.specs.Hazards.{return_place}
-use Rattle.i9_model.specs.Stale.{picked, marks_for, byte_marks, mark_of, word_mark, word_marks, legible, loaded_marks, stored_marks, saved_marks, left_memory, left_stale, address_registers, is_marked, result_marks}
+use Rattle.i9_model.specs.Stale.{picked, marks_for, byte_marks, mark_of, word_mark, word_marks, legible, loaded_marks}
+use Rattle.i9_model.specs.Stale.{stored_marks, saved_marks, left_memory, left_stale, address_registers, is_marked}
+use Rattle.i9_model.specs.Stale.{result_marks}
 use Rattle.i9_model.specs.Requests.{request_writes}
 use Rattle.i9_model.specs.Dma.{set_up}
 use Rattle.i9_model.specs.Calls.{priority_of, call_type, system_entered, record_address, popped}
-use Rattle.i9_model.specs.Operands.{value, word_of, source_words, assigned, interrupts_assigned, dma_assigned, address, target}
+use Rattle.i9_model.specs.Operands.{value, word_of, source_words, assigned, interrupts_assigned, dma_assigned, address}
+use Rattle.i9_model.specs.Operands.{target}
 use Rattle.i9_model.specs.Numbers.{complement}
 use Rattle.i9_model.specs.Results.{Answer, results}
 use Rattle.i9_model.specs.Branches.{question_of, asks, branch_controls, is_taken}
@@ -49,8 +55,8 @@ pub data Move : Type 0 where
 
 -- the registers that are set; the bytes that are written; the frames; the arithmetic, process and trace controls,
 -- the check flag, interrupts and DMA afterwards; the other controls; the next address; where trace events count,
--- the trace controls with their flags and the subtype of their fault; and what has a mark: of the registers that are set,
--- of the bytes that are written, and of the bytes of the frame that is saved
+-- the trace controls with their flags and the subtype of their fault; and what has a mark: of the registers that are
+-- set, of the bytes that are written, and of the bytes of the frame that is saved
 pub record Action : Type 0 where
   pub sets : List (ℕ × ℕ)
   pub writes : List (ℕ × ℕ)
@@ -167,8 +173,8 @@ merged old mask bits = bit_or (bit_and bits mask) (bit_and old (complement mask)
 abbrev pub atomic_address : Inst → State → ℕ
 atomic_address i s = aligned (value s i.a)
 
--- The old word is answered, and another one stored in its place. The answer is marked where the old word is stale, and the
--- new word is stale where that is so or where the data are marked.
+-- The old word is answered, and another one stored in its place. The answer is marked where the old word is stale, and
+-- the new word is stale where that is so or where the data are marked.
 abbrev pub atomic : Inst → State → Bool → (ℕ → ℕ) → Action
 atomic i s data_marked change =
     let a = atomic_address i s in
@@ -215,7 +221,9 @@ controls_of (Some r) ac = r.controls
 
 -- a result goes to the destination, and the arithmetic controls change with it
 abbrev pub resulting : Inst → State → Option Answer → Action
-resulting i s o = record (marking (destination i) (result_marks i s) (assigning (destination i) (values_of o) (passing i s))) { ac = controls_of o s.ac }
+resulting i s o = record
+    (marking (destination i) (result_marks i s) (assigning (destination i) (values_of o) (passing i s)))
+    { ac = controls_of o s.ac }
 
 -- controls with other bits where a mask has them, of which some are kept
 abbrev pub modified : ℕ → ℕ → ℕ → ℕ → ℕ
@@ -248,8 +256,8 @@ message_of i s = value s i.a / 2 ^ 8 % 2 ^ 8
 abbrev pub argument_of : Inst → State → ℕ
 argument_of i s = value s i.a % 2 ^ 8
 
--- what a message asks for: message 0 asks for an interrupt by its vector, or sets the check flag alone; message 3 starts
--- the processor anew at src2, by the PRCB at src/dst, and message 4 loads a control group
+-- what a message asks for: message 0 asks for an interrupt by its vector, or sets the check flag alone; message 3
+-- starts the processor anew at src2, by the PRCB at src/dst, and message 4 loads a control group
 pub data Message : Type 0 where
   AsksNothing : Message
   AsksCheck : Message
@@ -322,10 +330,12 @@ call_action i s to = pushing s (pushed (s.regs FP) (s.regs SP) 0 LOCAL_RETURN) (
 
 -- the procedure that calls enters
 abbrev pub system_call : Inst → State → Sys
-system_call i s = system_entered s.memory s.tables.system_table (value s i.a) s.pc (s.regs FP) (s.regs SP) 0 (call_type s.pc)
+system_call i s = system_entered s.memory s.tables.system_table (value s i.a) s.pc (s.regs FP) (s.regs SP) 0
+    (call_type s.pc)
 
 abbrev pub calls_action : Inst → State → Action
-calls_action i s = record (pushing s (system_call i s).push (following i s) (system_call i s).target) { pc = (system_call i s).pc }
+calls_action i s = record (pushing s (system_call i s).push (following i s) (system_call i s).target)
+    { pc = (system_call i s).pc }
 
 -- what ret makes of the controls, and the frame that pfp names
 abbrev pub return_in : State → Pop
@@ -363,13 +373,14 @@ other_action op i s = if asks (question_of op) then branching i s else resulting
 
 -- Each name that is built and moves nothing between registers and memory: lda sets its destination to the effective
 -- address; atadd and atmod answer the old word and store its sum with src2, or the bits of src/dst where src2 has
--- them; bx, balx and bal jump, and the last two link; flushreg flushes; sdma sets up the channel of src1; sysctl goes by
--- its message; syncf does nothing but drain, mark and fmark nothing but what tracing makes of them, and udma nothing; the
--- others branch or go by the table of results.
+-- them; bx, balx and bal jump, and the last two link; flushreg flushes; sdma sets up the channel of src1; sysctl goes
+-- by its message; syncf does nothing but drain, mark and fmark nothing but what tracing makes of them, and udma
+-- nothing; the others branch or go by the table of results.
 abbrev pub action_by_name : Op → Inst → State → Action
 action_by_name Lda i s = marking i.c (is_marked s (address_registers i.ea) ∷ []) (answering i s (address s i.ea))
 action_by_name Atadd i s = atomic i s (mark_of s i.b 0) (λ old. wrapped (old + value s i.b))
-action_by_name Atmod i s = atomic i s (mark_of s i.b 0 || mark_of s i.c 0) (λ old. merged old (value s i.b) (value s i.c))
+action_by_name Atmod i s = atomic i s (mark_of s i.b 0 || mark_of s i.c 0)
+    (λ old. merged old (value s i.b) (value s i.c))
 action_by_name Bx i s = jumping i s (address s i.ea)
 action_by_name Balx i s = linking i.c i s (address s i.ea)
 action_by_name Bal i s = linking (Reg LINK) i s (target i s)

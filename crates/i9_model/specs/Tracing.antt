@@ -1,5 +1,6 @@
 -- Trace events: which come with an instruction, which of them count, and the flags and the subtype that they make.
-use Rattle.std.specs.Prelude.{ℕ, ◌+◌, ◌==◌, ◌&&◌, ◌||◌, Bool, true, false, if◌then◌else◌, List, [], ◌∷◌, ◌++◌, map, filter, fold, Option, Some, None, slice_index}
+use Rattle.std.specs.Prelude.{ℕ, ◌+◌, ◌==◌, ◌&&◌, ◌||◌, Bool, true, false, if◌then◌else◌, List, [], ◌∷◌, ◌++◌, map}
+use Rattle.std.specs.Prelude.{filter, fold, Option, Some, None, slice_index}
 use Rattle.std.specs.List.{list_any}
 use Rattle.i9_isa.specs.declared.op.Op.{Op}
 use Rattle.i9_isa.specs.declared.inst.Inst.{Inst}
@@ -9,7 +10,12 @@ use Rattle.i9_model.specs.declared.layout.TheConstants.{TRACE_ENABLE_PLACE}
 use Rattle.i9_model.specs.declared.setup.Breaks.{Breaks}
 use Rattle.i9_model.specs.Requests.{with_bit}
 use Rattle.i9_model.specs.Writes.{aligned}
-use Rattle.i9_model.specs.declared.trace.TheConstants.{INSTRUCTION_TRACE_PLACE, BRANCH_TRACE_PLACE, CALL_TRACE_PLACE, RETURN_TRACE_PLACE, PRERETURN_TRACE_PLACE, SUPERVISOR_TRACE_PLACE, MARK_TRACE_PLACE, FLAG_DISTANCE, IPB0_FLAG_PLACE, IPB1_FLAG_PLACE, DAB0_FLAG_PLACE, DAB1_FLAG_PLACE, IPB_ENABLE_PLACE, DAB0_ENABLE_PLACE, DAB1_ENABLE_PLACE}
+use Rattle.i9_model.specs.declared.trace.TheConstants.{INSTRUCTION_TRACE_PLACE, BRANCH_TRACE_PLACE, CALL_TRACE_PLACE}
+use Rattle.i9_model.specs.declared.trace.TheConstants.{RETURN_TRACE_PLACE, PRERETURN_TRACE_PLACE}
+use Rattle.i9_model.specs.declared.trace.TheConstants.{SUPERVISOR_TRACE_PLACE, MARK_TRACE_PLACE, FLAG_DISTANCE}
+use Rattle.i9_model.specs.declared.trace.TheConstants.{IPB0_FLAG_PLACE, IPB1_FLAG_PLACE, DAB0_FLAG_PLACE}
+use Rattle.i9_model.specs.declared.trace.TheConstants.{DAB1_FLAG_PLACE, IPB_ENABLE_PLACE, DAB0_ENABLE_PLACE}
+use Rattle.i9_model.specs.declared.trace.TheConstants.{DAB1_ENABLE_PLACE}
 use Rattle.i9_model.specs.declared.trace.Seen.{Seen}
 use Rattle.i9_model.specs.declared.trace.Trace.{Trace}
 

@@ -1,5 +1,7 @@
 -- When records issue and when they are done. A list of records has the newest first.
-use Rattle.std.specs.Prelude.{◌≡◌, ◌≢◌, ℕ, ◌+◌, ◌%◌, ◌^◌, ◌<◌, ◌≤◌, max, if◌then◌else◌, Bool, true, false, cond, ◌&&◌, ◌||◌, ◌⊎◌, List, [], ◌∷◌, Option, Some, None, IsTrue, nat_lt, nat_le, nat_eq, not, bit_and, bit_or, ◌-◌}
+use Rattle.std.specs.Prelude.{◌≡◌, ◌≢◌, ℕ, ◌+◌, ◌%◌, ◌^◌, ◌<◌, ◌≤◌, max, if◌then◌else◌, Bool, true, false, cond, ◌&&◌}
+use Rattle.std.specs.Prelude.{◌||◌, ◌⊎◌, List, [], ◌∷◌, Option, Some, None, IsTrue, nat_lt, nat_le, nat_eq, not}
+use Rattle.std.specs.Prelude.{bit_and, bit_or, ◌-◌}
 use Rattle.std.specs.Int.{IsBitSet}
 use Rattle.std.specs.List.{AllByRecursion, count_by, filter}
 use Rattle.i9_isa.specs.declared.inst.Side.{Side}

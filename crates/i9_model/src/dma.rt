@@ -1,5 +1,5 @@
-//! DMA: the places in control words and in the DMA command word. The i960 CA/CF User's Manual has DMA in its chapter on the
-//! DMA controller; the control word, the units and the bits of the command word are this project's own.
+//! DMA: the places in control words and in the DMA command word. The i960 CA/CF User's Manual has DMA in its chapter on
+//! the DMA controller; the control word, the units and the bits of the command word are this project's own.
 
 /// How many DMA channels there are.
 pub const CHANNELS: u8 = 4;

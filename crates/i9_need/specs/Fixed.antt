@@ -5,7 +5,8 @@ use Rattle.i9_isa.specs.Words.{words_of}
 use Rattle.i9_isa.specs.Resources.{is_read, is_written}
 use Rattle.i9_isa.specs.Costs.{issue_side, latency_of}
 use Rattle.i9_model.specs.declared.need.Facts.{Facts}
-use Rattle.i9_model.specs.Needs.{set_of, is_request_name, is_store_name, has_access, moves_frames, is_slow_name, is_barrier_name, writes_sfr}
+use Rattle.i9_model.specs.Needs.{set_of, is_request_name, is_store_name, has_access, moves_frames, is_slow_name}
+use Rattle.i9_model.specs.Needs.{is_barrier_name, writes_sfr}
 use Rattle.i9_need.specs.declared.fixed.FixedNeed.{FixedNeed}
 use Rattle.i9_need.specs.Known.{AreFacts}
 

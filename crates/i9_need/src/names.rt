@@ -1,7 +1,8 @@
 //! Kinds of instructions by their names.
 
 ghost use Rattle.std.specs.Prelude.{◌≡◌};
-ghost use Rattle.i9_model.specs.Needs.{is_request_name, is_store_name, has_access, moves_frames, is_slow_name, is_barrier_name};
+ghost use Rattle.i9_model.specs.Needs.{is_request_name, is_store_name, has_access, moves_frames, is_slow_name};
+ghost use Rattle.i9_model.specs.Needs.{is_barrier_name};
 
 use i9_isa::{Direction, Op, transfer};
 

@@ -6,7 +6,8 @@ ghost use Rattle.std.specs.Prelude.{◌≡◌, ◌≤◌, ◌&&◌, ◌||◌, if
 ghost use Rattle.std.specs.Option.{is_some};
 ghost use Rattle.i9_isa.specs.declared.inst.Inst.{Inst};
 ghost use Rattle.i9_isa.specs.Valid.{IsValid};
-ghost use Rattle.i9_model.specs.Needs.{blank_need, is_store_name, is_calm, inst_need, refused_need, event_need, entry_need};
+ghost use Rattle.i9_model.specs.Needs.{blank_need, is_store_name, is_calm, inst_need, refused_need, event_need};
+ghost use Rattle.i9_model.specs.Needs.{entry_need};
 ghost use Rattle.i9_need.specs.Known.{AreFacts};
 ghost use Rattle.i9_need.specs.Fixed.{fixed_need, AreFactsBy, calm_turns};
 

@@ -25,7 +25,8 @@ pub record AppendsFront (old new : Option (List ℕ)) (piece : List ℕ) : Type 
 -- what a fetch of a file leaves in the buffer, by its answer
 abbrev pub FetchLeaves : Fetch → List ℕ → List ℕ → List ℕ → Type 0
 FetchLeaves fetches.Ok file old new = (length file ≤ FILE_LIMIT) × (new ≡ old ++ file)
-FetchLeaves (fetches.TooLong n) file old new = (FILE_LIMIT < length file) × (n ≡ FILE_LIMIT + 1) × GrowsByFront old new file
+FetchLeaves (fetches.TooLong n) file old new = (FILE_LIMIT < length file) × (n ≡ FILE_LIMIT + 1)
+    × GrowsByFront old new file
 FetchLeaves fetches.Failed file old new = GrowsByFront old new file
 FetchLeaves fetches.Memory file old new = GrowsByFront old new file
 

@@ -13,7 +13,8 @@ pub struct Calls {
 }
 
 impl Calls {
-    ghost use Rattle.i9_outside.specs.Calls.{plan_of, no_calls, next_call, with_failing, fails_next, with_call, with_fault, NoneToFail};
+    ghost use Rattle.i9_outside.specs.Calls.{plan_of, no_calls, next_call, with_failing, fails_next, with_call};
+    ghost use Rattle.i9_outside.specs.Calls.{with_fault, NoneToFail};
 
     /// No call was made, and none is to fail.
     pub fn new(alloc: Global) -> Calls

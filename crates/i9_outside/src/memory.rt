@@ -1,5 +1,6 @@
 //! Files and a sink in memory, of which chosen calls fail.
-ghost use Rattle.std.specs.Prelude.{◌≡◌, ◌≢◌, ◌↔◌, ◌⊎◌, ◌+◌, ◌<◌, ◌≤◌, Some, None, OnOk, OnErr, IsNone, IsTrue, List, ℕ, [], length, vec_len, vec_capacity};
+ghost use Rattle.std.specs.Prelude.{◌≡◌, ◌≢◌, ◌↔◌, ◌⊎◌, ◌+◌, ◌<◌, ◌≤◌, Some, None, OnOk, OnErr, IsNone, IsTrue, List};
+ghost use Rattle.std.specs.Prelude.{ℕ, [], length, vec_len, vec_capacity};
 ghost use Rattle.i9_outside.specs.Traits.{Fetches, FetchCause, Writes, WriteCause, TakesPiece};
 
 use crate::calls::Calls;
@@ -175,7 +176,8 @@ impl MemSink {
 
 impl Sink for MemSink {
     ghost use Rattle.i9_outside.specs.Calls.{fails_next, CountsCall};
-    ghost use Rattle.i9_outside.specs.MemSink.{written_bytes, room_left, calls_of, fault_count, write_count, IsSureOf, HasPieces};
+    ghost use Rattle.i9_outside.specs.MemSink.{written_bytes, room_left, calls_of, fault_count, write_count, IsSureOf};
+    ghost use Rattle.i9_outside.specs.MemSink.{HasPieces};
     ghost use Rattle.i9_outside.specs.Counts.{one_more};
 
     ghost told = { λ s. Some (written_bytes s) };

@@ -10,9 +10,9 @@ mod tests;
 use i9_buffers::respond;
 use std::alloc::Global;
 
-/// The command over a text of words, of which each has a line of its own, and three files, which the words name `1`, `2`
-/// and `3`. The text comes at the start of `out`, and its length at `printed`. The answer is the status of the command,
-/// where 6 says that `out` has no room for the text.
+/// The command over a text of words, of which each has a line of its own, and three files, which the words name `1`,
+/// `2` and `3`. The text comes at the start of `out`, and its length at `printed`. The answer is the status of the
+/// command, where 6 says that `out` has no room for the text.
 #[unsafe(no_mangle)]
 pub extern "C" fn i9_page(
     alloc: Global,

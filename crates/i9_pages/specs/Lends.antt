@@ -7,4 +7,5 @@ use Rattle.i9_pages.specs.Table.{SamePages, Updates}
 
 -- once the borrow r ends, the number has the last value written through r, and at `None` all is as it was
 abbrev pub lends_page : (T : RattleType) → MutBor (PageTable T.Denot) → ℕ → Option (MutBor T.Denot) → Fml
-lends_page T s number r = LendsSo (the_row T) T s r (λ new page. OnSome r (Updates s.now number (Some page) new)) (SamePages s.now)
+lends_page T s number r = LendsSo (the_row T) T s r (λ new page. OnSome r (Updates s.now number (Some page) new))
+    (SamePages s.now)

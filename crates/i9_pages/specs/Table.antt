@@ -1,5 +1,6 @@
 -- Table: the page of each number.
-use Rattle.std.specs.Prelude.{◌≡◌, ℕ, ◌/◌, ◌%◌, ◌==◌, if◌then◌else◌, List, [], Option, Some, None, MatchOption, IsSomeAnd, slice_get, slice_index_or}
+use Rattle.std.specs.Prelude.{◌≡◌, ℕ, ◌/◌, ◌%◌, ◌==◌, if◌then◌else◌, List, [], Option, Some, None, MatchOption}
+use Rattle.std.specs.Prelude.{IsSomeAnd, slice_get, slice_index_or}
 use Rattle.std.specs.declared.vec.Vec.{Vec}
 use Rattle.i9_pages.specs.declared.table.PageTable.{PageTable}
 

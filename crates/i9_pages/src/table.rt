@@ -1,5 +1,6 @@
 //! Pages by number.
-ghost use Rattle.std.specs.Prelude.{◌≡◌, ℕ, ◌^◌, ◌<◌, ◌≤◌, ◌↔◌, IsTrue, IsSome, OnOk, OnErr, IfOk, option_copied, slice_index_or, vec_len};
+ghost use Rattle.std.specs.Prelude.{◌≡◌, ℕ, ◌^◌, ◌<◌, ◌≤◌, ◌↔◌, IsTrue, IsSome, OnOk, OnErr, IfOk, option_copied};
+ghost use Rattle.std.specs.Prelude.{slice_index_or, vec_len};
 ghost use Rattle.std.specs.Option.{option_copied_mut};
 ghost use Rattle.std.specs.Borrow.{sem};
 ghost use Rattle.i9_pages.specs.Table.{list_at};

@@ -30,6 +30,7 @@ pub fn events_that_are_reached_are_a_plan()
     ensures end { (next : Stepping) (t : Tally) → IsHeedful next t
         → (rs : List Record) (f : Finish) (o : Option events.Event) → next o rs ≡ Ends f
         → next_by next t (reached_with t rs f) rs ≡ Ends f }
-    ensures before { (next : Stepping) (t : Tally) → IsHeedful next t → (rs : List Record) (f : Finish) → IsCounted next t
+    ensures before { (next : Stepping) (t : Tally) → IsHeedful next t → (rs : List Record) (f : Finish)
+        → IsCounted next t
         → IsPastBy next t (t.reached rs) rs → IsPastBy next t (reached_with t rs f) rs }
 {}

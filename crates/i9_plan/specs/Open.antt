@@ -30,7 +30,8 @@ pub record IsNoBarrier (i : Inst) : Type 0 where
   pub named : is_barrier_name i.op ≡ false
   pub written : writes_sfr i ≡ false
 
--- what is told to wait does wait, and was read where that is told; an instruction that is told runs, or faults by its result, and is no barrier
+-- what is told to wait does wait, and was read where that is told; an instruction that is told runs, or faults by its
+-- result, and is no barrier
 abbrev pub OpenStands : State → DecodeCache → Open → Type 0
 OpenStands s m (opens.Waits read) = WaitsForAll s (stands_at s) × (read ≡ true → IsRead s m)
 OpenStands s m opens.Runs = (stands_at s ≡ Runs (inst_in m)) × IsNoBarrier (inst_in m)

@@ -9,7 +9,8 @@ use Rattle.i9_model.specs.declared.faults.FaultStop.{FaultStop}
 use Rattle.i9_model.specs.State.{State}
 use Rattle.i9_model.specs.declared.event.Event.{Event}
 use Rattle.i9_model.specs.declared.interrupts.Chosen.{Chosen}
-use Rattle.i9_model.specs.Step.{Action, Message, passing, pushing, message_action, entering, action_of, first_word, next_word}
+use Rattle.i9_model.specs.Step.{Action, Message, passing, pushing, message_action, entering, action_of, first_word}
+use Rattle.i9_model.specs.Step.{next_word}
 use Rattle.i9_model.specs.Needs.{is_request_name}
 use Rattle.i9_model.specs.Traced.{traced_action}
 use Rattle.i9_model.specs.Interrupts.{record_writes}
@@ -56,7 +57,8 @@ pub record IsRead (s : State) (m : DecodeCache) : Type 0 where
 -- why none was read: the hazard that its fetch meets, or a first word that is refused
 abbrev pub IsUnread : State → Unread → Type 0
 IsUnread s (unreads.Meets a) = fetch_hazard s ≡ Some a
-IsUnread s (unreads.Refused first why) = (fetch_hazard s ≡ None) × (decoded (first_word s) (next_word s) ≡ Err why) × (first ≡ first_word s)
+IsUnread s (unreads.Refused first why) = (fetch_hazard s ≡ None) × (decoded (first_word s) (next_word s) ≡ Err why)
+    × (first ≡ first_word s)
 
 -- what a fetch gives
 abbrev pub IsFetched : State → DecodeCache → Result (Unit {0}) Unread → Type 0

@@ -51,7 +51,8 @@ pub(crate) fn plan_call(p: &Processor, i: &Inst, to: u32) -> Result<Effect, u32>
 pub(crate) fn plan_calls(p: &Processor, i: &Inst) -> Result<Effect, u32>
     requires drained { IsDrained p.now }
     requires number { value (state_of p.now) i.now.a ≤ MOST_SYSTEM_CALL }
-    ensures { IsPlanFor (state_of p.now) (CallsSystem (value (state_of p.now) i.now.a)) (calls_action i.now (state_of p.now)) result }
+    ensures { IsPlanFor (state_of p.now) (CallsSystem (value (state_of p.now) i.now.a))
+        (calls_action i.now (state_of p.now)) result }
 {
     let sys = match p.plan_calls(value(p, i.a)) {
         Ok(sys) => sys,

@@ -55,7 +55,8 @@ fn posting_of(posts: bool, c: u8) -> Posting
 #[tactic(auto, using(crate::proofs::MarkLists::clean_rules))]
 fn moving(p: &Processor, c: u8, bytes: ArrayVec<u8, MOST_BYTES>) -> Effect
     requires { c < 4 }
-    ensures { (given : Option (List ℕ)) → bytes.items ≡ unit_bytes (state_of p.now).memory ((state_of p.now).dma.channels c) given
+    ensures { (given : Option (List ℕ))
+        → bytes.items ≡ unit_bytes (state_of p.now).memory ((state_of p.now).dma.channels c) given
         → IsEffect (state_of p.now) (receiving (moving_unit (state_of p.now) c
         (Some (unit (state_of p.now).memory (state_of p.now).dma c given))) (state_of p.now)) result }
 {

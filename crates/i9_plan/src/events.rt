@@ -12,7 +12,8 @@ use i9_processor::{Effect, Posting, Processor};
 /// Something is posted, or nothing.
 fn posting(p: &Processor, what: Posting) -> Effect
     requires { CanPost what }
-    ensures { IsEffect (state_of p.now) (receiving (posting (state_of p.now) (posting_in what (state_of p.now).interrupts)) (state_of p.now)) result }
+    ensures { IsEffect (state_of p.now)
+        (receiving (posting (state_of p.now) (posting_in what (state_of p.now).interrupts)) (state_of p.now)) result }
 {
     let mut effect = Effect::going(p, p.ip());
     effect.posting = what;

@@ -97,7 +97,8 @@ fn accessed(p: &Processor, decodes: &DecodeCache) -> (Option<(u32, u32)>, u64)
 pub fn facts(p: &Processor, decodes: &DecodeCache, frames: u8, fault: bool, trace: bool) -> Facts
     requires { Locates (state_of p.now) decodes.now }
     ensures facts { result ≡ facts_of (inst_in decodes.now) (state_of p.now) frames fault trace }
-    ensures known { frames ≤ 15 → (moves_a_frame (inst_in decodes.now).op ≡ true → frames ≤ 1) → AreFacts (inst_in decodes.now) result }
+    ensures known { frames ≤ 15 → (moves_a_frame (inst_in decodes.now).op ≡ true → frames ≤ 1)
+        → AreFacts (inst_in decodes.now) result }
 {
     let (access, waits) = accessed(p, decodes);
     Facts {

@@ -44,7 +44,8 @@ fn spilled_frames(p: &Processor) -> u8
 /// How many frames an effect spills, refills or flushes.
 #[inline(always)]
 fn moved_frames(p: &Processor, effect: &Effect) -> u8
-    ensures value { result ≡ moved_frames (size_of p.now) (cache_of p.now) (move_in (state_of p.now) effect.now.frames) }
+    ensures value { result
+        ≡ moved_frames (size_of p.now) (cache_of p.now) (move_in (state_of p.now) effect.now.frames) }
     ensures few { result ≤ 15 }
 {
     if effect.plain {
@@ -87,7 +88,8 @@ fn plain_need(p: &Processor, decodes: &DecodeCache) -> Need
 fn known_need(p: &Processor, decodes: &DecodeCache, effect: &Effect) -> Need
     requires located { Locates (state_of p.now) decodes.now }
     requires effect { IsEffect (state_of p.now) (traced_action (inst_in decodes.now) (state_of p.now)) effect.now }
-    ensures need { result ≡ need_of (size_of p.now) (cache_of p.now) (state_of p.now) (Instruction (inst_in decodes.now)) }
+    ensures need { result
+        ≡ need_of (size_of p.now) (cache_of p.now) (state_of p.now) (Instruction (inst_in decodes.now)) }
     ensures cost { result.cost ≤ 248 }
 {
     let frames = moved_frames(p, effect);
@@ -101,7 +103,8 @@ fn known_need(p: &Processor, decodes: &DecodeCache, effect: &Effect) -> Need
 pub fn need_done(p: &Processor, decodes: &DecodeCache, effect: &Effect) -> Need
     requires located { Locates (state_of p.now) decodes.now }
     requires effect { IsEffect (state_of p.now) (traced_action (inst_in decodes.now) (state_of p.now)) effect.now }
-    ensures need { result ≡ need_of (size_of p.now) (cache_of p.now) (state_of p.now) (Instruction (inst_in decodes.now)) }
+    ensures need { result
+        ≡ need_of (size_of p.now) (cache_of p.now) (state_of p.now) (Instruction (inst_in decodes.now)) }
     ensures cost { result.cost ≤ 248 }
 {
     if is_plain(p, decodes, effect) {
@@ -116,7 +119,8 @@ pub fn need_done(p: &Processor, decodes: &DecodeCache, effect: &Effect) -> Need
 pub fn need_faulted(p: &Processor, decodes: &DecodeCache, number: (u8, u16)) -> Need
     requires { Locates (state_of p.now) decodes.now }
     ensures need { (n : ℕ) (c : Cache)
-        → result ≡ need_of n c (state_of p.now) (Faulted (Some (inst_in decodes.now)) (fault_at (state_of p.now) number)) }
+        → result ≡ need_of n c (state_of p.now)
+        (Faulted (Some (inst_in decodes.now)) (fault_at (state_of p.now) number)) }
     ensures cost { result.cost ≤ 248 }
 {
     let known = facts(p, decodes, 0, number.0 != ARITHMETIC, false);

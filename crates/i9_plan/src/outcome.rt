@@ -9,7 +9,8 @@ ghost use Rattle.i9_model.specs.Branches.{branch_controls, is_taken};
 ghost use Rattle.i9_model.specs.Needs.{is_barrier_name};
 ghost use Rattle.i9_model.specs.Results.{has_result, destination_words, word};
 ghost use Rattle.i9_model.specs.Stale.{address_registers, is_marked};
-ghost use Rattle.i9_model.specs.Step.{destination, passing, resulting, branching, marking, answering, action_by_name, action_of};
+ghost use Rattle.i9_model.specs.Step.{destination, passing, resulting, branching, marking, answering, action_by_name};
+ghost use Rattle.i9_model.specs.Step.{action_of};
 ghost use Rattle.i9_model.specs.Standing.{Runs, is_fault_name, raised_in, by_raised, by_word};
 ghost use Rattle.i9_processor.specs.Effect.{IsEffect};
 ghost use Rattle.i9_processor.specs.State.{state_of, IsDrained};
@@ -96,16 +97,20 @@ fn result_outcome(p: &Processor, i: &Inst, effect: &mut Effect) -> Outcome
 
 /// What the condition of a branch gives.
 pub(crate) fn jump_of(p: &Processor, i: &Inst) -> Jump
-    ensures ac { result.ac ≡ branch_controls i.now (value (state_of p.now) i.now.a) (value (state_of p.now) i.now.b) (state_of p.now).ac }
-    ensures taken { result.taken ≡ is_taken i.now (value (state_of p.now) i.now.a) (value (state_of p.now) i.now.b) (state_of p.now).ac }
+    ensures ac { result.ac
+        ≡ branch_controls i.now (value (state_of p.now) i.now.a) (value (state_of p.now) i.now.b) (state_of p.now).ac }
+    ensures taken { result.taken
+        ≡ is_taken i.now (value (state_of p.now) i.now.a) (value (state_of p.now) i.now.b) (state_of p.now).ac }
 {
     branch(i, value(p, i.a), value(p, i.b), p.ac())
 }
 
 /// The condition code changes, and control goes to the target where the branch is taken.
 fn branching(p: &Processor, i: &Inst, jump: Jump, effect: &mut Effect)
-    requires ac { jump.ac ≡ branch_controls i.now (value (state_of p.now) i.now.a) (value (state_of p.now) i.now.b) (state_of p.now).ac }
-    requires taken { jump.taken ≡ is_taken i.now (value (state_of p.now) i.now.a) (value (state_of p.now) i.now.b) (state_of p.now).ac }
+    requires ac { jump.ac
+        ≡ branch_controls i.now (value (state_of p.now) i.now.a) (value (state_of p.now) i.now.b) (state_of p.now).ac }
+    requires taken { jump.taken
+        ≡ is_taken i.now (value (state_of p.now) i.now.a) (value (state_of p.now) i.now.b) (state_of p.now).ac }
     requires passes { Passes (state_of p.now) i.now effect.old }
     ensures { IsEffect (state_of p.now) (branching i.now (state_of p.now)) effect.new }
 {
@@ -249,7 +254,8 @@ fn is_given(p: &Processor, i: &Inst, effect: &mut Effect) -> bool
     requires barrier { is_barrier_name i.now.op ≡ false }
     requires still { transfer_of i.now.op ≡ None }
     requires passes { Passes (state_of p.now) i.now effect.old }
-    ensures standing { result ≡ true → Runs i.now ≡ by_raised i.now (state_of p.now) (raised_in i.now (state_of p.now)) }
+    ensures standing { result ≡ true
+        → Runs i.now ≡ by_raised i.now (state_of p.now) (raised_in i.now (state_of p.now)) }
     ensures effect { result ≡ true → IsEffect (state_of p.now) (action_of i.now (state_of p.now)) effect.new }
     ensures passes { result ≡ false → Passes (state_of p.now) i.now effect.new }
 {

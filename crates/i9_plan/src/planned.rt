@@ -70,7 +70,8 @@ fn plan_read(p: &Processor, decodes: &mut DecodeCache, effect: &mut Effect) -> P
 /// What stands at the instruction address: the hazard of its fetch, which comes first; an instruction
 /// that is refused, or that faults; the hazard of its access; or what it does.
 /// Each result is worked out once, and the effect of what is done, with its trace events, is made in
-/// `effect`; the instruction is in the decode cache (the i960 CA/CF User's Manual, instruction set, faults and tracing).
+/// `effect`; the instruction is in the decode cache (the i960 CA/CF User's Manual, instruction set, faults and
+/// tracing).
 pub fn plan_next(p: &Processor, decodes: &mut DecodeCache, effect: &mut Effect) -> Planned
     requires drained { IsDrained p.now }
     ensures standing { standing_of decodes.new result ≡ stands_at (state_of p.now) }
@@ -83,7 +84,8 @@ pub fn plan_next(p: &Processor, decodes: &mut DecodeCache, effect: &mut Effect) 
     plan_read(p, decodes, effect)
 }
 
-/// As `plan_next`. Where `read` is set, the decode cache has the instruction that stands there, which is not read again.
+/// As `plan_next`. Where `read` is set, the decode cache has the instruction that stands there, which is not read
+/// again.
 pub fn plan_here(
     p: &Processor,
     read: bool,

@@ -7,7 +7,8 @@ ghost use Rattle.i9_model.specs.Frames.{flushed};
 ghost use Rattle.i9_model.specs.Tables.{tables_hazard, group_hazard};
 ghost use Rattle.i9_model.specs.Operands.{value};
 ghost use Rattle.i9_model.specs.Faults.{is_invalid};
-ghost use Rattle.i9_model.specs.Step.{Flushes, AsksRestart, AsksGroup, passing, moved, argument_of, interrupt_asked, asked_message};
+ghost use Rattle.i9_model.specs.Step.{Flushes, AsksRestart, AsksGroup, passing, moved, argument_of, interrupt_asked};
+ghost use Rattle.i9_model.specs.Step.{asked_message};
 ghost use Rattle.i9_model.specs.Step.{modac_action, modtc_action, modpc_action};
 ghost use Rattle.i9_processor.specs.Effect.{CanControl, IsEffect, control_in};
 ghost use Rattle.i9_processor.specs.State.{state_of, IsDrained};
@@ -57,7 +58,8 @@ pub(crate) fn plan_modpc(p: &Processor, i: &Inst) -> Effect
 fn controlling(p: &Processor, i: &Inst, control: Control) -> Effect
     requires { CanControl (moved (state_of p.now)
         (record (passing i.now (state_of p.now)) { move = Flushes; control = control_in control })) control }
-    ensures { IsEffect (state_of p.now) (record (passing i.now (state_of p.now)) { move = Flushes; control = control_in control }) result }
+    ensures { IsEffect (state_of p.now)
+        (record (passing i.now (state_of p.now)) { move = Flushes; control = control_in control }) result }
 {
     let mut effect = passing(p, i);
     effect.frames = Move::Flushes;
@@ -113,7 +115,8 @@ fn plan_group(p: &Processor, i: &Inst) -> Result<Effect, u32>
     Ok(controlling(p, i, Control::LoadsGroup(group)))
 }
 
-/// Software asks for an interrupt, unless its vector is below the first one; the next choice looks at what is asked for.
+/// Software asks for an interrupt, unless its vector is below the first one; the next choice looks at what is asked
+/// for.
 fn plan_request(p: &Processor, i: &Inst) -> Result<Effect, u32>
     requires drained { IsDrained p.now }
     ensures { PlansMessage (interrupt_asked (argument_of i.now (state_of p.now))) i.now (state_of p.now) result }

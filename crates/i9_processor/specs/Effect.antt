@@ -1,5 +1,6 @@
 -- An effect as the action of the definitions, and where it can be applied.
-use Rattle.std.specs.Prelude.{◌≡◌, ◌≢◌, ℕ, ◌+◌, ◌<◌, ◌≤◌, ◌%◌, ◌^◌, ◌⊎◌, Bool, true, false, ◌||◌, nat_lt, List, [], ◌∷◌, ◌++◌, length, Option, None, Some, unwrap_or}
+use Rattle.std.specs.Prelude.{◌≡◌, ◌≢◌, ℕ, ◌+◌, ◌<◌, ◌≤◌, ◌%◌, ◌^◌, ◌⊎◌, Bool, true, false, ◌||◌, nat_lt, List, [], ◌∷◌}
+use Rattle.std.specs.Prelude.{◌++◌, length, Option, None, Some, unwrap_or}
 use Rattle.std.specs.List.{AllByRecursion}
 use Rattle.i9_model.specs.declared.layout.TheConstants.{LOCALS, PORT_PAGE}
 use Rattle.i9_model.specs.Writes.{wrapped, pairs_at, upwards, last_put}
@@ -231,7 +232,8 @@ HasRoomToMove s plain.Flushes = Unit {0}
 abbrev pub AreMarkable : Storage → List (ℕ × ℕ) → Type 0
 AreMarkable s ps = AllByRecursion (λ w. HasSoftSpace s w.0 1) ps
 
--- there is room for each byte that an action writes, for their marks where some get one, and for the frame that it saves
+-- there is room for each byte that an action writes, for their marks where some get one, and for the frame that it
+-- saves
 pub record HasRoomFor (p : Processor) (a : plain.Action) : Type 0 where
   pub bytes : AreSpacious p.storage a.writes
   pub soft : a.stale ≢ [] → AreMarkable p.storage a.writes
@@ -278,7 +280,8 @@ size_through asked old a = renewed asked (state_of old).memory a.control (size_o
 -- in a memory.
 abbrev pub AreMade : Option ℕ → Memory → Control → Option Held → Type 0
 AreMade asked m controls.Keeps made = made ≡ None
-AreMade asked m (controls.Restarts first prcb) made = made ≡ Some (held (unwrap_or asked (setup_of m first prcb).sets) [])
+AreMade asked m (controls.Restarts first prcb) made = made
+    ≡ Some (held (unwrap_or asked (setup_of m first prcb).sets) [])
 AreMade asked m (controls.LoadsGroup group) made = made ≡ None
 
 -- nothing is stored, and frames and the controls that start-up reads stay

@@ -34,7 +34,8 @@ pub record AddsWritesOnly (old new : Storage) (ps : List (ℕ × ℕ)) : Type 0 
 -- and here for the bytes in a row of an effect, and for their marks where some get marks
 pub record AddsRunOnly (old new : Storage) (e : Effect) : Type 0 where
   pub bytes : AddsRoomOnlyIn old.behind new.behind e.address (length e.bytes.items)
-  pub marks : (x : ℕ) → (e.stale ≢ 0 → IsApart e.address (length e.bytes.items) x) → HasMarks new.watch x → HasMarks old.watch x
+  pub marks : (x : ℕ) → (e.stale ≢ 0 → IsApart e.address (length e.bytes.items) x) → HasMarks new.watch x
+      → HasMarks old.watch x
 
 -- and here for the frame that a move saves
 abbrev pub AddsMoveOnly : Storage → Storage → Move → Type 0

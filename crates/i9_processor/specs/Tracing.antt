@@ -15,7 +15,8 @@ controls_of c = record { tc = c.tc; breaks = c.breaks }
 -- behind the load of a group of the control table, from such trace controls
 abbrev pub loaded_trace : State → ℕ → ℕ → states.TraceControls
 loaded_trace s tc group =
-    (with_group (record s { trace = record s.trace { tc = tc } }) group (group_words s.memory s.tables.control_table group)).trace
+    (with_group (record s { trace = record s.trace { tc = tc } }) group
+    (group_words s.memory s.tables.control_table group)).trace
 
 -- behind the results of an effect, before trace events set flags
 unfoldable pub trace_left : State → Effect → states.TraceControls

@@ -1,5 +1,6 @@
 //! An effect applied.
-ghost use Rattle.std.specs.Prelude.{◌≡◌, ℕ, List, ◌+◌, ◌*◌, ◌^◌, ◌<◌, ◌≤◌, OnOk, OnErr, IfSome, IsSome, None, [], ◌∷◌, ◌++◌, length, replicate, true, false};
+ghost use Rattle.std.specs.Prelude.{◌≡◌, ℕ, List, ◌+◌, ◌*◌, ◌^◌, ◌<◌, ◌≤◌, OnOk, OnErr, IfSome, IsSome, None, [], ◌∷◌};
+ghost use Rattle.std.specs.Prelude.{◌++◌, length, replicate, true, false};
 ghost use Rattle.std.specs.List.{AllByRecursion};
 ghost use Rattle.i9_model.specs.Late.{resource, resources, due_puts, left_waiting};
 ghost use Rattle.i9_model.specs.Controls.{KeepsControls, marks_after, with_group, controlled};
@@ -22,8 +23,11 @@ ghost use Rattle.i9_watch.specs.Bits.{bits_of};
 ghost use Rattle.i9_processor.specs.Issued.{AreCovered, IsCodeCovered, IsStartCovered, IsIssued};
 ghost use Rattle.i9_processor.specs.Pages.{AddsRunOnly, AddsMoveOnly, AddsWritesOnly};
 ghost use Rattle.i9_processor.specs.Acts.{CanPut, IsDrainedToMove, IsDrainedToControl};
-ghost use Rattle.i9_processor.specs.Effect.{action_in, one_in, requests_in, run_in, writes_in, posting_in, change_in, move_in, group_in, sets_in, marked_in, stale_in, lost_by, control_in, cache_through, size_with, is_costly, has_writes};
-ghost use Rattle.i9_processor.specs.Effect.{AreRegisters, AreSpacious, CanPost, CanChange, CanControl, CanMove, HasMoveSpace, HasRunSpace, HasSpaceFor, KeepsRoom, IsEmptied, CanTake};
+ghost use Rattle.i9_processor.specs.Effect.{action_in, one_in, requests_in, run_in, writes_in, posting_in, change_in};
+ghost use Rattle.i9_processor.specs.Effect.{move_in, group_in, sets_in, marked_in, stale_in, lost_by, control_in};
+ghost use Rattle.i9_processor.specs.Effect.{cache_through, size_with, is_costly, has_writes};
+ghost use Rattle.i9_processor.specs.Effect.{AreRegisters, AreSpacious, CanPost, CanChange, CanControl, CanMove};
+ghost use Rattle.i9_processor.specs.Effect.{HasMoveSpace, HasRunSpace, HasSpaceFor, KeepsRoom, IsEmptied, CanTake};
 
 use crate::effect::{Control, DmaChange, Effect, MOST_BYTES, Move, Posting, Requests};
 use crate::landing::Landing;
@@ -439,7 +443,8 @@ impl Processor {
               (lost_by (state_of self.old) e.now.frames);
         } }
         ensures memory { (state_of self.new).memory ≡ overlaid (cache_of self.new) }
-        ensures cache { cache_of self.new ≡ cache_moved (size_of self.old) (move_in (state_of self.old) e.now.frames) (cache_of self.old) }
+        ensures cache { cache_of self.new
+            ≡ cache_moved (size_of self.old) (move_in (state_of self.old) e.now.frames) (cache_of self.old) }
         ensures keeps { KeepsRest self.old self.new }
         ensures issued { IsIssued landing.now.writes landing.now.done self.new.flags self.old.file self.new.file }
         ensures bytes { move_in (state_of self.old) e.now.frames ≡ Stays → bytes_of self.new ≡ bytes_of self.old }
@@ -481,7 +486,8 @@ impl Processor {
     #[tactic(auto, unfolding(crate::specs::State::state_of, crate::specs::State::cache_of, crate::specs::State::size_of, crate::specs::State::bytes_of, crate::specs::State::queue_of))]
     fn post(&mut self, p: Posting)
         requires { CanPost p }
-        ensures state { state_of self.new ≡ record (state_of self.old) { interrupts = posting_in p (state_of self.old).interrupts } }
+        ensures state { state_of self.new
+            ≡ record (state_of self.old) { interrupts = posting_in p (state_of self.old).interrupts } }
         ensures keeps { KeepsParts self.old self.new }
     {
         match p {
@@ -502,7 +508,8 @@ impl Processor {
     #[tactic(auto, unfolding(crate::specs::State::state_of, crate::specs::State::cache_of, crate::specs::State::size_of, crate::specs::State::bytes_of, crate::specs::State::queue_of))]
     fn change_dma(&mut self, change: DmaChange)
         requires { CanChange change }
-        ensures state { state_of self.new ≡ record (state_of self.old) { dma = change_in change (state_of self.old).dma } }
+        ensures state { state_of self.new
+            ≡ record (state_of self.old) { dma = change_in change (state_of self.old).dma } }
         ensures keeps { KeepsParts self.old self.new }
     {
         match change {
@@ -539,12 +546,14 @@ impl Processor {
           memory = (state_of self.new).memory;
         } }
         ensures memory { (state_of self.new).memory ≡ overlaid (cache_of self.new) }
-        ensures cache { cache_of self.new ≡ cache_acted (size_of self.old) (action_in (state_of self.old) e.now) (cache_of self.old) }
+        ensures cache { cache_of self.new
+            ≡ cache_acted (size_of self.old) (action_in (state_of self.old) e.now) (cache_of self.old) }
         ensures size { size_of self.new ≡ size_of self.old }
         ensures count { (state_of self.new).count ≡ (state_of self.old).count }
         ensures issued { IsIssued landing.now.writes landing.now.done self.new.flags self.old.file self.new.file }
         ensures waits { landing.now.request ≡ true → (bytes_of self.new ≡ bytes_of self.old)
-            × (queue_of self.new ≡ queue_of self.old ++ record { puts = writes_in e.now; due = landing.now.done } ∷ []) }
+            × (queue_of self.new ≡ queue_of self.old ++ record { puts = writes_in e.now; due = landing.now.done }
+            ∷ []) }
         ensures acts { landing.now.request ≡ false → queue_of self.new ≡ queue_of self.old }
         ensures still { landing.now.request ≡ false → IsStill (action_in (state_of self.old) e.now)
             → bytes_of self.new ≡ bytes_of self.old }
@@ -629,7 +638,8 @@ impl Processor {
         requires count { (state_of self.old).count + counts < 2 ^ 63 }
         requires covered { IsCovered landing.now.writes (state_of self.old) (action_in (state_of self.old) e.now) }
         requires acts { CanAct self.old landing.now e.now }
-        ensures state { AreAlike (counted counts (acted (state_of self.old) (action_in (state_of self.old) e.now))) (state_of self.new) }
+        ensures state { AreAlike (counted counts (acted (state_of self.old) (action_in (state_of self.old) e.now)))
+            (state_of self.new) }
         ensures cache { cache_of self.new ≡ cache_through self.old (action_in (state_of self.old) e.now) self.new }
         ensures size { size_of self.new ≡ size_with sets (size_of self.old) }
         ensures count { (state_of self.new).count ≡ (state_of self.old).count + counts }

@@ -13,7 +13,8 @@ use i9_memory::Memory;
 /// Stores the bytes of segments.
 #[tactic(auto, using(crate::proofs::Loading::load_rules))]
 fn load_all(memory: &mut Memory, segments: &[Segment]) -> Result<(), NoMemory>
-    ensures ok { OnOk result (memory_of memory.new ≡ with_writes (memory_of memory.old) (pairs_of (map part_of segments.now))) }
+    ensures ok { OnOk result
+        (memory_of memory.new ≡ with_writes (memory_of memory.old) (pairs_of (map part_of segments.now))) }
     ensures only { AddsRoomFor memory.old memory.new (pairs_of (map part_of segments.now)) }
 {
     for segment in segments {

@@ -81,7 +81,8 @@ impl Processor {
         ensures cache { IfOk result (λ p. cache_of p ≡ cache [] (boot (pairs_of image.now)).memory) }
         ensures size { IfOk result (λ p. size_of p ≡ sets_in sets (boot (pairs_of image.now))) }
         ensures count { IfOk result (λ p. (state_of p).count ≡ 0) }
-        ensures cells { IfOk result (λ p. (r : ℕ) → r < resources → cells_of p r ≡ still (resource (boot (pairs_of image.now)) r)) }
+        ensures cells { IfOk result
+            (λ p. (r : ℕ) → r < resources → cells_of p r ≡ still (resource (boot (pairs_of image.now)) r)) }
         ensures bytes { IfOk result (λ p. bytes_of p ≡ (boot (pairs_of image.now)).memory.bytes) }
         ensures queue { IfOk result (λ p. queue_of p ≡ []) }
         ensures pages { IfOk result (λ p. HasPagesFor p (pairs_of image.now)) }

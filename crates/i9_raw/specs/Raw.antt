@@ -1,5 +1,6 @@
 -- What of memory has landed at a turn, and the bytes that stood under what a barrier writes.
-use Rattle.std.specs.Prelude.{◌≡◌, ℕ, ◌≤◌, Bool, true, false, not, ◌&&◌, nat_le, if◌then◌else◌, List, [], ◌∷◌, length, map, unwrap_or}
+use Rattle.std.specs.Prelude.{◌≡◌, ℕ, ◌≤◌, Bool, true, false, not, ◌&&◌, nat_le, if◌then◌else◌, List, [], ◌∷◌, length}
+use Rattle.std.specs.Prelude.{map, unwrap_or}
 use Rattle.std.specs.List.{AllByRecursion}
 use Rattle.i9_model.specs.declared.need.Need.{Need}
 use Rattle.i9_model.specs.Frames.{places, is_put}
@@ -10,7 +11,8 @@ use Rattle.i9_shade.specs.Shade.{Piece, Kept, piece, shown, Lacks}
 -- the bytes of memory with those that records brought which are done by a turn, in order
 abbrev pub raw_memory : (ℕ → ℕ) → ℕ → List Late → ℕ → ℕ
 raw_memory first t [] = first
-raw_memory first t (x ∷ xs) = if nat_le x.timed.done t then stored (raw_memory first t xs) x.puts else raw_memory first t xs
+raw_memory first t (x ∷ xs) = if nat_le x.timed.done t then stored
+    (raw_memory first t xs) x.puts else raw_memory first t xs
 
 -- ---- what stands under writes
 

@@ -1,5 +1,6 @@
 //! The bytes that stand under what an effect stores at once.
-ghost use Rattle.std.specs.Prelude.{◌≡◌, ◌+◌, ◌<◌, ◌≤◌, ◌++◌, ◌∷◌, [], nat_lt, if◌then◌else◌, length, map, reverse, true, false};
+ghost use Rattle.std.specs.Prelude.{◌≡◌, ◌+◌, ◌<◌, ◌≤◌, ◌++◌, ◌∷◌, [], nat_lt, if◌then◌else◌, length, map, reverse};
+ghost use Rattle.std.specs.Prelude.{true, false};
 ghost use Rattle.i9_model.specs.Frames.{places};
 ghost use Rattle.i9_model.specs.Step.{Action};
 ghost use Rattle.i9_model.specs.HeldFrames.{AreWhole};
@@ -72,7 +73,8 @@ fn keep_oldest(p: &Processor, shade: &mut Shade)
     requires empty { shade.old.pieces ≡ [] }
     requires whole { AreWhole (cache_of p.now).held }
     ensures adds { Adds (bytes_of p.now)
-        (if nat_lt (length (cache_of p.now).held) (size_of p.now) then [] else oldest_writes (cache_of p.now).behind (cache_of p.now).held)
+        (if nat_lt (length (cache_of p.now).held) (size_of p.now) then [] else oldest_writes (cache_of p.now).behind
+        (cache_of p.now).held)
         1 [] shade.new.pieces }
     ensures due { shade.new.due ≡ shade.old.due }
 {
@@ -90,7 +92,8 @@ fn keep_oldest(p: &Processor, shade: &mut Shade)
 fn keep_moved(p: &Processor, m: &Move, shade: &mut Shade)
     requires empty { shade.old.pieces ≡ [] }
     requires whole { AreWhole (cache_of p.now).held }
-    ensures adds { Adds (bytes_of p.now) (move_writes (size_of p.now) (cache_of p.now) (move_in (state_of p.now) m.now)) 15 [] shade.new.pieces }
+    ensures adds { Adds (bytes_of p.now)
+        (move_writes (size_of p.now) (cache_of p.now) (move_in (state_of p.now) m.now)) 15 [] shade.new.pieces }
     ensures due { shade.new.due ≡ shade.old.due }
 {
     match m {
@@ -140,7 +143,8 @@ fn keep_stored(p: &Processor, e: &Effect, shade: &mut Shade)
 fn keep_all(p: &Processor, e: &Effect, shade: &mut Shade)
     requires empty { shade.old.pieces ≡ [] }
     requires whole { AreWhole (cache_of p.now).held }
-    ensures hides { Hides (bytes_of p.now) (puts_of (size_of p.now) (cache_of p.now) (action_in (state_of p.now) e.now)) shade.new.pieces }
+    ensures hides { Hides (bytes_of p.now)
+        (puts_of (size_of p.now) (cache_of p.now) (action_in (state_of p.now) e.now)) shade.new.pieces }
     ensures due { shade.new.due ≡ shade.old.due }
 {
     keep_moved(p, &e.frames, shade);
@@ -153,7 +157,8 @@ fn keep_all(p: &Processor, e: &Effect, shade: &mut Shade)
 #[inline(never)]
 fn hide_all(p: &Processor, e: &Effect, done: u64, shade: &mut Shade)
     requires whole { AreWhole (cache_of p.now).held }
-    ensures hides { Hides (bytes_of p.now) (puts_of (size_of p.now) (cache_of p.now) (action_in (state_of p.now) e.now)) shade.new.pieces }
+    ensures hides { Hides (bytes_of p.now)
+        (puts_of (size_of p.now) (cache_of p.now) (action_in (state_of p.now) e.now)) shade.new.pieces }
     ensures due { shade.new.due ≡ done }
 {
     shade.due(0);

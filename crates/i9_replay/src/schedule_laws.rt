@@ -6,7 +6,8 @@ ghost use Rattle.i9_model.specs.declared.event.Event as events;
 ghost use Rattle.i9_model.specs.declared.event.Timed as timed;
 ghost use Rattle.i9_model.specs.declared.event.Said.TheVariants as said;
 ghost use Rattle.i9_model.specs.Events.{Words, IsInRange, journal_text};
-ghost use Rattle.i9_model.specs.ScheduleText.{Contents, IsVersion, IsOfVersion, AreOfVersion, IsTimed, IsPlan, IsSchedule, version_in, timed_of, line_of, timed_at, last_count};
+ghost use Rattle.i9_model.specs.ScheduleText.{Contents, IsVersion, IsOfVersion, AreOfVersion, IsTimed, IsPlan};
+ghost use Rattle.i9_model.specs.ScheduleText.{IsSchedule, version_in, timed_of, line_of, timed_at, last_count};
 ghost use Rattle.i9_model.specs.PrintedText.{Shown, heading_text, text_of, events_of};
 
 /// What the words of a line say, by cases, is what the function on words gives.
@@ -20,7 +21,8 @@ pub fn words_say_events()
 pub fn journal_is_read_back()
     ensures words { (version k : ℕ) (e : events.Event) → IsOfVersion version e → k ≤ last_count → IsInRange e
         → IsTimed version (texts.words_of (journal_text k e)) (timed_at k e) }
-    ensures line { (told : Option ℕ) (k : ℕ) (e : events.Event) → IsOfVersion (version_in told) e → k ≤ last_count → IsInRange e
+    ensures line { (told : Option ℕ) (k : ℕ) (e : events.Event) → IsOfVersion (version_in told) e → k ≤ last_count
+        → IsInRange e
         → line_of told (journal_text k e) ≡ Ok (said.Event (timed_at k e)) }
 {}
 

@@ -92,8 +92,8 @@ const REFUSES: [(&str, &str, u8, &str); 7] = [
     ("", "Asmelf a", 1, "#words\n"),
 ];
 
-/// The status of words where `a` is this file and `b` the script, over a sink whose write of this number fails, and whether
-/// these bytes are printed.
+/// The status of words where `a` is this file and `b` the script, over a sink whose write of this number fails, and
+/// whether these bytes are printed.
 fn answers(
     alloc: Global,
     file: &[u8],

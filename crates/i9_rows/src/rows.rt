@@ -92,7 +92,8 @@ fn register_text(alloc: Global, word: &str) -> Result<String, Fail> {
     Ok(format!(in alloc; "{value:08X}")?)
 }
 
-/// What is given for the register of this number, of those that are given, as `4=1F` or `4=-`; 0 where it is none of them.
+/// What is given for the register of this number, of those that are given, as `4=1F` or `4=-`; 0 where it is none of
+/// them.
 fn register(given: &str, number: u32) -> Result<&str, Fail> {
     for part in given.split(' ') {
         if let Some((place, word)) = part.split_once("=") {

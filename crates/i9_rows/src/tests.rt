@@ -71,8 +71,8 @@ run b - 15 10
 run b a - 10
 run a b - 10";
 
-/// Room for bytes, the write that fails, and the lines that are printed. A line for which there is no room is not begun:
-/// `#out 41` and its line feed are eight bytes, the line of the drained point is forty.
+/// Room for bytes, the write that fails, and the lines that are printed. A line for which there is no room is not
+/// begun: `#out 41` and its line feed are eight bytes, the line of the drained point is forty.
 const FAILING_WRITES: &str = "4096 1 0
 4096 2 1
 4096 3 2

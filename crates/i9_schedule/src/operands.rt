@@ -4,7 +4,8 @@ ghost use Rattle.std.specs.Option.{option_map};
 ghost use Rattle.std.specs.Result.{result_ok};
 ghost use Rattle.hex.specs.Hex.{decode_of};
 ghost use Rattle.i9_text.specs.Text.{words_of};
-ghost use Rattle.i9_model.specs.Events.{decimal_in, bytes_in, pin_of, low_of, high_of, nmi_of, dma_of, feed_of, show_of, level_event_of, event_of};
+ghost use Rattle.i9_model.specs.Events.{decimal_in, bytes_in, pin_of, low_of, high_of, nmi_of, dma_of, feed_of};
+ghost use Rattle.i9_model.specs.Events.{show_of, level_event_of, event_of};
 
 use crate::error::{BAD_OPERAND, UNKNOWN_EVENT};
 use crate::version::LEVELS_VERSION;

@@ -1,7 +1,8 @@
 //! Reading a text line by line.
 ghost use Rattle.std.specs.Prelude.{◌≡◌, ℕ, None, Ok, Err, IfOk, IfErr};
 ghost use Rattle.i9_text.specs.Text.{lines_of};
-ghost use Rattle.i9_model.specs.ScheduleText.{Contents, contents_of, IsSchedule, IsRefused, fault_of, version_in, with_event};
+ghost use Rattle.i9_model.specs.ScheduleText.{Contents, contents_of, IsSchedule, IsRefused, fault_of, version_in};
+ghost use Rattle.i9_model.specs.ScheduleText.{with_event};
 ghost use Rattle.i9_schedule.specs.Lines.{with_line};
 ghost use Rattle.i9_schedule.specs.Plan.{contents};
 ghost use Rattle.i9_schedule.specs.Reading.{said_by, Takes, Reads, IfBad};

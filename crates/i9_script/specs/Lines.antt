@@ -7,7 +7,8 @@ use Rattle.i9_model.specs.Events.{Words, decimal_in, address_of, most_shown, one
 use Rattle.i9_model.specs.ScheduleText.{is_ascii, is_skipped, and_then}
 use Rattle.i9_script.specs.ScriptText.{most_turns, most_back, unknown_command, bad_operand}
 use Rattle.i9_script.specs.declared.command.Command.{Command}
-use Rattle.i9_script.specs.declared.command.Command.TheVariants.{Turn, Until, Regs, Raw, Held, Mem, RawMem, Back, Last, Who}
+use Rattle.i9_script.specs.declared.command.Command.TheVariants.{Turn, Until, Regs, Raw, Held, Mem, RawMem, Back, Last}
+use Rattle.i9_script.specs.declared.command.Command.TheVariants.{Who}
 
 -- a command that has no operands
 abbrev pub bare_of : Command → Words → Option Command

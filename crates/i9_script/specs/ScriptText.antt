@@ -7,7 +7,8 @@ use Rattle.i9_text.specs.FirstFault as texts
 use Rattle.i9_model.specs.Events.{Words, decimal_in, address_of, last_address, most_shown}
 use Rattle.i9_model.specs.ScheduleText.{is_ascii, is_skipped}
 use Rattle.i9_script.specs.declared.command.Command.{Command}
-use Rattle.i9_script.specs.declared.command.Command.TheVariants.{Turn, Until, Regs, Raw, Held, Mem, RawMem, Back, Last, Who}
+use Rattle.i9_script.specs.declared.command.Command.TheVariants.{Turn, Until, Regs, Raw, Held, Mem, RawMem, Back, Last}
+use Rattle.i9_script.specs.declared.command.Command.TheVariants.{Who}
 
 -- ---- limits, with those of an event
 

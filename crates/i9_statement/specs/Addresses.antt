@@ -1,10 +1,12 @@
 -- Addresses of the memory format.
-use Rattle.std.specs.Prelude.{ℕ, ◌==◌, nat_lt, Bool, true, false, List, [], ◌∷◌, codes, Option, Some, None, if◌then◌else◌}
+use Rattle.std.specs.Prelude.{ℕ, ◌==◌, nat_lt, Bool, true, false, List, [], ◌∷◌, codes, Option, Some, None}
+use Rattle.std.specs.Prelude.{if◌then◌else◌}
 use Rattle.std.specs.Option.{option_and_then, option_map}
 use Rattle.std.specs.List.{position}
 use Rattle.std.specs.Str.{bytes_eq}
 use Rattle.i9_isa.specs.declared.inst.Mode.{Mode}
-use Rattle.i9_isa.specs.declared.inst.Mode.TheVariants.{Offset, BaseOffset, BaseIndex, Disp, BaseDisp, IndexDisp, BaseIndexDisp}
+use Rattle.i9_isa.specs.declared.inst.Mode.TheVariants.{Offset, BaseOffset, BaseIndex, Disp, BaseDisp, IndexDisp}
+use Rattle.i9_isa.specs.declared.inst.Mode.TheVariants.{BaseIndexDisp}
 use Rattle.i9_isa.specs.declared.inst.Ea.{Ea}
 use Rattle.i9_isa.specs.declared.inst.Operand.{Operand}
 use Rattle.i9_isa.specs.declared.inst.Operand.TheVariants.{Reg}
@@ -79,7 +81,8 @@ scaled _ _ = None
 -- a register, `*` and a scale
 abbrev pub scaled_register : List ℕ → Option Index
 scaled_register s =
-    option_and_then (λ k. scaled (register_place (before (is_byte star) s)) (scale_of k)) (behind star (from (is_byte star) s))
+    option_and_then (λ k. scaled (register_place (before (is_byte star) s)) (scale_of k))
+    (behind star (from (is_byte star) s))
 
 -- behind it stands nothing
 abbrev pub if_last : List ℕ × List ℕ → Option Index
@@ -152,7 +155,13 @@ scale_part index.Nothing = 0
 abbrev pub address_by : Option Mode → Front → Base → Index → Noted Ea
 address_by None f b i = wrong fault.Form no_address
 address_by (Some m) f b i = record {
-  value = record { mode = m; base = (base_part b).value; index = (index_part i).value; scale = scale_part i; disp = (disp_part f).value };
+  value = record {
+    mode = m;
+    base = (base_part b).value;
+    index = (index_part i).value;
+    scale = scale_part i;
+    disp = (disp_part f).value;
+  };
   fault = least (base_part b).fault (least (index_part i).fault (disp_part f).fault);
 }
 

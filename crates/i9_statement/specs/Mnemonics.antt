@@ -1,9 +1,23 @@
 -- Mnemonics.
-use Rattle.std.specs.Prelude.{ℕ, ◌==◌, Bool, true, false, List, [], ◌∷◌, ◌++◌, codes, Option, Some, None, find, if◌then◌else◌}
+use Rattle.std.specs.Prelude.{ℕ, ◌==◌, Bool, true, false, List, [], ◌∷◌, ◌++◌, codes, Option, Some, None, find}
+use Rattle.std.specs.Prelude.{if◌then◌else◌}
 use Rattle.std.specs.Option.{option_and_then}
 use Rattle.std.specs.Str.{bytes_eq}
 use Rattle.i9_isa.specs.declared.op.Op.{Op}
-use Rattle.i9_isa.specs.declared.op.Op.TheVariants.{Notbit, And, Andnot, Setbit, Notand, Xor, Or, Nor, Xnor, Ornot, Clrbit, Notor, Nand, Alterbit, Addo, Addi, Subo, Subi, Shro, Shrdi, Shri, Shlo, Rotate, Shli, Cmpinco, Cmpinci, Cmpdeco, Cmpdeci, Addc, Subc, Atadd, Modac, Modtc, Emul, Ediv, Mulo, Remo, Divo, Muli, Remi, Modi, Divi, Not, Mov, Movl, Movt, Movq, Spanbit, Scanbit, Cmpo, Cmpi, Concmpo, Concmpi, Scanbyte, Chkbit, Atmod, Modify, Extract, Modpc, Sdma, Sysctl, Calls, Udma, Mark, Fmark, Flushreg, Syncf, Testno, Testg, Teste, Testge, Testl, Testne, Testle, Testo, Bbc, Cmpobg, Cmpobe, Cmpobge, Cmpobl, Cmpobne, Cmpoble, Bbs, Cmpibno, Cmpibg, Cmpibe, Cmpibge, Cmpibl, Cmpibne, Cmpible, Cmpibo, B, Call, Ret, Bal, Bno, Bg, Be, Bge, Bl, Bne, Ble, Bo, Faultno, Faultg, Faulte, Faultge, Faultl, Faultne, Faultle, Faulto, Ldob, Stob, Bx, Balx, Callx, Ldos, Stos, Lda, Ld, St, Ldl, Stl, Ldt, Stt, Ldq, Stq, Ldib, Stib, Ldis, Stis}
+use Rattle.i9_isa.specs.declared.op.Op.TheVariants.{Notbit, And, Andnot, Setbit, Notand, Xor, Or, Nor, Xnor, Ornot}
+use Rattle.i9_isa.specs.declared.op.Op.TheVariants.{Clrbit, Notor, Nand, Alterbit, Addo, Addi, Subo, Subi, Shro, Shrdi}
+use Rattle.i9_isa.specs.declared.op.Op.TheVariants.{Shri, Shlo, Rotate, Shli, Cmpinco, Cmpinci, Cmpdeco, Cmpdeci, Addc}
+use Rattle.i9_isa.specs.declared.op.Op.TheVariants.{Subc, Atadd, Modac, Modtc, Emul, Ediv, Mulo, Remo, Divo, Muli, Remi}
+use Rattle.i9_isa.specs.declared.op.Op.TheVariants.{Modi, Divi, Not, Mov, Movl, Movt, Movq, Spanbit, Scanbit, Cmpo}
+use Rattle.i9_isa.specs.declared.op.Op.TheVariants.{Cmpi, Concmpo, Concmpi, Scanbyte, Chkbit, Atmod, Modify, Extract}
+use Rattle.i9_isa.specs.declared.op.Op.TheVariants.{Modpc, Sdma, Sysctl, Calls, Udma, Mark, Fmark, Flushreg, Syncf}
+use Rattle.i9_isa.specs.declared.op.Op.TheVariants.{Testno, Testg, Teste, Testge, Testl, Testne, Testle, Testo, Bbc}
+use Rattle.i9_isa.specs.declared.op.Op.TheVariants.{Cmpobg, Cmpobe, Cmpobge, Cmpobl, Cmpobne, Cmpoble, Bbs, Cmpibno}
+use Rattle.i9_isa.specs.declared.op.Op.TheVariants.{Cmpibg, Cmpibe, Cmpibge, Cmpibl, Cmpibne, Cmpible, Cmpibo, B, Call}
+use Rattle.i9_isa.specs.declared.op.Op.TheVariants.{Ret, Bal, Bno, Bg, Be, Bge, Bl, Bne, Ble, Bo, Faultno, Faultg}
+use Rattle.i9_isa.specs.declared.op.Op.TheVariants.{Faulte, Faultge, Faultl, Faultne, Faultle, Faulto, Ldob, Stob, Bx}
+use Rattle.i9_isa.specs.declared.op.Op.TheVariants.{Balx, Callx, Ldos, Stos, Lda, Ld, St, Ldl, Stl, Ldt, Stt, Ldq, Stq}
+use Rattle.i9_isa.specs.declared.op.Op.TheVariants.{Ldib, Stib, Ldis, Stis}
 use Rattle.i9_isa.specs.Table.{row_of, names}
 use Rattle.i9_value.specs.Cut.{before, from, is_byte}
 
@@ -168,7 +182,8 @@ with_hint op (Some hint) = Some (op, hint)
 
 -- the name and the prediction of the first word of a statement
 unfoldable pub named_by : List ℕ → Option (Op × Bool)
-named_by s = option_and_then (λ op. with_hint op (hint_by (row_of op).hint (from (is_byte dot) s))) (op_named (before (is_byte dot) s))
+named_by s = option_and_then (λ op. with_hint op (hint_by (row_of op).hint (from (is_byte dot) s)))
+    (op_named (before (is_byte dot) s))
 
 -- the first word of a statement
 abbrev pub mnemonic_text : Op → Bool → List ℕ

@@ -1,5 +1,6 @@
 -- The text of registers, values and addresses.
-use Rattle.std.specs.Prelude.{ℕ, ◌+◌, ◌-◌, ◌%◌, ◌^◌, ◌<◌, ◌==◌, nat_lt, Bool, true, false, List, [], ◌∷◌, ◌++◌, codes, get_or, ℤ, pos, negsuc, if◌then◌else◌}
+use Rattle.std.specs.Prelude.{ℕ, ◌+◌, ◌-◌, ◌%◌, ◌^◌, ◌<◌, ◌==◌, nat_lt, Bool, true, false, List, [], ◌∷◌, ◌++◌, codes}
+use Rattle.std.specs.Prelude.{get_or, ℤ, pos, negsuc, if◌then◌else◌}
 use Rattle.std.specs.Fmt.{decimal}
 use Rattle.i9_isa.specs.declared.inst.Operand.{Operand}
 use Rattle.i9_isa.specs.declared.inst.Operand.TheVariants.{Reg, Lit, Sfr}
@@ -43,11 +44,13 @@ base_text m r = if has_base m then open_round ∷ register_text r ++ close_round
 
 -- the index in square brackets
 abbrev pub index_text : Mode → ℕ → ℕ → List ℕ
-index_text m r s = if has_index m then open_square ∷ (register_text r ++ star ∷ get_or scale_names s []) ++ close_square ∷ [] else []
+index_text m r s = if has_index m then open_square ∷ (register_text r ++ star ∷ get_or scale_names s [])
+    ++ close_square ∷ [] else []
 
 -- the text of an address
 unfoldable pub address_text : Ea → List ℕ
-address_text e = bang_text e.mode e.disp ++ (front_text e.mode e.disp ++ (base_text e.mode e.base ++ index_text e.mode e.index e.scale))
+address_text e = bang_text e.mode e.disp
+    ++ (front_text e.mode e.disp ++ (base_text e.mode e.base ++ index_text e.mode e.index e.scale))
 
 -- the target of a branch at ip
 abbrev pub target : ℕ → ℤ → ℕ

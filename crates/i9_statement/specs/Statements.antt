@@ -66,7 +66,8 @@ with_spare n bits = joined n (spare_noted n.value bits)
 
 -- what stands where no mnemonic is known
 abbrev pub no_statement : Statement
-no_statement = said (record { op = Notbit; a = Reg 0; b = Reg 0; c = Reg 0; ea = no_address; disp = pos 0; hint = false }) 0
+no_statement = said (record
+    { op = Notbit; a = Reg 0; b = Reg 0; c = Reg 0; ea = no_address; disp = pos 0; hint = false }) 0
 
 -- by the name and the prediction; the operands end at a brace
 abbrev pub statement_by : ℕ → Names → Option (Op × Bool) → List ℕ → Noted Statement

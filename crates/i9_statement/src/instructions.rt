@@ -4,7 +4,8 @@ ghost use Rattle.i9_isa.specs.Table.{row_of};
 ghost use Rattle.i9_isa.specs.Valid.{IsValid};
 ghost use Rattle.i9_value.specs.Known.{known_in};
 ghost use Rattle.i9_statement.specs.Fields.{fields_of, fields_left};
-ghost use Rattle.i9_statement.specs.Instructions.{take_operand, take_address, take_target, left_over, chosen, instruction_of};
+ghost use Rattle.i9_statement.specs.Instructions.{take_operand, take_address, take_target, left_over, chosen};
+ghost use Rattle.i9_statement.specs.Instructions.{instruction_of};
 
 use crate::addresses::address_of;
 use crate::fields::{fields_of, split_field};
@@ -59,7 +60,8 @@ fn take_target<'a>(
     names: Known<'_>,
     fields: Option<&'a [u8]>,
 ) -> (Noted<i32>, Option<&'a [u8]>)
-    ensures { take_target used ip format (known_in names.entry) (fields_left fields.entry) ≡ (result.0, fields_left result.1) }
+    ensures { take_target used ip format (known_in names.entry) (fields_left fields.entry)
+        ≡ (result.0, fields_left result.1) }
 {
     if !used {
         return (fine(0), fields);

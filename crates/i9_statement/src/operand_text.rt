@@ -2,7 +2,8 @@
 ghost use Rattle.std.specs.Prelude.{◌≡◌, ◌++◌, ◌<◌, ◌^◌, OnOk, true, get_or, []};
 ghost use Rattle.i9_isa.specs.Operands.{is_address};
 ghost use Rattle.i9_statement.specs.Addresses.{scale_names};
-ghost use Rattle.i9_statement.specs.Printed.{HasText, operand_text, needs_bang, bang_text, front_text, base_text, index_text, address_text, target, target_text};
+ghost use Rattle.i9_statement.specs.Printed.{HasText, operand_text, needs_bang, bang_text, front_text, base_text};
+ghost use Rattle.i9_statement.specs.Printed.{index_text, address_text, target, target_text};
 
 use i9_isa::{Ea, Mode, Operand};
 use i9_value::{add_decimal, add_hex, register_name};

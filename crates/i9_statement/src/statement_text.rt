@@ -133,7 +133,8 @@ pub fn add_statement(
     statement: &Statement,
 ) -> Result<(), AllocError>
     requires { IsValid statement.now.inst }
-    ensures { OnOk result (text.new.items ≡ text.old.items ++ statement_text ip statement.now.inst statement.now.spare) }
+    ensures { OnOk result
+        (text.new.items ≡ text.old.items ++ statement_text ip statement.now.inst statement.now.spare) }
 {
     let inst = &statement.inst;
     add_mnemonic(text, inst.op, inst.hint)?;

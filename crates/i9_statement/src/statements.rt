@@ -3,7 +3,8 @@ ghost use Rattle.std.specs.Prelude.{◌≡◌};
 ghost use Rattle.std.specs.Int.Bits.{bit_and};
 ghost use Rattle.i9_value.specs.Known.{known_in};
 ghost use Rattle.i9_decode.specs.Ignored.{ignored_bits};
-ghost use Rattle.i9_statement.specs.Statements.{if_nothing_left, braced, spare_of, spare_noted, with_spare, statement_by, statement_of};
+ghost use Rattle.i9_statement.specs.Statements.{if_nothing_left, braced, spare_of, spare_noted, with_spare};
+ghost use Rattle.i9_statement.specs.Statements.{statement_by, statement_of};
 ghost use Rattle.i9_isa.specs.Valid.{IsValid};
 
 use crate::instructions::instruction_of;

@@ -27,7 +27,8 @@ laid_without k b h = over (take (length h.frames - k) h.frames) (settled b)
 
 -- the byte so far above the address of a frame, in the order that its word has there
 abbrev pub byte_in_frame : Behind → Frame → ℕ → ℕ
-byte_in_frame b f above = slice_index (word_bytes (settled b) (wrapped (f.address + 4 * (above / 4))) (slice_index f.words (above / 4))) (above % 4)
+byte_in_frame b f above = slice_index
+    (word_bytes (settled b) (wrapped (f.address + 4 * (above / 4))) (slice_index f.words (above / 4))) (above % 4)
 
 -- each of these frames can be written to memory
 abbrev pub HaveRoom : Behind → List Frame → Type 0

@@ -70,7 +70,8 @@ fn drop_frame(watch: &mut Watch)
 fn mark_stored(watch: &mut Watch, a: u32, n: u32, stale: u16)
     requires few { stale ≢ 0 → n ≤ 16 }
     requires room { stale ≢ 0 → HasRunMarks watch.old a n }
-    ensures frames { frames_of watch.new ≡ softened (wrote_run (frames_of watch.old) a n) (picked wrapped a (bits_of stale n)) }
+    ensures frames { frames_of watch.new
+        ≡ softened (wrote_run (frames_of watch.old) a n) (picked wrapped a (bits_of stale n)) }
     ensures keeps { KeepsMarks watch.old watch.new }
     ensures no_more { KeepsMarks watch.new watch.old }
 {
@@ -206,7 +207,8 @@ impl Storage {
     /// left is the same memory as far as that is compared.
     pub fn restore_frame(&mut self)
         ensures cache { cache_of self.new ≡ taken (cache_of self.old) }
-        ensures memory { AgreeWhere (is_compared (returned (frames_in self.old))) (memory_in self.old) (memory_in self.new).bytes }
+        ensures memory { AgreeWhere (is_compared (returned (frames_in self.old))) (memory_in self.old)
+            (memory_in self.new).bytes }
         ensures frames { frames_in self.new ≡ returned (frames_in self.old) }
         ensures acted { acted_in self.new ≡ acted_in self.old }
         ensures keeps { KeepsRest self.old self.new }

@@ -24,8 +24,8 @@ module _ {F : Type 0} (reads : F → Option (List ℕ) → F → Type 0) where
   ReadsOf before (piece ∷ pieces) after =
       (next : F) × (0 < length piece) × reads before (Some piece) next × ReadsOf next pieces after
 
-  -- The reads of a fetch, whose pieces went into the buffer. It ends at the first read that fails or gives nothing, at a
-  -- piece for which memory was refused, or behind the limit.
+  -- The reads of a fetch, whose pieces went into the buffer. It ends at the first read that fails or gives nothing, at
+  -- a piece for which memory was refused, or behind the limit.
   abbrev pub ReadsTo : Fetch → F → List (List ℕ) → F → Type 0
   ReadsTo fetches.Ok before pieces after =
       (last : F) × ReadsOf before pieces last × reads last (Some []) after

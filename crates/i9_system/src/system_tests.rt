@@ -140,7 +140,8 @@ fn files_of_many_sizes(rt: HostRuntime) -> Result<(), Fail> {
 #[test]
 fn reads_that_fail(rt: HostRuntime) -> Result<(), Fail> {
     let bytes = some_bytes(rt.alloc(), 1000)?;
-    // Of the ten reads of a hundred bytes and the one at the end, this one fails, and those before it gave so many bytes.
+    // Of the ten reads of a hundred bytes and the one at the end, this one fails, and those before it gave so many
+    // bytes.
     for (failing, size) in [(1, 0), (2, 100), (3, 200), (10, 900), (11, 1000)] {
         let got = fetch(&rt, "f", &bytes, 100, failing)?;
         let given = front(&bytes, size);

@@ -15,8 +15,8 @@ const BOOT: &str = "
 start:
 ";
 
-/// Two instructions, and then passes of three: the first of pass p, from 1 on, is instruction 3p and issues in turn 2p + 1,
-/// the others in the turn behind it. The store writes p.
+/// Two instructions, and then passes of three: the first of pass p, from 1 on, is instruction 3p and issues in turn 2p
+/// + 1, the others in the turn behind it. The store writes p.
 const PASSES: &str = "
         mov   0, g4             # 1000
         mov   0, g5             # 1004
@@ -158,8 +158,8 @@ const STORES_TEXT: &str = "#turn 11 11
 #who none
 ";
 
-/// A frame that a flush wrote is read back by the return, which leaves its bytes as they are: the call is told. The flush is
-/// done 17 turns after it has issued, and the return 20.
+/// A frame that a flush wrote is read back by the return, which leaves its bytes as they are: the call is told. The
+/// flush is done 17 turns after it has issued, and the return 20.
 const REFILL: &str = "
         mov   5, r4             # 1000
         call  f                 # 1004

@@ -36,8 +36,8 @@ const FLUSH: [u32; 6] = [
     0x92A5_6004,
 ];
 
-/// `mov 5, r4`, `call f`, `f: call g`, `g: mov 0, g0`: the second call issues at 6. With one set it spills the frame of the
-/// first, which is in memory at 26. Then the same as above, at 26 and 27, and an exit at 28.
+/// `mov 5, r4`, `call f`, `f: call g`, `g: mov 0, g0`: the second call issues at 6. With one set it spills the frame of
+/// the first, which is in memory at 26. Then the same as above, at 26 and 27, and an exit at 28.
 const SPILL: [u32; 7] = [
     0x5C20_0E05,
     0x0900_0004,
@@ -48,8 +48,8 @@ const SPILL: [u32; 7] = [
     0x92A5_6004,
 ];
 
-/// `lda 0x300, g1`, `lda 0x1200, g2`, `lda 0xC00, g3`, `sysctl g1, g2, g3`: it goes on at 1200 with the PRCB at C00, whose
-/// interrupt stack is at 5000, and which asks for 15 sets.
+/// `lda 0x300, g1`, `lda 0x1200, g2`, `lda 0xC00, g3`, `sysctl g1, g2, g3`: it goes on at 1200 with the PRCB at C00,
+/// whose interrupt stack is at 5000, and which asks for 15 sets.
 const RESTART: [u32; 5] = [
     0x8C88_0300,
     0x8C90_3000,
@@ -121,8 +121,8 @@ fn script_of(alloc: Global, text: &str) -> Result<Script, Fail> {
     }
 }
 
-/// A sink with room for what is shown and for the short lines of so many commands, whose write of this number fails; none
-/// where it is 0.
+/// A sink with room for what is shown and for the short lines of so many commands, whose write of this number fails;
+/// none where it is 0.
 fn sink_failing(alloc: Global, commands: usize, failing: u64) -> Result<MemSink, Fail> {
     let mut sink = MemSink::new(alloc);
     sink.room((commands as u64).saturating_mul(16).saturating_add(16384))?;
@@ -226,8 +226,8 @@ const SPILL_TEXT: &str = "#turn 6 2
 #turn 28 6
 ";
 
-/// Back from the end to right behind the flush, whose frame was not in memory at its turn, and to before the call; and a
-/// byte that the call changed.
+/// Back from the end to right behind the flush, whose frame was not in memory at its turn, and to before the call; and
+/// a byte that the call changed.
 const BACK_SCRIPT: &str =
     "turn 30\nback 2\nrawmem 10 1\nlast 1004\nheld\nuntil 1008\nheld\nwho 10\nback 9\nwho 10\n";
 

@@ -26,8 +26,8 @@ the length         | step | limit
 
 /// Ends, and how many instructions came before them. A word 0 is no instruction, whose fault's entry is at 10. Behind a
 /// division by 0, whose fault's entry is at 18, `addo 1, 2, g5`, `ld 0x100, g6` and `b 4` overtake it; `addo 1, g4, g5`
-/// waits for its quotient; `syncf`, a word that is refused, and a store into a saved frame wait for all, and a load of that
-/// frame overtakes as any load does. The frame stands at 0, over the fault table.
+/// waits for its quotient; `syncf`, a word that is refused, and a store into a saved frame wait for all, and a load of
+/// that frame overtakes as any load does. The frame stands at 0, over the fault table.
 const ENDS: &str = "\
 the program above  | image 1000 8CA00041 8CA83000 E0000000 82A56000 5CA00E07 92A56004, run 100, end, count? | exit 7, 5
 just long enough   | run 5, end, count? | exit 7, 5
@@ -127,13 +127,18 @@ what is left       | planned?, bytes? 48 42 | true, F8 1F
 /// waits for all before it, since it writes a special function register, as all behind it wait for it. The product is
 /// there at 6, and the end is answered when all is done; one multiplication is done at a time.
 const MOVES: &str = "\
-mulo; addo; mov g8 | image 1000 70A58095 59C50801 5CC80618, run 3, moves, moves, moves, moves | 0 issued, 5 issued, 1 issued, 1 limit
-mulo; lda; mov 7; addo | image 1000 70A58095 8CB80010 5CC80E07 59C50801, run 4, moves, moves, moves, moves, moves | 0 issued, 0 issued, 1 issued, 4 issued, 1 limit
+mulo; addo; mov g8 | image 1000 70A58095 59C50801 5CC80618, run 3, moves, moves, moves, moves | 0 issued, 5 issued,
+    1 issued, 1 limit
+mulo; lda; mov 7; addo | image 1000 70A58095 8CB80010 5CC80E07 59C50801, run 4, moves, moves, moves, moves,
+    moves | 0 issued, 0 issued, 1 issued, 4 issued, 1 limit
 lda; mulo          | image 1000 8CB80010 70A58095, run 2, moves, moves, moves | 0 issued, 0 issued, 5 limit
-mov 7; mulo; lda   | image 1000 5CC80E07 70A58095 8CB80010, run 3, moves, moves, moves, moves | 0 issued, 1 issued, 0 issued, 5 limit
+mov 7; mulo; lda   | image 1000 5CC80E07 70A58095 8CB80010, run 3, moves, moves, moves, moves | 0 issued, 1 issued,
+    0 issued, 5 limit
 mulo; mulo         | image 1000 70A58095 70A58095, run 2, moves, moves, moves | 0 issued, 5 issued, 5 limit
-mulo; call; lda    | image 1000 70A58095 9000004 8CB80010, run 3, moves, moves, moves, moves | 0 issued, 5 issued, 4 issued, 1 limit
-mulo; mov sf1; lda | image 1000 70A58095 5C082E01 8CB80010, run 3, moves, moves, moves, moves | 0 issued, 5 issued, 1 issued, 1 limit
+mulo; call; lda    | image 1000 70A58095 9000004 8CB80010, run 3, moves, moves, moves, moves | 0 issued, 5 issued,
+    4 issued, 1 limit
+mulo; mov sf1; lda | image 1000 70A58095 5C082E01 8CB80010, run 3, moves, moves, moves, moves | 0 issued, 5 issued,
+    1 issued, 1 limit
 ";
 
 /// What is open lands: `mov 3, g5`, `mov 7, g6`, their product, which issues at 3 and is there at 8, and its sum with
@@ -147,7 +152,8 @@ the product        | settle, settle | true, true
 the sum            | moves, count?, regs? 20 24 | 0 issued, 4, 15 16
 the end            | settle, moves | true, 0 limit
 again              | settle, moves | true, 0 limit
-overtaken          | image 1000 70A11D80 59A89801, run 2, steps 1, step, settle, step | imprecise 1000, true, imprecise 1000
+overtaken          | image 1000 70A11D80 59A89801, run 2, steps 1, step, settle, step | imprecise 1000, true,
+    imprecise 1000
 settled before     | run 2, steps 1, settle, moves, count?, ip? | true, 0 on, 1, 0
 ";
 

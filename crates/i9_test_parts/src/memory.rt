@@ -35,8 +35,8 @@ fn changed(memory: Memory) -> Result<(Memory, Memory), Fail> {
     Ok((memory, copy))
 }
 
-// The word 01020304 stands across two pages of region 1, which is big-endian. Then 7 is written to its first byte, and 8
-// to its last one in the copy, whose region 1 is made little-endian.
+// The word 01020304 stands across two pages of region 1, which is big-endian. Then 7 is written to its first byte, and
+// 8 to its last one in the copy, whose region 1 is made little-endian.
 #[test]
 fn copies_are_apart(rt: HostRuntime) -> Result<(), Fail> {
     let memory = across_pages(rt.alloc())?;

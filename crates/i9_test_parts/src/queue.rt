@@ -135,8 +135,8 @@ fn bytes_text(alloc: Global, behind: &Behind, addresses: &[u32]) -> Result<Strin
     Ok(text)
 }
 
-/// 6 at 1002, in memory whose region 1 is big-endian, and stores that wait: of 1 at 1000, of 5 in the port page, and of 9
-/// at 1000.
+/// 6 at 1002, in memory whose region 1 is big-endian, and stores that wait: of 1 at 1000, of 5 in the port page, and of
+/// 9 at 1000.
 fn of_three_bytes(alloc: Global) -> Result<Behind, Fail> {
     let mut memory = Memory::new(alloc);
     memory.reserve(0x1002, 1)?;

@@ -58,8 +58,8 @@ fn shows_the_first_kept_byte(rt: HostRuntime) {
     }
 }
 
-/// A shade after so many steps: a piece is kept that is due at 10, and turn 9 lands; another one is kept; turn 10 lands;
-/// a third one is kept; its due turn is 20; turn 25 lands, and 30 is due.
+/// A shade after so many steps: a piece is kept that is due at 10, and turn 9 lands; another one is kept; turn 10
+/// lands; a third one is kept; its due turn is 20; turn 25 lands, and 30 is due.
 fn after(steps: u8) -> Shade {
     let mut shade = Shade::new();
     shade.keep(0x1000, b"\x01");

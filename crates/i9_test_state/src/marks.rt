@@ -1,5 +1,5 @@
-//! Plans in the state of the other tests, where registers are marked: a mark of a source goes with the result, and decides
-//! nothing. What is marked is told as dashes.
+//! Plans in the state of the other tests, where registers are marked: a mark of a source goes with the result, and
+//! decides nothing. What is marked is told as dashes.
 ghost use Rattle.std.specs.Prelude.{IfOk, OnOk};
 ghost use Rattle.i9_processor.specs.State.{IsDrained};
 
@@ -48,7 +48,8 @@ const LOADED: &str = "\
 ld of the live frame | 0 1F2002 1000 90A42000 0 0    | Ld 90A42000 0: 0 1F2002 0 1004, r20 --------
 ldob of it         | 0 1F2002 1000 80A03000 3011 0   | Ldob 80A03000 3011: 0 1F2002 0 1008, r20 --------
 ldos of it         | 0 1F2002 1000 88A03000 3012 0   | Ldos 88A03000 3012: 0 1F2002 0 1008, r20 --------
-ldq of it          | 0 1F2002 1000 B0A03000 3010 0   | Ldq B0A03000 3010: 0 1F2002 0 1008, r20 -------- -------- -------- --------
+ldq of it          | 0 1F2002 1000 B0A03000 3010 0   | Ldq B0A03000 3010: 0 1F2002 0 1008,
+    r20 -------- -------- -------- --------
 ld of a word below | 0 1F2002 1000 90A03000 2FFC 0   | Ld 90A03000 2FFC: 0 1F2002 0 1008, r20 0
 ld, all but its base marked | 0 1F2002 1000 90A76000 0 DFFFFFFF | Ld 90A76000 0: 0 1F2002 0 1004, r20 0
 ";
@@ -70,7 +71,8 @@ st g4, g5 marked   | 0 1F2002 1000 92A76000 0 200000 | St 92A76000 0: 0 1F2002 0
 stob g4            | 0 1F2002 1000 82A76000 0 100000 | Stob 82A76000 0: 0 1F2002 0 1004, 4008 --
 stos g4            | 0 1F2002 1000 8AA76000 0 100000 | Stos 8AA76000 0: 0 1F2002 0 1004, 4008 -- --
 stl g4             | 0 1F2002 1000 9AA76000 0 200000 | Stl 9AA76000 0: 0 1F2002 0 1004, 4008 05 00 00 00 -- -- -- --
-stob g4 to the console, g5 marked | 0 1F2002 1000 82A03000 E0000000 200000 | Stob 82A03000 E0000000: 0 1F2002 0 1008, E0000000 05
+stob g4 to the console, g5 marked | 0 1F2002 1000 82A03000 E0000000 200000 | Stob 82A03000 E0000000: 0 1F2002 0 1008,
+    E0000000 05
 atadd g1, g6, g4   | 0 1F2002 1000 61A58111 0 400000 | Atadd 61A58111 0: 0 1F2002 0 1004, r20 65438721, 4000 -- -- -- --
 atmod g1, g6, g4   | 0 1F2002 1000 61A58011 0 100000 | Atmod 61A58011 0: 0 1F2002 0 1004, r20 65438721, 4000 -- -- -- --
 modpc g8, g6, g6   | 0 1F2002 1000 65B58298 0 1000000 | Modpc 65B58298 0: 0 1F2003 0 1004, r22 1F2002

@@ -27,7 +27,8 @@ a first word in the live frame  | 0 1F2002 3002 8CA83000 0 | waits
 a second word in the live frame | 0 1F2002 2FFC 8CA83000 0 | waits
 ";
 
-/// What is done, or what its result raises: faults that may be imprecise, that are precise, and while trace enable is set.
+/// What is done, or what its result raises: faults that may be imprecise, that are precise, and while trace enable is
+/// set.
 const RUNS: &str = "\
 mov 5, g4                | 0 1F2002 1000 5CA01E05 0 | Mov 5CA01E05 0: 0 1F2002 0 1004, r20 5
 addo 3, 4, g4            | 0 1F2002 1000 59A11803 0 | Addo 59A11803 0: 0 1F2002 0 1004, r20 7

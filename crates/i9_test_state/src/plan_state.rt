@@ -1,5 +1,5 @@
-//! A state that is worked out by hand: one frame is saved at 3000, whose words are all 9, and the processor is about to do
-//! given words in the next one, at 3040.
+//! A state that is worked out by hand: one frame is saved at 3000, whose words are all 9, and the processor is about to
+//! do given words in the next one, at 3040.
 ghost use Rattle.std.specs.Prelude.{◌≡◌, IfOk, OnOk, []};
 ghost use Rattle.i9_model.specs.Free.{IsFree};
 ghost use Rattle.i9_model.specs.Step.{moved};

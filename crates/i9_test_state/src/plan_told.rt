@@ -82,7 +82,8 @@ fn request_text(alloc: Global, byte: Option<(u32, u8)>) -> Result<String, Fail> 
     }
 }
 
-/// What is done to interrupts and DMA, whether the check flag is set, and the trace controls with the subtype of a fault.
+/// What is done to interrupts and DMA, whether the check flag is set, and the trace controls with the subtype of a
+/// fault.
 fn asked_text(alloc: Global, effect: &Effect) -> Result<String, Fail> {
     let mut text = request_text(alloc, effect.requests.first)?;
     text.push_str(&request_text(alloc, effect.requests.second)?)?;

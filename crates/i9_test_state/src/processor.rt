@@ -232,9 +232,10 @@ fn answers(alloc: Global, p: &mut Processor, steps: &str, questions: &str) -> To
     Ok(text)
 }
 
-/// What a processor reads and plans after boot. The first frame is at the interrupt stack rounded up, the port page reads
-/// as 0, whatever the image says, and the handler's frame of a fault stands above a record of sixteen bytes. Then which of
-/// sixteen bytes reach the console, and which words end the run, where region 14 is little-endian, and where it is not.
+/// What a processor reads and plans after boot. The first frame is at the interrupt stack rounded up, the port page
+/// reads as 0, whatever the image says, and the handler's frame of a fault stands above a record of sixteen bytes. Then
+/// which of sixteen bytes reach the console, and which words end the run, where region 14 is little-endian, and where
+/// it is not.
 const READS: &str = "\
 boots 0 | ip, ac, pc, tc, count, sets | 1234, 7, 1F2002, 23400FE, 0, 0 of 7
  | tables | 1100 3000 40000000 4440 5500 7771 7
@@ -279,8 +280,8 @@ boots 0, sets 5 6 7 8, saves 9, restarts 1403 2100 | tables | 1500 6000 40000001
 ";
 
 /// Groups of the control table that are loaded, each behind stores of two bytes at two of its places. Then units of two
-/// bytes, of which three are left, with an interrupt at the end; a register whose value lands at turn 5, and a store that
-/// lands at turn 6.
+/// bytes, of which three are left, with an interrupt at the end; a register whose value lands at turn 5, and a store
+/// that lands at turn 6.
 const CHANGES: &str = "\
 boots 0, stores 3000 11 12, stores 300C 13 14, loads 0 | breaks, tc, regions | 1211 0 0 1413 5, 23400FE, 1
  | ip, count, sets, vectors | 1310, 3, 0 of 7, none none none

@@ -3,7 +3,8 @@ ghost use Rattle.std.specs.Prelude.{◌≡◌, ◌<◌, [], None, IfSome};
 ghost use Rattle.i9_model.specs.Frames.{flushed};
 ghost use Rattle.i9_model.specs.Free.{IsFree};
 ghost use Rattle.i9_model.specs.Step.{moved};
-ghost use Rattle.i9_processor.specs.Effect.{action_in, CanPost, CanChange, move_in, AreRegisters, CanControl, CanMove, CanTake};
+ghost use Rattle.i9_processor.specs.Effect.{action_in, CanPost, CanChange, move_in, AreRegisters, CanControl, CanMove};
+ghost use Rattle.i9_processor.specs.Effect.{CanTake};
 ghost use Rattle.i9_processor.specs.State.{state_of};
 
 use crate::rows::{hex_words, named};

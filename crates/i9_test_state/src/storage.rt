@@ -151,7 +151,8 @@ fn group_text(alloc: Global, storage: &mut Storage, table: u32, n: u8) -> Told {
     }
 }
 
-/// What start-up reads: the first address, the words of the PRCB and the number of sets, and those of the control table.
+/// What start-up reads: the first address, the words of the PRCB and the number of sets, and those of the control
+/// table.
 fn setup_text(alloc: Global, s: &Setup) -> Told {
     let memory = words_text(alloc, &[s.first, s.fault_table, s.control_table, s.ac])?;
     let words = [s.fault_config, s.interrupt_table, s.system_table];
@@ -260,8 +261,8 @@ save FFFFFFE0 100 | byte FFFFFFFC, word 0, word FFFFFFFE | 7, 108, 1080000 | it 
 waiting, land 4, land 5, land 6, land 7, land 8, land 9, flush | word 103E, acted_byte 1041 | 2001433, 2
 ";
 
-/// Marks of words 3 and 8 of a frame, and of bytes that are stored. A flush leaves marked bytes soft, and a load finds 0
-/// there.
+/// Marks of words 3 and 8 of a frame, and of bytes that are stored. A flush leaves marked bytes soft, and a load finds
+/// 0 there.
 const MARKS: &str = "\
 zeros, save_marked 1000 100 | lost 100B, lost 100C, lost 1023, lost 1024 | false, true, true, false
  | left_words 1000 | 100 101 102 103 104 105 106 107 108 109 10A 10B 10C 10D 10E 10F | it is live
@@ -276,8 +277,8 @@ store_half 2001 ABCD | soft 2001, legible_word 2000 | false, 12ABCD78 | it is st
 marked_waiting | soft 2000, soft 2001, legible_word 2000, word 2000 | false, true, 14000011, 14131211
 ";
 
-/// Calls, faults and returns beside a frame that is held at 4040 and one that was spilled at 4000: a hazard is in one of
-/// them. The record gives back PC and AC; then only the youngest frame is returned to.
+/// Calls, faults and returns beside a frame that is held at 4040 and one that was spilled at 4000: a hazard is in one
+/// of them. The record gives back PC and AC; then only the youngest frame is returned to.
 const PLANS: &str = "\
 entries, save 4000 100, save 4040 200 | calls B00 5 1F2000 3004 3051 | 1104 1F2003 true saves 3000 5010 3002 5050
  | calls 4000 5 1F2000 3004 3051, calls 3FC0 5 1F2000 3004 3051 | hazard 4044, hazard 4004

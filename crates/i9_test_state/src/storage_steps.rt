@@ -21,9 +21,9 @@ const BIG_ENDIAN: u32 = 0x0040_0000;
 /// Marks of two words of a frame.
 const WORDS_3_AND_8: u16 = 0b1_0000_1000;
 
-/// Words of memory, from an address on: a fault table at 900, whose faults of type 3 have their handler at 1100; a system
-/// procedure table at B00, whose procedure 5 is at 1104 on the supervisor stack at 5010; and PC and AC in the record
-/// below the frame at 5050.
+/// Words of memory, from an address on: a fault table at 900, whose faults of type 3 have their handler at 1100; a
+/// system procedure table at B00, whose procedure 5 is at 1104 on the supervisor stack at 5010; and PC and AC in the
+/// record below the frame at 5050.
 const ENTRIES: &str = "\
 918 1100 FFFFFFFF
 B0C 5013
@@ -31,8 +31,8 @@ B44 1106
 5040 ABCDEF12 1234567D
 ";
 
-/// An interrupt table at 6000, in which software asks for vectors 18 and 23, both of priority 2, and for one of priority
-/// 1. The handler of vector 23 is at 1100.
+/// An interrupt table at 6000, in which software asks for vectors 18 and 23, both of priority 2, and for one of
+/// priority 1. The handler of vector 23 is at 1100.
 const REQUESTS: &str = "\
 6000 6 840000
 6060 1103
@@ -168,8 +168,8 @@ fn wait(storage: &mut Storage, a: u32, bytes: &[u8], stale: u16, due: u64) -> Re
     Ok(())
 }
 
-/// Storage of two sets: the frame at 1040 is held, and memory has 01 to 04 from 103C up. Until turn 5 a store of 11 to 14
-/// waits there, until turn 7 one of 21 and 22 in region 1, and until turn 9 one of 33 at 103E.
+/// Storage of two sets: the frame at 1040 is held, and memory has 01 to 04 from 103C up. Until turn 5 a store of 11 to
+/// 14 waits there, until turn 7 one of 21 and 22 in region 1, and until turn 9 one of 33 at 103E.
 pub(crate) fn with_waiting(alloc: Global) -> Result<Storage, Fail> {
     let mut storage = fresh(alloc, "", 2)?;
     save(&mut storage, 0x1040, 0x200, 0)?;

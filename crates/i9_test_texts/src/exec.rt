@@ -1,7 +1,8 @@
 //! Results, branches and addresses that were worked out by hand from the descriptions of the instructions.
+use crate::check::same_at;
 use crate::rows::{hex_words, instruction, pairs_hold, rows_hold};
-use i9_exec::{address, branch, compute, has_result};
-use i9_isa::Inst;
+use i9_exec::{address, branch, compute, controls_by, has_result, word_by};
+use i9_isa::{Inst, Op};
 use std::alloc::Global;
 use std::test::*;
 
@@ -317,6 +318,37 @@ fn result_text(alloc: Global, i: &Inst, given: &str) -> Result<String, Fail> {
 #[test]
 fn results(rt: HostRuntime) -> Result<(), Fail> {
     rows_hold(&rt, rt.alloc(), &RESULT_TABLES, result_text)
+}
+
+/// Names with src1 and src2; the one word that they give, where it is told at once.
+const LIGHT_WORDS: [(Op, u32, u32, Option<u32>); 8] = [
+    (Op::Andnot, 0xCCCC_CCCC, 0xAAAA_AAAA, Some(0x2222_2222)),
+    (Op::Subo, 1, 0, Some(0xFFFF_FFFF)),
+    (Op::Muli, 0xFFFF_FFFF, 5, Some(0xFFFF_FFFB)),
+    (Op::Muli, 0x10000, 0x10000, None),
+    (Op::Divo, 3, 0xFFFF_FFFF, Some(0x5555_5555)),
+    (Op::Divo, 0, 5, None),
+    (Op::Shri, 4, 0x8000_0000, Some(0xF800_0000)),
+    (Op::Cmpo, 1, 2, None),
+];
+
+/// Names with src1 and src2, behind controls with the code 7; the controls, where they alone change.
+const LIGHT_CONTROLS: [(Op, u32, u32, Option<u32>); 4] = [
+    (Op::Cmpo, 1, 0xFFFF_FFFF, Some(0x8001_0004)),
+    (Op::Cmpi, 1, 0xFFFF_FFFF, Some(0x8001_0001)),
+    (Op::Chkbit, 31, 0x8000_0000, Some(0x8001_0002)),
+    (Op::Addo, 1, 2, None),
+];
+
+#[test]
+fn frequent_results_are_told_at_once(rt: HostRuntime) -> Result<(), Fail> {
+    for (op, a, b, wanted) in LIGHT_WORDS {
+        same_at(&rt, word_by(op, a, b), wanted, a);
+    }
+    for (op, a, b, wanted) in LIGHT_CONTROLS {
+        same_at(&rt, controls_by(op, a, b, CLEAR | 7), wanted, a);
+    }
+    Ok(())
 }
 
 /// Values of src1 and src2 and the condition code before; whether it is taken, and the condition code after.

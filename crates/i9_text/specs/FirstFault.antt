@@ -9,11 +9,15 @@ module _ {S : Type 0} (Says : S → List ℕ → S → Type 0) where
   SaysAll s (line ∷ lines) t = (next : S) × Says s line next × SaysAll next lines t
 
 -- `fault` gives the kind of fault that a line has after a state, `missing` the kind of a text that ends at a state.
-module _ {S : Type 0} (Says : S → List ℕ → S → Type 0) (fault : S → List ℕ → Option ℕ) (missing : S → Option ℕ) (start : S) where
+module _ {S : Type 0} (Says : S → List ℕ → S → Type 0) (fault : S → List ℕ → Option ℕ) (missing : S → Option ℕ)
+    (start : S) where
   -- the first line at fault, counted from 1, with its kind; or the last line, of a text that lacks something at its end
   pub data IsRefused : List (List ℕ) → ℕ × ℕ → Type 0 where
-    at_line : (front : List (List ℕ)) (line : List ℕ) (back : List (List ℕ)) (s : S) (kind : ℕ) → SaysAll Says start front s → fault s line ≡ Some kind → IsRefused (front ++ line ∷ back) (length front + 1, kind)
-    at_end : (lines : List (List ℕ)) (s : S) (kind : ℕ) → SaysAll Says start lines s → missing s ≡ Some kind → IsRefused lines (length lines, kind)
+    at_line : (front : List (List ℕ)) (line : List ℕ) (back : List (List ℕ)) (s : S) (kind : ℕ)
+        → SaysAll Says start front s → fault s line ≡ Some kind
+        → IsRefused (front ++ line ∷ back) (length front + 1, kind)
+    at_end : (lines : List (List ℕ)) (s : S) (kind : ℕ) → SaysAll Says start lines s → missing s ≡ Some kind
+        → IsRefused lines (length lines, kind)
 
 -- what a reader answers at a line: its fault, where there is one, or what the rest gives
 abbrev pub or_fault : {X : Type 0} → Option ℕ → ℕ → Result X (ℕ × ℕ) → Result X (ℕ × ℕ)

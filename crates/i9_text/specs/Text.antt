@@ -1,5 +1,6 @@
 -- Lines, words and numbers of a text of bytes.
-use Rattle.std.specs.Prelude.{ℕ, ◌+◌, List, [], map, filter, length, Bool, ◌==◌, ◌&&◌, ◌||◌, not, nat_lt, nat_le, Option, Some, None, if◌then◌else◌}
+use Rattle.std.specs.Prelude.{ℕ, ◌+◌, List, [], map, filter, length, Bool, ◌==◌, ◌&&◌, ◌||◌, not, nat_lt, nat_le}
+use Rattle.std.specs.Prelude.{Option, Some, None, if◌then◌else◌}
 use Rattle.std.specs.Borrow.{Bor}
 use Rattle.std.specs.List.{slice_split, list_all}
 use Rattle.std.specs.Char.{is_digit}

@@ -35,16 +35,18 @@ abbrev pub history : Given → List Item → History
 history g h = record { given = g; items = h }
 
 -- Records were done behind items, the newest first, at none of which the stop held; and their lines were appended.
-pub record Passes (allows : View → Bool → Type 0) (past : History) (m : Machine) (plan : Plan) (old new : List Line) : Type 0 where
+pub record Passes (allows : View → Bool → Type 0) (past : History) (m : Machine) (plan : Plan)
+    (old new : List Line) : Type 0 where
   pub done : List Record
   pub passed : AllByRecursion (IsPassed allows) done
   pub stands : StandsFor past.given (steps_on done past.items) None m
   pub follows : Follows past.given (steps_on done past.items) plan
   pub lines : AddsLines old new (lines_of done)
 
--- The last record is an instruction, behind which the stop may answer true, and it was told; the turn is the one at which
--- it issued.
-pub record StopsAt (allows : View → Bool → Type 0) (past : History) (t : Issued) (m : Machine) (plan : Plan) (old new : List Line) : Type 0 where
+-- The last record is an instruction, behind which the stop may answer true, and it was told; the turn is the one at
+-- which it issued.
+pub record StopsAt (allows : View → Bool → Type 0) (past : History) (t : Issued) (m : Machine) (plan : Plan)
+    (old new : List Line) : Type 0 where
   pub done : List Record
   pub last : Record
   pub passed : AllByRecursion (IsPassed allows) done
@@ -57,7 +59,8 @@ pub record StopsAt (allows : View → Bool → Type 0) (past : History) (t : Iss
   pub lines : AddsLines old new (lines_of (last ∷ done))
 
 -- the end was answered, at its turn, and no instruction before it stopped
-pub record EndsFirst (allows : View → Bool → Type 0) (past : History) (e : End) (m : Machine) (plan : Plan) (old new : List Line) : Type 0 where
+pub record EndsFirst (allows : View → Bool → Type 0) (past : History) (e : End) (m : Machine) (plan : Plan)
+    (old new : List Line) : Type 0 where
   pub done : List Record
   pub finish : Finish
   pub answers : finish.end ≡ e
@@ -66,10 +69,12 @@ pub record EndsFirst (allows : View → Bool → Type 0) (past : History) (e : E
   pub turn : m.turn ≡ (ahead past.given (steps_on done past.items)).turn
   pub stands : StandsFor past.given (steps_on done past.items) (Some finish) m
   pub follows : FollowsTo past.given (steps_on done past.items) finish plan
-  pub lines : AddsLines old new (lines_of done ++ end_lines (state_after past.given (records_of (steps_on done past.items))) finish)
+  pub lines : AddsLines old new
+      (lines_of done ++ end_lines (state_after past.given (records_of (steps_on done past.items))) finish)
 
 -- memory was refused behind whole steps
-pub record StopsShort (allows : View → Bool → Type 0) (past : History) (m : Machine) (plan : Plan) (old new : List Line) : Type 0 where
+pub record StopsShort (allows : View → Bool → Type 0) (past : History) (m : Machine) (plan : Plan)
+    (old new : List Line) : Type 0 where
   pub since : Passes allows past m plan old new
   pub needed : NeedsRoom (comes_next past.given (steps_on since.done past.items))
 

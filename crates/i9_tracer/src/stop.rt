@@ -82,8 +82,8 @@ impl<F: Fn(&View) -> bool + ViewTest> Stop<F> {
         Stop { f }
     }
 
-    /// Whether it holds at a view whose count is below 2^32, as that of each machine is: what the closure answers, which
-    /// is one of the answers that its contract allows there.
+    /// Whether it holds at a view whose count is below 2^32, as that of each machine is: what the closure answers,
+    /// which is one of the answers that its contract allows there.
     pub fn holds(&self, v: &View) -> bool
         requires { v.now.count < 2 ^ 32 }
         ensures { F.ViewTest.allows self.now v.now result }

@@ -1,5 +1,6 @@
 -- Instructions that are done one after the other from a state, as if they had no addresses and no words.
-use Rattle.std.specs.Prelude.{◌≡◌, ℕ, ◌+◌, ◌<◌, ◌&&◌, ◌||◌, Bool, false, Option, Some, None, List, [], ◌∷◌, ◌++◌, filter, slice_index}
+use Rattle.std.specs.Prelude.{◌≡◌, ℕ, ◌+◌, ◌<◌, ◌&&◌, ◌||◌, Bool, false, Option, Some, None, List, [], ◌∷◌, ◌++◌}
+use Rattle.std.specs.Prelude.{filter, slice_index}
 use Rattle.std.specs.Option.{option_map}
 use Rattle.i9_isa.specs.Words.{bit}
 use Rattle.i9_model.specs.declared.setup.Breaks.{Breaks}

@@ -124,8 +124,8 @@ fn inst_at(image: &[Segment], a: u32) -> Result<Inst, Flaw>
 
 /// The block of so many instructions that stands in an image from an address on, by words whose low byte comes first.
 /// Addresses run on from FFFFFFFF to 0. Where an instruction has a byte of its words that is not loaded, is refused, or
-/// is one that a block may not have, the first such one is answered; a byte that is not loaded, also of its second word,
-/// comes before the rest.
+/// is one that a block may not have, the first such one is answered; a byte that is not loaded, also of its second
+/// word, comes before the rest.
 pub fn block_in(
     alloc: Global,
     image: &Segments,

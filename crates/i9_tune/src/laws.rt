@@ -37,8 +37,8 @@ pub fn a_result_sees_its_sources()
 {}
 
 /// An allowed instruction sees what its need reads, with the marks of these registers, and beside them bit 12 of the
-/// arithmetic controls, which no allowed instruction changes, the orders of bytes, the bytes that it loads, and which of
-/// them are soft: where all that is the same, it does the same, with the same marks and the same misuse of marked
+/// arithmetic controls, which no allowed instruction changes, the orders of bytes, the bytes that it loads, and which
+/// of them are soft: where all that is the same, it does the same, with the same marks and the same misuse of marked
 /// registers. So a need names all that is read, as `actions_keep_to_their_needs` says of what is written.
 pub fn an_instruction_sees_what_its_need_reads()
     ensures { (f : Facts) (i : Inst) (s t : State) → IsValid i → is_allowed i ≡ true

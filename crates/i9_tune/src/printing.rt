@@ -5,7 +5,8 @@ ghost use Rattle.i9_isa.specs.Valid.{IsValid};
 ghost use Rattle.i9_hex.specs.Writing.{with_line_feed};
 ghost use Rattle.i9_asm.specs.Listing.{org_line};
 ghost use Rattle.i9_tune.specs.Greedy.{AreTunable};
-ghost use Rattle.i9_tune.specs.Tuning.{spaced, spaced_number, words_in, spans_line, fault_line, AddsLine, AddsLines, IsText, IsTuning};
+ghost use Rattle.i9_tune.specs.Tuning.{spaced, spaced_number, words_in, spans_line, fault_line, AddsLine, AddsLines};
+ghost use Rattle.i9_tune.specs.Tuning.{IsText, IsTuning};
 
 use crate::block::BlockFault;
 use crate::greedy::tune;

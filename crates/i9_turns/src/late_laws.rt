@@ -7,7 +7,10 @@ ghost use Rattle.i9_model.specs.declared.need.Cell.{Cell};
 ghost use Rattle.i9_model.specs.Memory.{stored};
 ghost use Rattle.i9_model.specs.State.{State};
 ghost use Rattle.i9_model.specs.Turns.{IsTimed, TakesTurns, CanIssue, last_issue, open_requests};
-ghost use Rattle.i9_model.specs.Late.{Late, Wait, turns, last_state, resource, resources, cell_at, planned, is_busy, is_plan_open, landed, latest, issued_cell, wait_of, waiting, acted_memory, settled_memory, due_puts, left_waiting, all_puts, AreDueInOrder, IsOrderly, IssuedBy, AreQuiet, Leaves, Shows, IsClear};
+ghost use Rattle.i9_model.specs.Late.{Late, Wait, turns, last_state, resource, resources, cell_at, planned, is_busy};
+ghost use Rattle.i9_model.specs.Late.{is_plan_open, landed, latest, issued_cell, wait_of, waiting, acted_memory};
+ghost use Rattle.i9_model.specs.Late.{settled_memory, due_puts, left_waiting, all_puts, AreDueInOrder, IsOrderly};
+ghost use Rattle.i9_model.specs.Late.{IssuedBy, AreQuiet, Leaves, Shows, IsClear};
 
 /// Records that have their turns issue and land in order.
 pub fn turns_keep_order()

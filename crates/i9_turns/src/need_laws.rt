@@ -10,7 +10,8 @@ ghost use Rattle.i9_model.specs.Step.{Stays, action_of, faulting, entering, acte
 ghost use Rattle.i9_model.specs.Traced.{traced_action};
 ghost use Rattle.i9_model.specs.Turns.{HasCost};
 ghost use Rattle.i9_model.specs.Late.{resource, resources};
-ghost use Rattle.i9_model.specs.Needs.{inst_need, refused_need, event_need, entry_need, is_request_name, is_barrier_name};
+ghost use Rattle.i9_model.specs.Needs.{inst_need, refused_need, event_need, entry_need, is_request_name};
+ghost use Rattle.i9_model.specs.Needs.{is_barrier_name};
 
 /// Each need takes a turn at least, and just one where it is no request, not slow and no barrier.
 pub fn needs_have_costs()

@@ -4,7 +4,9 @@ ghost use Rattle.std.specs.Prelude.{◌≡◌, ◌≤◌, ◌-◌, ◌∷◌, �
 ghost use Rattle.std.specs.List.{AllZip};
 ghost use Rattle.i9_model.specs.declared.need.Need.{Need};
 ghost use Rattle.i9_model.specs.declared.need.TimedNeed.{TimedNeed};
-ghost use Rattle.i9_model.specs.Turns.{IsTimed, TakesTurns, HaveCosts, WaitForNone, Follows, FollowsOpen, Solves, IsNoLater, IsAlike, AreAllDone, IsAllDone, pending_of, pending_after, timed, later_by, overtakes, last_issue, issue_turn, issues_at};
+ghost use Rattle.i9_model.specs.Turns.{IsTimed, TakesTurns, HaveCosts, WaitForNone, Follows, FollowsOpen, Solves};
+ghost use Rattle.i9_model.specs.Turns.{IsNoLater, IsAlike, AreAllDone, IsAllDone, pending_of, pending_after, timed};
+ghost use Rattle.i9_model.specs.Turns.{later_by, overtakes, last_issue, issue_turn, issues_at};
 ghost use Rattle.i9_model.specs.Fences.{Item, Placed, Fence, fenced};
 
 /// Each list of needs has its turns, and no others.

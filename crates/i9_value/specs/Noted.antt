@@ -1,7 +1,8 @@
 -- Parts of a line that may be at fault.
 use Rattle.std.specs.Prelude.{ℕ, nat_lt, Option, Some, None, if◌then◌else◌}
 use Rattle.i9_value.specs.declared.fault.Fault.{Fault}
-use Rattle.i9_value.specs.declared.fault.Fault.TheVariants.{UnknownMnemonic, Form, Register, Range, UnknownName, NameTwice, Target, TooMany}
+use Rattle.i9_value.specs.declared.fault.Fault.TheVariants.{UnknownMnemonic, Form, Register, Range, UnknownName}
+use Rattle.i9_value.specs.declared.fault.Fault.TheVariants.{NameTwice, Target, TooMany}
 use Rattle.i9_value.specs.declared.fault.Noted.{Noted}
 
 -- the kinds of faults; of several the one with the least kind counts

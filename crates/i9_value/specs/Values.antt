@@ -1,5 +1,6 @@
 -- Values: numbers and names.
-use Rattle.std.specs.Prelude.{ℕ, ◌+◌, ◌-◌, ◌%◌, ◌^◌, Bool, true, false, not, ◌==◌, ◌||◌, ◌&&◌, nat_lt, nat_le, List, [], ◌∷◌, length, codes, drop, Option, Some, None, is_some, if◌then◌else◌}
+use Rattle.std.specs.Prelude.{ℕ, ◌+◌, ◌-◌, ◌%◌, ◌^◌, Bool, true, false, not, ◌==◌, ◌||◌, ◌&&◌, nat_lt, nat_le, List, []}
+use Rattle.std.specs.Prelude.{◌∷◌, length, codes, drop, Option, Some, None, is_some, if◌then◌else◌}
 use Rattle.std.specs.Option.{option_map}
 use Rattle.std.specs.List.{list_all}
 use Rattle.std.specs.Str.{bytes_eq}
@@ -71,7 +72,8 @@ is_sign b = (b == minus) || (b == plus)
 -- a number with or without a minus
 abbrev pub number_text : List ℕ → Option Value
 number_text [] = None
-number_text (b ∷ s) = if b == minus then option_map (in_range true) (magnitude s) else option_map (in_range false) (magnitude (b ∷ s))
+number_text (b ∷ s) = if b == minus then option_map (in_range true) (magnitude s) else option_map (in_range false)
+    (magnitude (b ∷ s))
 
 -- the value of a name with a number
 abbrev pub named : Option ℕ → Value → Value

@@ -1,6 +1,7 @@
 //! Registers by their names.
 ghost use Rattle.std.specs.Prelude.{◌≡◌, ◌<◌, IfSome};
-ghost use Rattle.i9_value.specs.Registers.{register_text, register_place, place_of_two, place_of_three, likely_place, register_at, register_of};
+ghost use Rattle.i9_value.specs.Registers.{register_text, register_place, place_of_two, place_of_three, likely_place};
+ghost use Rattle.i9_value.specs.Registers.{register_at, register_of};
 
 use i9_isa::Operand;
 

@@ -4,7 +4,9 @@ ghost use Rattle.std.specs.Option.{option_map};
 ghost use Rattle.std.specs.List.{list_all};
 ghost use Rattle.std.specs.Char.{digit_value};
 ghost use Rattle.i9_value.specs.Known.{known_in};
-ghost use Rattle.i9_value.specs.Values.{begins_name, is_name_byte, has_name_start, is_name, is_hexadecimal, is_decimal_digit, decimal_of, magnitude, in_range, number_text, named, tail_number, name_text, value_of, value_noted, settled, capped};
+ghost use Rattle.i9_value.specs.Values.{begins_name, is_name_byte, has_name_start, is_name, is_hexadecimal};
+ghost use Rattle.i9_value.specs.Values.{is_decimal_digit, decimal_of, magnitude, in_range, number_text, named};
+ghost use Rattle.i9_value.specs.Values.{tail_number, name_text, value_of, value_noted, settled, capped};
 
 use crate::cut::cut_sign;
 use crate::fault::{Fault, Noted, fine, wrong};

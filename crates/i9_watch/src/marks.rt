@@ -1,5 +1,6 @@
 //! The marks of all addresses.
-ghost use Rattle.std.specs.Prelude.{◌≡◌, ◌≢◌, ℕ, ◌+◌, ◌/◌, ◌%◌, ◌^◌, ◌<◌, ◌≤◌, ◌*◌, ◌⊎◌, ◌==◌, ◌↔◌, if◌then◌else◌, ◌&&◌, not, true, false, IsTrue, IfOk, OnOk, OnErr};
+ghost use Rattle.std.specs.Prelude.{◌≡◌, ◌≢◌, ℕ, ◌+◌, ◌/◌, ◌%◌, ◌^◌, ◌<◌, ◌≤◌, ◌*◌, ◌⊎◌, ◌==◌, ◌↔◌, if◌then◌else◌};
+ghost use Rattle.std.specs.Prelude.{◌&&◌, not, true, false, IsTrue, IfOk, OnOk, OnErr};
 ghost use Rattle.i9_model.specs.Writes.{wrapped};
 ghost use Rattle.i9_model.specs.Frames.{in_bytes, in_frames};
 
@@ -28,7 +29,8 @@ fn count_in_page(a: u32, n: u32) -> u32
 }
 
 impl Marks {
-    ghost use Rattle.i9_watch.specs.Marks.{is_marked, changed_run, changed_where, HasPage, HasRoom, HasRunRoom, KeepsPages, AddsOnly};
+    ghost use Rattle.i9_watch.specs.Marks.{is_marked, changed_run, changed_where, HasPage, HasRoom, HasRunRoom};
+    ghost use Rattle.i9_watch.specs.Marks.{KeepsPages, AddsOnly};
     ghost use Rattle.i9_watch.specs.Page.{is_blockwise, sets_marks};
     ghost use Rattle.i9_watch.specs.Bits.{bits_of, in_runs};
     ghost use Rattle.i9_watch.specs.Live.{AreAligned};
@@ -136,7 +138,8 @@ impl Marks {
 
     /// Takes away the room for the marks of a page, and with it the marks.
     fn remove_page(&mut self, page: u32)
-        ensures marks { (m : Mark) (a : ℕ) → is_marked m self.new a ≡ (if a / 256 == page then false else is_marked m self.old a) }
+        ensures marks { (m : Mark) (a : ℕ)
+            → is_marked m self.new a ≡ (if a / 256 == page then false else is_marked m self.old a) }
         ensures keeps { (p : ℕ) → p ≢ page → HasPage self.old p → HasPage self.new p }
         ensures fewer { KeepsPages self.new self.old }
         ensures removed { HasPage self.new page → ⊥ }
@@ -272,7 +275,8 @@ impl Marks {
     fn harden(&mut self, frame: u32)
         requires { frame % 16 ≡ 0 }
         ensures soft { is_marked Mark.Soft self.new ≡ (λ x.
-            is_marked Mark.Soft self.old x && not (in_bytes frame FRAME_SIZE x && not (is_marked Mark.Lost self.old x))) }
+            is_marked Mark.Soft self.old x
+            && not (in_bytes frame FRAME_SIZE x && not (is_marked Mark.Lost self.old x))) }
         ensures others { (m : Mark) → m ≢ Mark.Soft → is_marked m self.new ≡ is_marked m self.old }
         ensures keeps { KeepsPages self.old self.new }
         ensures no_more { KeepsPages self.new self.old }
@@ -291,7 +295,8 @@ impl Marks {
     pub(crate) fn harden_all(&mut self, frames: &VecDeque<u32>)
         requires { AreAligned frames.now.items }
         ensures soft { is_marked Mark.Soft self.new ≡ (λ x.
-            is_marked Mark.Soft self.old x && not (in_frames frames.now.items x && not (is_marked Mark.Lost self.old x))) }
+            is_marked Mark.Soft self.old x
+            && not (in_frames frames.now.items x && not (is_marked Mark.Lost self.old x))) }
         ensures others { (m : Mark) → m ≢ Mark.Soft → is_marked m self.new ≡ is_marked m self.old }
         ensures keeps { KeepsPages self.old self.new }
         ensures no_more { KeepsPages self.new self.old }

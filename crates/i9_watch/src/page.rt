@@ -113,8 +113,10 @@ impl Page {
     pub(crate) fn change(&mut self, change: Change, place: u32, n: u32)
         requires room { place + n ≤ 256 }
         requires blocks { is_blockwise change ≡ true → (place % 16 ≡ 0) × (n % 16 ≡ 0) }
-        ensures within { (m : Mark) (k : ℕ) → place ≤ k → k < place + n → has_mark m self.new k ≡ changed change m (has_mark m self.old k) }
-        ensures outside { (m : Mark) (k : ℕ) → (k < place) ⊎ (place + n ≤ k) → has_mark m self.new k ≡ has_mark m self.old k }
+        ensures within { (m : Mark) (k : ℕ) → place ≤ k → k < place + n
+            → has_mark m self.new k ≡ changed change m (has_mark m self.old k) }
+        ensures outside { (m : Mark) (k : ℕ) → (k < place) ⊎ (place + n ≤ k)
+            → has_mark m self.new k ≡ has_mark m self.old k }
     {
         let (from, to) = (place as usize, (place + n) as usize);
         let (first, last) = (from / BLOCK_SIZE, to / BLOCK_SIZE);

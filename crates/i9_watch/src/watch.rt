@@ -1,13 +1,16 @@
 //! Soft bytes and live frames.
-ghost use Rattle.std.specs.Prelude.{◌≡◌, ℕ, Bool, ◌+◌, ◌%◌, ◌<◌, ◌≤◌, ◌⊎◌, None, true, ◌*◌, ◌&&◌, ◌↔◌, ◌∷◌, List, false, IsTrue, nat_lt, OnOk, OnErr, IfOk, length, slice_get};
+ghost use Rattle.std.specs.Prelude.{◌≡◌, ℕ, Bool, ◌+◌, ◌%◌, ◌<◌, ◌≤◌, ◌⊎◌, None, true, ◌*◌, ◌&&◌, ◌↔◌, ◌∷◌, List};
+ghost use Rattle.std.specs.Prelude.{false, IsTrue, nat_lt, OnOk, OnErr, IfOk, length, slice_get};
 ghost use Rattle.std.specs.VecDeque.{deque_len, deque_capacity};
-ghost use Rattle.i9_model.specs.Frames.{in_frames, no_frames, saved, with_marked, returned, flushed, wrote_run, softened};
+ghost use Rattle.i9_model.specs.Frames.{in_frames, no_frames, saved, with_marked, returned, flushed, wrote_run};
+ghost use Rattle.i9_model.specs.Frames.{softened};
 ghost use Rattle.i9_model.specs.Stale.{picked, byte_marks, word_mark};
 ghost use Rattle.i9_model.specs.Calls.{return_marks};
 ghost use Rattle.i9_isa.specs.Words.{bit};
 ghost use Rattle.i9_model.specs.Writes.{wrapped};
 ghost use Rattle.i9_watch.specs.Bits.{bits_of, AreWordMarks};
-ghost use Rattle.i9_model.specs.Hazards.{least, read_hazard, write_hazard, port_hazard, save_hazard, return_hazard, planned_push};
+ghost use Rattle.i9_model.specs.Hazards.{least, read_hazard, write_hazard, port_hazard, save_hazard, return_hazard};
+ghost use Rattle.i9_model.specs.Hazards.{planned_push};
 ghost use Rattle.i9_model.specs.Sound.{AreApart};
 ghost use Rattle.i9_watch.specs.Marks.{is_marked};
 ghost use Rattle.i9_watch.specs.Live.{AreAligned, AreAligned-prop, AreApart-prop};
@@ -62,7 +65,8 @@ fn first_place<F: Fn(u32) -> bool>(a: u32, n: u32, test: F) -> Option<u32>
 
 #[tactic(auto, unfolding(crate::specs::Watch::frames_of, crate::specs::Watch::spare_of, crate::specs::Watch::HasMarks))]
 impl Watch {
-    ghost use Rattle.i9_watch.specs.Watch.{frames_of, spare_of, HasMarks, HasRunMarks, HasFrameMarks, HasNoMarks, KeepsMarks, AddsMarksOnly};
+    ghost use Rattle.i9_watch.specs.Watch.{frames_of, spare_of, HasMarks, HasRunMarks, HasFrameMarks, HasNoMarks};
+    ghost use Rattle.i9_watch.specs.Watch.{KeepsMarks, AddsMarksOnly};
 
     /// No byte is soft and no frame is live.
     pub fn new(alloc: Global) -> Watch

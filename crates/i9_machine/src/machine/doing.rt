@@ -1,5 +1,6 @@
 //! A step done, or an end answered, once there is room for what it needs.
-ghost use Rattle.std.specs.Prelude.{◌≡◌, [], ◌∷◌, ◌+◌, ◌-◌, ◌<◌, ◌≤◌, ◌^◌, ◌++◌, None, Some, IfSome, IfOk, OnOk, OnErr, vec_len, vec_capacity, length, nat_lt, true, ℕ};
+ghost use Rattle.std.specs.Prelude.{◌≡◌, [], ◌∷◌, ◌+◌, ◌-◌, ◌<◌, ◌≤◌, ◌^◌, ◌++◌, None, Some, IfSome, IfOk, OnOk, OnErr};
+ghost use Rattle.std.specs.Prelude.{vec_len, vec_capacity, length, nat_lt, true, ℕ};
 ghost use Rattle.std.specs.Option.{option_copied, option_map};
 ghost use Rattle.i9_model.specs.State.{State};
 ghost use Rattle.i9_model.specs.Memory.{console_byte};
@@ -9,9 +10,11 @@ ghost use Rattle.i9_model.specs.HeldFrames.{AreWhole};
 ghost use Rattle.i9_model.specs.Step.{moved, acted, counted};
 ghost use Rattle.i9_model.specs.declared.view.View.{View as Shown};
 ghost use Rattle.i9_model.specs.Run.{Ends};
-ghost use Rattle.i9_model.specs.PrintedText.{Drained, Last, view_of, out_lines, point_lines, last_lines, overlays, journal_lines};
+ghost use Rattle.i9_model.specs.PrintedText.{Drained, Last, view_of, out_lines, point_lines, last_lines, overlays};
+ghost use Rattle.i9_model.specs.PrintedText.{journal_lines};
 ghost use Rattle.i9_course.specs.LateRun.{is_imprecise};
-ghost use Rattle.i9_processor.specs.Effect.{action_in, move_in, control_in, AreRegisters, AreMade, CanControl, CanMove, CanTake, HasSpaceFor, cache_through, size_with, has_writes, is_restart};
+ghost use Rattle.i9_processor.specs.Effect.{action_in, move_in, control_in, AreRegisters, AreMade, CanControl, CanMove};
+ghost use Rattle.i9_processor.specs.Effect.{CanTake, HasSpaceFor, cache_through, size_with, has_writes, is_restart};
 ghost use Rattle.i9_processor.specs.State.{state_of, cache_of, size_of};
 ghost use Rattle.i9_processor.specs.Pages.{AddsActionOnly, AddsNoPage};
 ghost use Rattle.i9_model.specs.Events.{IsInRange};
@@ -96,7 +99,9 @@ fn put_last(e: End, view: View, out: &mut Vec<Line>)
 /// Adds the lines of an end, behind that of an event that is reached with it, where one is.
 fn put_end(event: Option<&Event>, e: End, view: View, out: &mut Vec<Line>) -> Result<(), NoMemory>
     requires { IfSome event (λ x. IsInRange x.now) }
-    ensures ok { OnOk result (AddsLines out.old.items out.new.items (journal_lines view.count (option_copied event.entry) ++ last_lines view e)) }
+    ensures ok { OnOk result
+        (AddsLines out.old.items out.new.items
+        (journal_lines view.count (option_copied event.entry) ++ last_lines view e)) }
     ensures err { OnErr result (out.new.items ≡ out.old.items) }
     ensures lacking { OnErr result (vec_capacity out.old
         < vec_len out.old + length (journal_lines view.count (option_copied event.entry) ++ last_lines view e)) }
@@ -232,19 +237,23 @@ fn go_on(reaches: bool, plan: &mut Schedule)
 
 impl Machine {
     ghost use Rattle.i9_machine.specs.StandsFor.{LeavesFewer};
-    ghost use Rattle.i9_machine.specs.Step.{IsPlanned, IsSame, Steps, Finishes, Issues, HasRoom, finish_in, next_for, steps_left};
+    ghost use Rattle.i9_machine.specs.Step.{IsPlanned, IsSame, Steps, Finishes, Issues, HasRoom, finish_in, next_for};
+    ghost use Rattle.i9_machine.specs.Step.{steps_left};
     ghost use Rattle.i9_machine.specs.NewPages.{AddsNextOnly};
-    ghost use Rattle.i9_machine.specs.Doing.{lines_of, line_count, asks_room, HasRoomForStep, IsReady, action_for, state_behind};
+    ghost use Rattle.i9_machine.specs.Doing.{lines_of, line_count, asks_room, HasRoomForStep, IsReady, action_for};
+    ghost use Rattle.i9_machine.specs.Doing.{state_behind};
     ghost use Rattle.i9_machine.specs.Issuing.{most_turns, IsIssued, CanActPlaced};
     ghost use Rattle.i9_machine.specs.StandsFor.{HasCome};
 
     /// Answers an end, once its lines are written; the schedule goes on behind an event that is reached with it.
     pub(super) fn answer_end(&mut self, f: Ending, plan: &mut Schedule, out: &mut Vec<Line>) -> Turn
         requires running { self.old.ended ≡ None }
-        ensures finishes { Finishes self.old (finish_in plan.old f) (vec_capacity out.old - vec_len out.old) result self.new
+        ensures finishes { Finishes self.old (finish_in plan.old f)
+            (vec_capacity out.old - vec_len out.old) result self.new
             plan.old plan.new out.old.items out.new.items }
         ensures processor { self.new.processor ≡ self.old.processor }
-        ensures spare { result ≡ Turn.Memory → vec_capacity out.new - vec_len out.new ≡ vec_capacity out.old - vec_len out.old }
+        ensures spare { result ≡ Turn.Memory
+            → vec_capacity out.new - vec_len out.new ≡ vec_capacity out.old - vec_len out.old }
     {
         let event = next_event(plan, f.reaches());
         let reaches = event.is_some();
@@ -262,7 +271,8 @@ impl Machine {
     /// New sets where the processor starts anew: as many as were asked for, or as the PRCB asks for.
     #[inline(always)]
     fn make_sets(&self) -> Result<Option<Sets>, NoMemory>
-        ensures made { IfOk result (AreMade self.now.sets (state_of self.now.processor).memory self.now.effect.control) }
+        ensures made { IfOk result
+            (AreMade self.now.sets (state_of self.now.processor).memory self.now.effect.control) }
         ensures needed { OnErr result (is_restart (control_in self.now.effect.control) ≡ true) }
     {
         if self.effect.plain {
@@ -294,11 +304,17 @@ impl Machine {
         ensures need { self.new.need ≡ self.old.need }
         ensures items { out.new.items ≡ out.old.items }
         ensures space { OnOk result (HasSpaceFor self.new.processor self.new.effect) }
-        ensures lines { OnOk result (vec_len out.new + line_count self.new.effect step.now (option_copied event.entry) ≤ vec_capacity out.new) }
-        ensures made { IfOk result (AreMade self.old.sets (state_of self.old.processor).memory self.new.effect.control) }
-        ensures needed { OnErr result (asks_room (state_of self.old.processor) self.old.effect step.now (option_copied event.entry) ≡ true) }
-        ensures lacking { OnErr result (HasRoomForStep self.old (vec_capacity out.old - vec_len out.old) self.old.effect step.now (option_copied event.entry) → ⊥) }
-        ensures still_lacking { OnErr result (HasRoomForStep self.new (vec_capacity out.new - vec_len out.new) self.new.effect step.now (option_copied event.entry) → ⊥) }
+        ensures lines { OnOk result
+            (vec_len out.new + line_count self.new.effect step.now (option_copied event.entry) ≤ vec_capacity out.new) }
+        ensures made { IfOk result
+            (AreMade self.old.sets (state_of self.old.processor).memory self.new.effect.control) }
+        ensures needed { OnErr result
+            (asks_room (state_of self.old.processor) self.old.effect step.now (option_copied event.entry) ≡ true) }
+        ensures lacking { OnErr result
+            (HasRoomForStep self.old (vec_capacity out.old - vec_len out.old) self.old.effect step.now
+            (option_copied event.entry) → ⊥) }
+        ensures still_lacking { OnErr result (HasRoomForStep self.new (vec_capacity out.new - vec_len out.new) self.new.effect step.now
+            (option_copied event.entry) → ⊥) }
         ensures only { AddsActionOnly self.old.processor self.new.processor (action_for self.old self.old.effect) }
     {
         let sets = self.make_sets()?;
@@ -325,9 +341,11 @@ impl Machine {
         requires ready { IsReady (state_of self.old.processor) self.old.length self.old.effect step.now }
         requires space { HasSpaceFor self.old.processor self.old.effect }
         requires made { CanTake (move_in (state_of self.old.processor) self.old.effect.frames) sets }
-        requires covered { IsCovered self.old.need.writes (state_of self.old.processor) (action_for self.old self.old.effect) }
+        requires covered { IsCovered self.old.need.writes (state_of self.old.processor)
+            (action_for self.old self.old.effect) }
         requires acts { CanActPlaced self.old self.old.effect }
-        requires lines { vec_len out.old + line_count self.old.effect step.now (option_copied event) ≤ vec_capacity out.old }
+        requires lines { vec_len out.old + line_count self.old.effect step.now
+            (option_copied event) ≤ vec_capacity out.old }
         requires ranges { IfSome event (λ e. IsInRange e.now) }
         requires whole { AreWhole (cache_of self.old.processor).held }
         ensures state { AreAlike (state_behind self.old self.old.effect step.now) (state_of self.new.processor) }

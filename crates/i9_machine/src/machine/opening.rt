@@ -27,7 +27,8 @@ impl Machine {
     /// Whether nothing is due, and the length is not reached.
     #[inline(always)]
     fn goes_on(&self) -> bool
-        ensures free { result ≡ true → (self.now.due ≡ Due.Nothing) × ((state_of self.now.processor).count < self.now.length) }
+        ensures free { result ≡ true → (self.now.due ≡ Due.Nothing)
+            × ((state_of self.now.processor).count < self.now.length) }
         ensures waits { (plan : Plan) → result ≡ false → NextWaits self.now plan }
     {
         match &self.due {
@@ -84,7 +85,8 @@ impl Machine {
     pub(super) fn issue_turn(&self) -> u64
         requires pace { HasPace self.now }
         requires need { HasKept self.now }
-        ensures computed { (rs : List TimedNeed) → StandsFor self.now.board rs → result ≡ issue_turn (last_issue rs) rs self.now.need }
+        ensures computed { (rs : List TimedNeed) → StandsFor self.now.board rs
+            → result ≡ issue_turn (last_issue rs) rs self.now.need }
         ensures least { IssuesAt self.now.board.last self.now.board.records self.now.need result }
     {
         self.board.next_turn(&self.need)
@@ -96,7 +98,8 @@ impl Machine {
         requires pace { HasPace self.old }
         ensures like { IsLike self.old self.new }
         ensures turn { IfSome result (λ t. IssuesAhead self.old t) }
-        ensures waits { IsNone result → WaitsForAll (state_of self.old.processor) (stands_at (state_of self.old.processor)) }
+        ensures waits { IsNone result
+            → WaitsForAll (state_of self.old.processor) (stands_at (state_of self.old.processor)) }
     {
         match self.plan_instruction() {
             Open::Waits { .. } => None,
@@ -135,7 +138,8 @@ impl Machine {
         requires precise { late_due self.now ≡ None }
         requires next { IsNextInstruction self.now coming }
         requires ready { (t : ℕ) → event_for self.now plan.now ≡ None
-            → IssuesAt self.now.board.last self.now.board.records self.now.need t → IsReadyFor self.now plan.now t coming }
+            → IssuesAt self.now.board.last self.now.board.records self.now.need t
+            → IsReadyFor self.now plan.now t coming }
         ensures arrives { Arrives self.now plan.now result.0 result.1 }
         ensures ready { IsReadyFor self.now plan.now result.0 result.1 }
     {

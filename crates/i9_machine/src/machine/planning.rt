@@ -12,7 +12,8 @@ ghost use Rattle.i9_isa.specs.Words.{words_of};
 ghost use Rattle.i9_model.specs.Turns.{waiting_until};
 ghost use Rattle.i9_course.specs.NeedOf.{need_of};
 ghost use Rattle.i9_model.specs.Traced.{traced_action};
-ghost use Rattle.i9_model.specs.Run.{Does, Instruction, Faulted, faulted_words, fault_at, record_of, point_by_name, action_due};
+ghost use Rattle.i9_model.specs.Run.{Does, Instruction, Faulted, faulted_words, fault_at, record_of, point_by_name};
+ghost use Rattle.i9_model.specs.Run.{action_due};
 ghost use Rattle.i9_plan.specs.Kept.{inst_in, words_in};
 ghost use Rattle.i9_plan.specs.Planned.{TellsWords, IsRead, AreRequestsInRow};
 ghost use Rattle.i9_processor.specs.Effect.{action_in, IsEffect};
@@ -112,7 +113,8 @@ impl Machine {
     /// What is told of an instruction of these words.
     #[inline(always)]
     fn issued(&self, words: Words) -> Issued
-        ensures { (n : ℕ) → TellsWords n (state_of self.now.processor) words → TellsIssue n (state_of self.now.processor) result }
+        ensures { (n : ℕ) → TellsWords n (state_of self.now.processor) words
+            → TellsIssue n (state_of self.now.processor) result }
     {
         Issued {
             count: self.processor.count(),
@@ -158,12 +160,16 @@ impl Machine {
     /// An instruction is done, by the effect that was planned, where it comes next.
     #[inline(always)]
     pub(super) fn does(&self) -> Step
-        requires words { TellsWords (words_of (inst_in self.now.decodes)) (state_of self.now.processor) (words_in self.now.decodes) }
-        requires effect { IsEffect (state_of self.now.processor) (traced_action (inst_in self.now.decodes) (state_of self.now.processor)) self.now.effect }
+        requires words { TellsWords (words_of (inst_in self.now.decodes)) (state_of self.now.processor)
+            (words_in self.now.decodes) }
+        requires effect { IsEffect (state_of self.now.processor)
+            (traced_action (inst_in self.now.decodes) (state_of self.now.processor)) self.now.effect }
         requires row { AreRequestsInRow (inst_in self.now.decodes) self.now.effect }
         ensures { (need : Need) (stands : Option event.Event) (plan : Plan)
-            → next_where self.now stands ≡ Does (record_of (Instruction (inst_in self.now.decodes)) (state_of self.now.processor))
-            → need ≡ need_of (size_of self.now.processor) (cache_of self.now.processor) (state_of self.now.processor) (Instruction (inst_in self.now.decodes))
+            → next_where self.now stands
+            ≡ Does (record_of (Instruction (inst_in self.now.decodes)) (state_of self.now.processor))
+            → need ≡ need_of (size_of self.now.processor) (cache_of self.now.processor) (state_of self.now.processor)
+            (Instruction (inst_in self.now.decodes))
             → need.cost ≤ most_turns → IsStepWhere self.now stands plan result need self.now.effect }
     {
         Step {
@@ -178,9 +184,13 @@ impl Machine {
     /// An instruction of so many words faults where it comes next, and the entry of its fault is due.
     pub(super) fn faults(&mut self, words: Words, count: u32, number: (u8, u16)) -> Step
         requires words { TellsWords count (state_of self.old.processor) words }
-        ensures step { (need : Need) (inst : Option Inst) (stands : Option event.Event) (plan : Plan) → count ≡ faulted_words inst
-            → next_where self.old stands ≡ Does (record_of (Faulted inst (fault_at (state_of self.old.processor) number)) (state_of self.old.processor))
-            → need ≡ need_of (size_of self.old.processor) (cache_of self.old.processor) (state_of self.old.processor) (Faulted inst (fault_at (state_of self.old.processor) number))
+        ensures step { (need : Need) (inst : Option Inst) (stands : Option event.Event) (plan : Plan)
+            → count ≡ faulted_words inst
+            → next_where self.old stands
+            ≡ Does (record_of (Faulted inst (fault_at (state_of self.old.processor) number))
+            (state_of self.old.processor))
+            → need ≡ need_of (size_of self.old.processor) (cache_of self.old.processor) (state_of self.old.processor)
+            (Faulted inst (fault_at (state_of self.old.processor) number))
             → need.cost ≤ most_turns → IsStepWhere self.old stands plan result need self.new.effect }
         ensures like { IsLike self.old self.new }
         ensures need { self.new.need ≡ self.old.need }
@@ -202,10 +212,14 @@ impl Machine {
 
     /// The instruction that was read last faults where it comes next.
     pub(super) fn faults_by(&mut self, number: (u8, u16)) -> Step
-        requires words { TellsWords (words_of (inst_in self.old.decodes)) (state_of self.old.processor) (words_in self.old.decodes) }
+        requires words { TellsWords (words_of (inst_in self.old.decodes)) (state_of self.old.processor)
+            (words_in self.old.decodes) }
         ensures step { (need : Need) (stands : Option event.Event) (plan : Plan)
-            → next_where self.old stands ≡ Does (record_of (Faulted (Some (inst_in self.old.decodes)) (fault_at (state_of self.old.processor) number)) (state_of self.old.processor))
-            → need ≡ need_of (size_of self.old.processor) (cache_of self.old.processor) (state_of self.old.processor) (Faulted (Some (inst_in self.old.decodes)) (fault_at (state_of self.old.processor) number))
+            → next_where self.old stands
+            ≡ Does (record_of (Faulted (Some (inst_in self.old.decodes))
+            (fault_at (state_of self.old.processor) number)) (state_of self.old.processor))
+            → need ≡ need_of (size_of self.old.processor) (cache_of self.old.processor) (state_of self.old.processor)
+            (Faulted (Some (inst_in self.old.decodes)) (fault_at (state_of self.old.processor) number))
             → need.cost ≤ most_turns → IsStepWhere self.old stands plan result need self.new.effect }
         ensures like { IsLike self.old self.new }
         ensures need { self.new.need ≡ self.old.need }
@@ -345,8 +359,8 @@ impl Machine {
     }
 
     /// What comes next where nothing is open: what is due, the end of the length, or what comes before or is
-    /// the next instruction. Its effect is made in the machine. Where `read` is set, nothing comes before the instruction
-    /// in the decode cache but an event.
+    /// the next instruction. Its effect is made in the machine. Where `read` is set, nothing comes before the
+    /// instruction in the decode cache but an event.
     pub(super) fn next_step(&mut self, read: bool, plan: &Schedule) -> Result<Step, Ending>
         requires drained { IsDrained self.old.processor }
         requires timely { IsTimely self.old plan.now }

@@ -79,7 +79,8 @@ impl Machine {
     pub fn raw_byte(&self, a: u32) -> u8
         ensures raw { (g : Given) (h : List Item) (end : Option Finish) → StandsFor g h end self.now
             → result ≡ raw_memory (boot g.image).memory.bytes self.now.turn (course g h).late a }
-        ensures flushed { (g : Given) (h : List Item) (end : Option Finish) → StandsFor g h end self.now → IsFlushed g h self.now.turn a
+        ensures flushed { (g : Given) (h : List Item) (end : Option Finish) → StandsFor g h end self.now
+            → IsFlushed g h self.now.turn a
             → result ≡ (state_after g (records_of h)).memory.bytes a }
     {
         match self.shade.look(a, self.turn) {

@@ -63,7 +63,8 @@ impl Processor {
     #[tactic(auto, unfolding(crate::specs::State::state_of, crate::specs::State::queue_of))]
     fn plan_plain_calls(&self, n: u32) -> Result<Sys, CallsStop>
         requires drained { IsDrained self.now }
-        ensures sys { result ≡ planned_calls (state_of self.now).memory (state_of self.now).frames (state_of self.now).tables.system_table n
+        ensures sys { result ≡ planned_calls (state_of self.now).memory (state_of self.now).frames
+            (state_of self.now).tables.system_table n
             (state_of self.now).pc ((state_of self.now).regs FP) ((state_of self.now).regs SP) }
         ensures free { IfOk result (λ s. save_hazard (state_of self.now).frames s.push.save ≡ None) }
         ensures aligned { IfOk result (λ s. s.push.save % 16 ≡ 0) }
@@ -105,7 +106,8 @@ impl Processor {
     #[tactic(auto, unfolding(crate::specs::State::state_of, crate::specs::State::queue_of))]
     pub fn plan_ret(&self) -> Result<Pop, u32>
         requires drained { IsDrained self.now }
-        ensures { result ≡ planned_ret (state_of self.now).memory (state_of self.now).frames ((state_of self.now).regs PFP)
+        ensures { result ≡ planned_ret (state_of self.now).memory (state_of self.now).frames
+            ((state_of self.now).regs PFP)
             ((state_of self.now).regs FP) (state_of self.now).pc (state_of self.now).ac }
     {
         self.storage
@@ -231,9 +233,13 @@ impl Processor {
     #[tactic(auto, unfolding(crate::specs::State::state_of, crate::specs::State::queue_of))]
     pub fn plan_request(&self, vector: u8) -> Result<Requests, u32>
         requires drained { IsDrained self.now }
-        ensures ok { IfOk result (λ r. (request_hazard (state_of self.now).frames (state_of self.now).tables.interrupt_table vector ≡ None)
-            × (requests_in r ≡ request_writes (state_of self.now).memory (state_of self.now).tables.interrupt_table vector)) }
-        ensures err { IfErr result (λ a. request_hazard (state_of self.now).frames (state_of self.now).tables.interrupt_table vector ≡ Some a) }
+        ensures ok { IfOk result
+            (λ r. (request_hazard (state_of self.now).frames (state_of self.now).tables.interrupt_table vector ≡ None)
+            × (requests_in r ≡ request_writes (state_of self.now).memory
+            (state_of self.now).tables.interrupt_table vector)) }
+        ensures err { IfErr result
+            (λ a. request_hazard (state_of self.now).frames (state_of self.now).tables.interrupt_table vector
+            ≡ Some a) }
     {
         let bytes = self
             .storage
@@ -251,7 +257,9 @@ impl Processor {
     ) -> Result<Option<ArrayVec<u8, MOST_BYTES>>, u32>
         requires drained { IsDrained self.now }
         requires channel { c < 4 }
-        ensures { bytes_in result ≡ planned_bytes (state_of self.now).memory (state_of self.now).frames (state_of self.now).dma c (given_in given.entry) }
+        ensures { bytes_in result
+            ≡ planned_bytes (state_of self.now).memory (state_of self.now).frames (state_of self.now).dma c
+            (given_in given.entry) }
     {
         self.storage.plan_unit(&self.channels, c, given)
     }
@@ -270,7 +278,8 @@ impl Processor {
     #[tactic(auto, unfolding(crate::specs::State::state_of))]
     pub fn posts_behind_unit(&self, c: u8) -> bool
         requires { c < 4 }
-        ensures { result ≡ (is_last ((state_of self.now).dma.channels c) && posts_at_end ((state_of self.now).dma.channels c)) }
+        ensures { result ≡ (is_last ((state_of self.now).dma.channels c)
+            && posts_at_end ((state_of self.now).dma.channels c)) }
     {
         self.channels.is_last(c) && self.channels.posts(c)
     }

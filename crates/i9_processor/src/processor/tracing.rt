@@ -84,7 +84,8 @@ impl Processor {
     /// flags.
     #[tactic(auto, using(crate::proofs::Tracing::trace_rules))]
     pub fn trace_left(&self, e: &Effect) -> TraceControls
-        requires { ComesAfterFlush (control_in e.now.control) (move_in (state_of self.now) e.now.frames) (writes_in e.now) }
+        requires { ComesAfterFlush (control_in e.now.control) (move_in (state_of self.now) e.now.frames)
+            (writes_in e.now) }
         ensures { controls_of result ≡ trace_left (state_of self.now) e.now }
     {
         match e.control {

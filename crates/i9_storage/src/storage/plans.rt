@@ -11,7 +11,8 @@ ghost use Rattle.i9_model.specs.Faults.{planned_fault};
 ghost use Rattle.i9_model.specs.Memory.{with_writes};
 ghost use Rattle.i9_model.specs.Hazards.{record_write_hazard, unless};
 ghost use Rattle.i9_model.specs.Requests.{request_hazard, request_writes};
-ghost use Rattle.i9_model.specs.Interrupts.{chosen_soft, record_writes, cleared_hazard, clearing_writes, planned_interrupt};
+ghost use Rattle.i9_model.specs.Interrupts.{chosen_soft, record_writes, cleared_hazard, clearing_writes};
+ghost use Rattle.i9_model.specs.Interrupts.{planned_interrupt};
 ghost use Rattle.i9_model.specs.HeldFrames.{cache_configured};
 ghost use Rattle.i9_model.specs.Numbers.{IsWithin};
 ghost use Rattle.i9_entry.specs.Switches.{system_switch};
@@ -114,7 +115,8 @@ impl Storage {
         sp: u32,
     ) -> Result<Entry, FaultStop>
         requires drained { IsDrained self.now }
-        ensures entry { result ≡ planned_fault (memory_in self.now) (frames_in self.now) table system fault.now pc ac fp sp }
+        ensures entry { result
+            ≡ planned_fault (memory_in self.now) (frames_in self.now) table system fault.now pc ac fp sp }
 
         // So the frame can be saved there.
         ensures free { IfOk result (λ e. save_hazard (frames_in self.now) e.push.save ≡ None) }
@@ -177,7 +179,8 @@ impl Storage {
         sp: u32,
     ) -> Result<IntEntry, u32>
         requires drained { IsDrained self.now }
-        ensures entry { result ≡ planned_interrupt (memory_in self.now) (frames_in self.now) table stack c.now pc ac fp sp }
+        ensures entry { result
+            ≡ planned_interrupt (memory_in self.now) (frames_in self.now) table stack c.now pc ac fp sp }
 
         // So the frame can be saved there.
         ensures free { IfOk result (λ e. save_hazard (frames_in self.now) e.push.save ≡ None) }
@@ -187,7 +190,8 @@ impl Storage {
         ensures record { IfOk result (λ e. record_write_hazard (frames_in self.now) e.push ≡ None) }
 
         // And then what chose the interrupt can be cleared.
-        ensures clear { IfOk result (λ e. cleared_hazard (memory_in self.now) (frames_in self.now) table c.now e.push e.words ≡ None) }
+        ensures clear { IfOk result
+            (λ e. cleared_hazard (memory_in self.now) (frames_in self.now) table c.now e.push e.words ≡ None) }
     {
         ints.plan_int(
             self.behind.memory(),
@@ -209,9 +213,11 @@ impl Storage {
     pub fn clearing_bytes(&self, table: u32, c: &Chosen, e: &IntEntry) -> ArrayVec<(u32, u8), 2>
         requires drained { IsDrained self.now }
         requires record { record_write_hazard (frames_in self.now) e.now.push ≡ None }
-        requires clear { cleared_hazard (memory_in self.now) (frames_in self.now) table c.now e.now.push e.now.words ≡ None }
+        requires clear { cleared_hazard (memory_in self.now) (frames_in self.now) table c.now e.now.push e.now.words
+            ≡ None }
         ensures { result.items ≡ clearing_writes c.now.cause
-            (with_writes (memory_in self.now) (record_writes (memory_in self.now) e.now.push e.now.words)) table c.now.vector }
+            (with_writes (memory_in self.now)
+            (record_writes (memory_in self.now) e.now.push e.now.words)) table c.now.vector }
     {
         clearing_bytes(self.behind.memory(), table, c, e)
     }
@@ -222,7 +228,8 @@ impl Storage {
     /// both are written (after the i960 CA/CF User's Manual, interrupts).
     pub fn plan_request(&self, table: u32, v: u8) -> Result<[(u32, u8); 2], u32>
         requires drained { IsDrained self.now }
-        ensures { result ≡ unless (request_hazard (frames_in self.now) table v) (request_writes (memory_in self.now) table v) }
+        ensures { result ≡ unless (request_hazard (frames_in self.now) table v)
+            (request_writes (memory_in self.now) table v) }
     {
         plan_request(self.behind.memory(), &self.watch, table, v)
     }
@@ -237,7 +244,8 @@ impl Storage {
     ) -> Result<Option<ArrayVec<u8, 16>>, u32>
         requires drained { IsDrained self.now }
         requires channel { c < 4 }
-        ensures { bytes_in result ≡ planned_bytes (memory_in self.now) (frames_in self.now) (dma_of channels.now) c (given_in given.entry) }
+        ensures { bytes_in result
+            ≡ planned_bytes (memory_in self.now) (frames_in self.now) (dma_of channels.now) c (given_in given.entry) }
     {
         channels.plan_unit(self.behind.memory(), &self.watch, c, given)
     }

@@ -1,8 +1,10 @@
 //! Bytes, halves and words of memory with the held frames laid over it.
-ghost use Rattle.std.specs.Prelude.{◌≡◌, ℕ, ◌+◌, ◌-◌, ◌*◌, ◌/◌, ◌%◌, ◌^◌, ◌<◌, ◌≤◌, false, None, IfNone, IfSome, length, slice_index, take};
+ghost use Rattle.std.specs.Prelude.{◌≡◌, ℕ, ◌+◌, ◌-◌, ◌*◌, ◌/◌, ◌%◌, ◌^◌, ◌<◌, ◌≤◌, false, None, IfNone, IfSome};
+ghost use Rattle.std.specs.Prelude.{length, slice_index, take};
 ghost use Rattle.i9_model.specs.declared.layout.TheConstants.{LOCALS, FRAME_SIZE};
 ghost use Rattle.i9_model.specs.Hazards.{read_hazard};
-ghost use Rattle.i9_model.specs.Memory.{in_port_page, is_big, waits_of, half_in, word_in, words_in, half_bytes, word_bytes};
+ghost use Rattle.i9_model.specs.Memory.{in_port_page, is_big, waits_of, half_in, word_in, words_in, half_bytes};
+ghost use Rattle.i9_model.specs.Memory.{word_bytes};
 ghost use Rattle.i9_model.specs.Writes.{wrapped};
 ghost use Rattle.i9_model.specs.HeldFrames.{over, overlaid, AreWhole};
 ghost use Rattle.i9_storage.specs.Kept.{cache_in, laid_without, byte_in_frame};
@@ -40,7 +42,8 @@ fn byte_of(behind: &Behind, sets: &Sets, k: u8, a: u32) -> Option<u8>
     requires whole { AreWhole sets.now.frames }
     requires there { k < length sets.now.frames }
     requires outside { in_port_page a ≡ false }
-    ensures past { IfNone result ((laid_without (k + 1) behind.now sets.now).bytes a ≡ (laid_without k behind.now sets.now).bytes a) }
+    ensures past { IfNone result
+        ((laid_without (k + 1) behind.now sets.now).bytes a ≡ (laid_without k behind.now sets.now).bytes a) }
     ensures here { IfSome result (λ b. b ≡ (laid_without k behind.now sets.now).bytes a) }
 {
     let f = sets.at(k).copied()?;
