@@ -311,8 +311,7 @@ fn who_wrote_a_wrong_byte(rt: HostRuntime) -> Result<(), Fail> {
 
 /// Sessions that go back, over images with a PRCB.
 const ENTRIES: &str = "
-== Back over the entry of an interrupt and the event that brought it. The entry wrote the vector,
-    and no instruction did.
+== Back over the entry of an interrupt and the event that brought it. The entry wrote the vector, and no instruction did.
         mov   1, g4
         mov   2, g5
         .org  0x23E4            # the vector of the interrupt that is never masked

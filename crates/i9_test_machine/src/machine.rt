@@ -127,18 +127,13 @@ what is left       | planned?, bytes? 48 42 | true, F8 1F
 /// waits for all before it, since it writes a special function register, as all behind it wait for it. The product is
 /// there at 6, and the end is answered when all is done; one multiplication is done at a time.
 const MOVES: &str = "\
-mulo; addo; mov g8 | image 1000 70A58095 59C50801 5CC80618, run 3, moves, moves, moves, moves | 0 issued, 5 issued,
-    1 issued, 1 limit
-mulo; lda; mov 7; addo | image 1000 70A58095 8CB80010 5CC80E07 59C50801, run 4, moves, moves, moves, moves,
-    moves | 0 issued, 0 issued, 1 issued, 4 issued, 1 limit
+mulo; addo; mov g8 | image 1000 70A58095 59C50801 5CC80618, run 3, moves, moves, moves, moves | 0 issued, 5 issued, 1 issued, 1 limit
+mulo; lda; mov 7; addo | image 1000 70A58095 8CB80010 5CC80E07 59C50801, run 4, moves, moves, moves, moves, moves | 0 issued, 0 issued, 1 issued, 4 issued, 1 limit
 lda; mulo          | image 1000 8CB80010 70A58095, run 2, moves, moves, moves | 0 issued, 0 issued, 5 limit
-mov 7; mulo; lda   | image 1000 5CC80E07 70A58095 8CB80010, run 3, moves, moves, moves, moves | 0 issued, 1 issued,
-    0 issued, 5 limit
+mov 7; mulo; lda   | image 1000 5CC80E07 70A58095 8CB80010, run 3, moves, moves, moves, moves | 0 issued, 1 issued, 0 issued, 5 limit
 mulo; mulo         | image 1000 70A58095 70A58095, run 2, moves, moves, moves | 0 issued, 5 issued, 5 limit
-mulo; call; lda    | image 1000 70A58095 9000004 8CB80010, run 3, moves, moves, moves, moves | 0 issued, 5 issued,
-    4 issued, 1 limit
-mulo; mov sf1; lda | image 1000 70A58095 5C082E01 8CB80010, run 3, moves, moves, moves, moves | 0 issued, 5 issued,
-    1 issued, 1 limit
+mulo; call; lda    | image 1000 70A58095 9000004 8CB80010, run 3, moves, moves, moves, moves | 0 issued, 5 issued, 4 issued, 1 limit
+mulo; mov sf1; lda | image 1000 70A58095 5C082E01 8CB80010, run 3, moves, moves, moves, moves | 0 issued, 5 issued, 1 issued, 1 limit
 ";
 
 /// What is open lands: `mov 3, g5`, `mov 7, g6`, their product, which issues at 3 and is there at 8, and its sum with
@@ -152,8 +147,7 @@ the product        | settle, settle | true, true
 the sum            | moves, count?, regs? 20 24 | 0 issued, 4, 15 16
 the end            | settle, moves | true, 0 limit
 again              | settle, moves | true, 0 limit
-overtaken          | image 1000 70A11D80 59A89801, run 2, steps 1, step, settle, step | imprecise 1000, true,
-    imprecise 1000
+overtaken          | image 1000 70A11D80 59A89801, run 2, steps 1, step, settle, step | imprecise 1000, true, imprecise 1000
 settled before     | run 2, steps 1, settle, moves, count?, ip? | true, 0 on, 1, 0
 ";
 

@@ -138,12 +138,9 @@ fn gone_through(alloc: Global, steps: &str) -> Result<String, Fail> {
 /// apart, of nested calls, of a flush and of a start anew, whose programs are those of the other tests.
 const ROWS: &str = "\
 console and exit   | image 1000 8CA00041 8CA83000 E0000000 82A56000 5CA00E07 92A56004, run 100 | exit 7, 5, 3, true
-stores far apart   | image 1000 8C803000 80003000 5CA00E07 82A03000 3000 5CA80E09 82AC2000 80B03000 3000 80BC2000,
-    run 7 | limit, 7, 2, true
-calls in one set   | image 1000 8C800013 9000010 8CA83000 E0000000 92856004 3204200C 59840901 9FFFFF8 A000000,
-    run 100 1 | exit 0, 82, 2, true
-in fifteen         | image 1000 8C800013 9000010 8CA83000 E0000000 92856004 3204200C 59840901 9FFFFF8 A000000,
-    run 100 15 | exit 0, 82, 2, true
+stores far apart   | image 1000 8C803000 80003000 5CA00E07 82A03000 3000 5CA80E09 82AC2000 80B03000 3000 80BC2000, run 7 | limit, 7, 2, true
+calls in one set   | image 1000 8C800013 9000010 8CA83000 E0000000 92856004 3204200C 59840901 9FFFFF8 A000000, run 100 1 | exit 0, 82, 2, true
+in fifteen         | image 1000 8C800013 9000010 8CA83000 E0000000 92856004 3204200C 59840901 9FFFFF8 A000000, run 100 15 | exit 0, 82, 2, true
 call f; f: flushreg | image 1000 9000004 66000680, run 2 5 | limit, 2, 3, true
 call f; f: sysctl  | image 1000 9000004 8C880300 8C903000 1200 8C980C00 659C8491, run 5 | limit, 5, 2, true
 ";

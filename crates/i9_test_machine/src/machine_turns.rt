@@ -126,14 +126,12 @@ fn waits_for_what_is_open(rt: HostRuntime) -> Result<(), Fail> {
 /// with an open barrier, that of a flush, which hides what it stores until 22; with a product that lands at 6; and with
 /// five frames held, among the calls and among the returns. What is kept stays as it was.
 const COPIES: &str = "\
-mov 7, g4; st g4, 0x300 | image 1000 5CA00E07 92A00300, run 2, moves, moves, turn?, raw_byte? 300 | 0 issued, 1 issued,
-    2, 0
+mov 7, g4; st g4, 0x300 | image 1000 5CA00E07 92A00300, run 2, moves, moves, turn?, raw_byte? 300 | 0 issued, 1 issued, 2, 0
 the store waits    | copy, turn?, raw_byte? 300, bytes? 300 | 2, 0, 7
 it lands           | turns 1, raw_byte? 300, kept raw_byte? 300, kept bytes? 300 | 7, 0, 7
 the end            | copy, turn, kept end?, end?, lines? | limit, no end, limit, point End, limit
 mov 5, r4; call f; f: flushreg | image 1000 5C200E05 9000004 66000680, run 3, turns 5 |
-a frame is held    | copy, frames?, frame? 0, turns 1, frames?, kept frames? | 1,
-    0: 0 40 1008 0 5 0 0 0 0 0 0 0 0 0 0 0, 0, 1
+a frame is held    | copy, frames?, frame? 0, turns 1, frames?, kept frames? | 1, 0: 0 40 1008 0 5 0 0 0 0 0 0 0 0 0 0 0, 0, 1
 an open barrier    | copy, turns 15, raw_byte? 10, bytes? 10 | 0, 5
 it is done         | copy, turns 1, raw_byte? 10, kept raw_byte? 10, lines? | 5, 0, point Flush
 a product          | image 1000 74911883 59A89801 90B00100 8000004 5CB80E00, run 5, turn, turn | on, on
@@ -141,10 +139,8 @@ it is planned      | copy, turn?, raw_regs? 18 21 1, regs? 18 21, busy? | 3, 0 3
 it lands           | turns 2, turn, turn?, raw_regs? 18, busy?, kept raw_regs? 18 | on, 6, C, 0, 0
 the end            | copy, turns 1, turn, turn?, lines? | limit, 6, point End, limit
 calls and returns  | image 1000 8C800013 9000010 8CA83000 E0000000 92856004 3204200C 59840901 9FFFFF8 A000000 |
-within the calls   | run 100 5, steps 41, frames?, copy, most 83, count?, ip?, regs? 1 2 21 | 5, 5 exit 0, 82, 1014,
-    40 1008 E0000000
-within the returns | run 100 5, steps 70, copy, steps 5, copy, end, count?, ip?, regs? 1 2 21 | exit 0, 82, 1014,
-    40 1008 E0000000
+within the calls   | run 100 5, steps 41, frames?, copy, most 83, count?, ip?, regs? 1 2 21 | 5, 5 exit 0, 82, 1014, 40 1008 E0000000
+within the returns | run 100 5, steps 70, copy, steps 5, copy, end, count?, ip?, regs? 1 2 21 | exit 0, 82, 1014, 40 1008 E0000000
 ";
 
 #[test]

@@ -437,8 +437,7 @@ table 4000, bytes 404D 11, bytes 43E5 11, chosen_line 0 12, at 0 3004 3041 | pla
 table 4000, bytes 404D 11, bytes 43E5 11, chosen_nmi | plan | \
 1100 1F2002 saves 3000 3060 3007 30A0 record 12403 8084 F8 0
 table 3FFE, bytes 4004 80, bytes 405F 11, live 3FC0, wrote 3FFE 2, at 12403 3004 4000 | plan | \
-1100 22002 saves 3000 4010 3007 4050 record 12403 8084 17 0 | the record is at 4000, and AC at 4004,
-    where the bits of the vectors are
+1100 22002 saves 3000 4010 3007 4050 record 12403 8084 17 0 | the record is at 4000, and AC at 4004, where the bits of the vectors are
 table 4000, bytes 4060 3 11, left 4000, at 12403 3004 4000 | plan | \
 1100 22002 saves 3000 4010 3007 4050 record 12403 8084 17 0 | soft bytes under the record are not soft any more
 table 4000, bytes 4060 3 11, left 4000, chosen_line 5 17 | plan | \

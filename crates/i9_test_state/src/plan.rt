@@ -84,17 +84,14 @@ mov 5, sf0        | 0 1F2002 1000 5C002E05 0 | Mov 5C002E05 0: 0 1F2002 0 1004, 
 mov 5, sf1        | 0 1F2002 1000 5C082E05 0 | Mov 5C082E05 0: 0 1F2002 0 1004, Mask(5)
 sysctl 0, vector 0 | 0 1F2002 1000 65A01483 0 | Sysctl 65A01483 0: 0 1F2002 0 1004, check
 sysctl 0, vector 7 | 0 1F2002 1000 65A01C87 0 | Sysctl 65A01C87 0: 0 1F2002 0 1004, check
-sysctl 0, vector 8 | 0 1F2002 1000 65A01C88 0 | Sysctl 65A01C88 0: 0 1F2002 0 1004, request 1400 6, request 1405 1,
-    check
-sysctl 0, vector 12 | 0 1F2002 1000 65A01C8C 0 | Sysctl 65A01C8C 0: 0 1F2002 0 1004, request 1400 6, request 1405 10,
-    check
+sysctl 0, vector 8 | 0 1F2002 1000 65A01C88 0 | Sysctl 65A01C88 0: 0 1F2002 0 1004, request 1400 6, request 1405 1, check
+sysctl 0, vector 12 | 0 1F2002 1000 65A01C8C 0 | Sysctl 65A01C8C 0: 0 1F2002 0 1004, request 1400 6, request 1405 10, check
 modpc that lowers | 0 1F2002 1000 65C5C297 0 | Modpc 65C5C297 0: 0 2002 0 1004, r24 1F2002, check
 modpc that keeps  | 0 1F2002 1000 65B58296 0 | Modpc 65B58296 0: 0 1F2003 0 1004, r22 1F2002
 modpc that raises | 0 2 1000 65BDC297 0      | Modpc 65BDC297 0: 0 1F0002 0 1004, r23 2
 mov 5, sf2        | 0 1F2002 1000 5C102E05 0 | Mov 5C102E05 0: 0 1F2002 0 1004, Command(5)
 mov sf2, g4       | 0 1F2002 1000 5CA00622 0 | Mov 5CA00622 0: 0 1F2002 0 1004, r20 0
-sdma 1, g4, g8    | 0 1F2002 1000 63C50801 0 | Sdma 63C50801 0: 0 1F2002 0 1004,
-    SetsUp(1, Channel { control: 5, count: 0, source: 768, target: 4660 })
+sdma 1, g4, g8    | 0 1F2002 1000 63C50801 0 | Sdma 63C50801 0: 0 1F2002 0 1004, SetsUp(1, Channel { control: 5, count: 0, source: 768, target: 4660 })
 ";
 
 /// What is planned in the state of a row.
