@@ -1,5 +1,5 @@
 -- What a machine stands for, and what one step of it does.
-use Rattle.std.specs.Prelude.{◌≡◌, ◌⊎◌, ℕ, ◌+◌, ◌<◌, ◌≤◌, List, ◌∷◌, length, drop, Option, Some, None}
+use Rattle.std.specs.Prelude.{◌≡◌, ◌⊎◌, ℕ, ◌+◌, ◌<◌, ◌≤◌, max, List, ◌∷◌, length, drop, Option, Some, None, IfSome}
 use Rattle.i9_model.specs.declared.run.End.{End}
 use Rattle.i9_model.specs.Left.{left_in}
 use Rattle.i9_model.specs.Run.{Given, Record, Does, due_after, reached_after, state_after, Finish, reached_in}
@@ -167,6 +167,24 @@ pub record Proceeds (g : Given) (h : List Item) (answer : Turn) (before m : Mach
   pub stands : StandsFor g h None mid
   pub comes : Comes g h answer mid m plan old new
   pub lacking : answer ≡ turns.Memory → HasRoom before spare (comes_next g h) → ⊥
+
+-- Nothing comes below a turn, which the machine's became, unless that was above it; and nothing was done.
+pub record PassesTo (g : Given) (h : List Item) (until : ℕ) (before m : Machine) (plan : Plan)
+    (old new : List Line) : Type 0 where
+  pub later : until ≤ (ahead g h).turn
+  pub turn : m.turn ≡ max before.turn until
+  pub stands : StandsFor g h None m
+  pub follows : Follows g h plan
+  pub lines : new ≡ old
+
+-- What comes next was done, and comes below a turn where one is given; or there was no answer, and nothing comes below
+-- that.
+abbrev pub ProceedsUntil : Given → List Item → Option ℕ → Option Turn → Machine → Machine → Plan → ℕ → List Line
+    → List Line → Type 0
+ProceedsUntil g h until (Some answer) before m plan spare old new =
+    IfSome until (λ u. (ahead g h).turn < u) × Proceeds g h answer before m plan spare old new
+ProceedsUntil g h (Some u) None before m plan spare old new = PassesTo g h u before m plan old new
+ProceedsUntil g h None None before m plan spare old new = ⊥
 
 -- the end is answered again, and nothing has changed
 pub record AnswersAgain (f : Finish) (answer : Turn) (before m : Machine) (old new : List Line) : Type 0 where

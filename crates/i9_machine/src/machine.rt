@@ -1,6 +1,6 @@
 //! The machine, one step at a time.
 ghost use Rattle.std.specs.Prelude.{◌≡◌, ◌-◌, ◌^◌, ◌<◌, ◌≤◌, [], ◌∷◌, length, max, ℕ, List, Option, None, Some, IfOk};
-ghost use Rattle.std.specs.Prelude.{IfSome, vec_len, vec_capacity, true, false};
+ghost use Rattle.std.specs.Prelude.{IfSome, IsSome, vec_len, vec_capacity, true, false};
 ghost use Rattle.std.proofs.Props.{props};
 ghost use Rattle.i9_model.specs.declared.layout.TheConstants.{MAX_LENGTH};
 ghost use Rattle.i9_model.specs.declared.event.Timed.{Timed};
@@ -73,8 +73,8 @@ pub struct Machine {
 
 impl Machine {
     ghost use Rattle.i9_machine.specs.Coming.{HasArrived, HasRead, IsAhead, RunsAhead, IsReadyFor, Came};
-    ghost use Rattle.i9_machine.specs.StandsFor.{StandsFor, Follows, Advances, Proceeds, AnswersAgain, LeavesFewer};
-    ghost use Rattle.i9_machine.specs.StandsFor.{IsUnderWay, HasCome};
+    ghost use Rattle.i9_machine.specs.StandsFor.{StandsFor, Follows, Advances, Proceeds, ProceedsUntil, AnswersAgain};
+    ghost use Rattle.i9_machine.specs.StandsFor.{LeavesFewer, IsUnderWay, HasCome};
     ghost use Rattle.i9_machine.specs.Issuing.{KeepsPlanned, IsMovedTo, IsPassedTo, IsMoved, IsSettled, IsQuiet};
     ghost use Rattle.i9_machine.specs.NewPages.{AddsNextOnly};
     ghost use Rattle.i9_machine.specs.Opening.{IsTimely};
@@ -430,10 +430,69 @@ impl Machine {
     {
         match self.ended {
             Some(e) => Turn::End(e),
-            None => {
-                let (turn, coming) = self.look(plan);
+            None => match self.proceed_until(None, plan, out) {
+                Some(turn) => turn,
+                // Something always comes.
+                None => Turn::On,
+            },
+        }
+    }
+
+    /// As `proceed`, where something comes below this turn. Where nothing does, there is no answer: the turn becomes
+    /// this one, unless it is above it, what is due by then lands, and nothing else changes.
+    #[inline(always)]
+    pub fn proceed_below(
+        &mut self,
+        until: u64,
+        plan: &mut Schedule,
+        out: &mut Vec<Line>,
+    ) -> Option<Turn>
+        requires stands { self.old.ended ≡ None → IsUnderWay self.old plan.old }
+        ensures next { (g : Given) (h : List Item) → StandsFor g h None self.old → Follows g h plan.old
+            → ProceedsUntil g h (Some until) result self.old self.new plan.new
+            (vec_capacity out.old - vec_len out.old) out.old.items out.new.items }
+        ensures again { (g : Given) (h : List Item) (f : Finish) → StandsFor g h (Some f) self.old
+            → IsSome result × IfSome result (λ t. AnswersAgain f t self.old self.new out.old.items out.new.items)
+            × (plan.new ≡ plan.old) }
+        ensures only { (g : Given) (h : List Item) → StandsFor g h None self.old → Follows g h plan.old
+            → AddsNextOnly self.old self.new (comes_next g h) }
+        ensures fewer { IfSome result
+            (λ t. LeavesFewer t (steps_left self.old plan.old) (steps_left self.new plan.new)) }
+    {
+        match self.ended {
+            Some(e) => Some(Turn::End(e)),
+            None => self.proceed_until(Some(until), plan, out),
+        }
+    }
+
+    /// What comes next is done, at its turn, where no turn is given or it comes below that; else the turn becomes the
+    /// one that is given, unless it is above it.
+    #[inline(always)]
+    fn proceed_until(
+        &mut self,
+        until: Option<u64>,
+        plan: &mut Schedule,
+        out: &mut Vec<Line>,
+    ) -> Option<Turn>
+        requires running { self.old.ended ≡ None }
+        requires stands { IsUnderWay self.old plan.old }
+        ensures next { (g : Given) (h : List Item) → StandsFor g h None self.old → Follows g h plan.old
+            → ProceedsUntil g h until result self.old self.new plan.new
+            (vec_capacity out.old - vec_len out.old) out.old.items out.new.items }
+        ensures only { (g : Given) (h : List Item) → StandsFor g h None self.old → Follows g h plan.old
+            → AddsNextOnly self.old self.new (comes_next g h) }
+        ensures fewer { IfSome result
+            (λ t. LeavesFewer t (steps_left self.old plan.old) (steps_left self.new plan.new)) }
+    {
+        let (turn, coming) = self.look(plan);
+        match until {
+            Some(until) if until <= turn.max(self.turn) => {
+                self.pass_to(until);
+                None
+            }
+            _ => {
                 self.pass_to(turn);
-                self.come(turn, coming, plan, out)
+                Some(self.come(turn, coming, plan, out))
             }
         }
     }

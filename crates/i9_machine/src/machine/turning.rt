@@ -1,10 +1,11 @@
 //! A whole turn of the machine, and what it leaves.
-ghost use Rattle.std.specs.Prelude.{◌≡◌, ◌-◌, List, Option, None, Some, vec_len, vec_capacity};
+ghost use Rattle.std.specs.Prelude.{◌≡◌, ◌-◌, ◌^◌, ◌<◌, List, Option, None, Some, vec_len, vec_capacity};
 ghost use Rattle.i9_model.specs.Given.{Given};
 ghost use Rattle.i9_model.specs.declared.run.End.{End};
 ghost use Rattle.i9_model.specs.State.{boot};
 ghost use Rattle.i9_model.specs.Run.{state_after, Finish};
 ghost use Rattle.i9_course.specs.Course.{Item, records_of, course, comes_next};
+ghost use Rattle.i9_schedule.specs.Plan.{Plan};
 ghost use Rattle.i9_raw.specs.Raw.{raw_memory};
 ghost use Rattle.i9_machine.specs.Raw.{raw_at, IsFlushed};
 
@@ -59,6 +60,14 @@ impl Machine {
                 Turn::Memory => return Turn::Memory,
             }
         }
+    }
+
+    /// The turn at which the machine stands.
+    pub fn at_turn(&self) -> u64
+        ensures value { result ≡ self.now.turn }
+        ensures small { (plan : Plan) → IsUnderWay self.now plan → result < 2 ^ 62 }
+    {
+        self.turn
     }
 
     /// The registers as they stand at the machine's turn, and which of them are busy.
