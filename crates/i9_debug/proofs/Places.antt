@@ -1,5 +1,5 @@
 -- Texts of runs from one place to another.
-use Rattle.std.proofs.Common.{◌≡◌, ℕ, zero, suc, ◌<◌, ◌≤◌, Bool, true, false, List, [], ◌∷◌, ◌++◌, Option, Some, None, refl, sym, ap, ◌∙◌, subst, append_assoc, ◌⊎◌, inl, inr, arith}
+use Rattle.std.proofs.Common.{◌≡◌, ℕ, zero, suc, ◌<◌, ◌≤◌, Bool, true, false, List, [], ◌∷◌, ◌++◌, flat_map, Option, Some, None, refl, sym, ap, ◌∙◌, subst, append_assoc, ◌⊎◌, inl, inr, arith}
 use Rattle.std.proofs.lemmas.List.{append-nil}
 use Rattle.i9_model.specs.declared.run.End.TheVariants.{Imprecise}
 use Rattle.i9_model.specs.Late.{turns as late_turns}
@@ -12,6 +12,10 @@ use Rattle.i9_course.proofs.Ahead.{ahead_precise}
 use Rattle.i9_course.specs.LateRun.{end_ahead, finish_by, ended_by}
 use Rattle.i9_course.proofs.Orderly.{course_events}
 use Rattle.i9_past.proofs.Ends.{some_within}
+use Rattle.i9_lines.proofs.ClosedLines.{added-text}
+use Rattle.i9_lines.specs.Print.{line_text}
+use Rattle.i9_machine.specs.declared.line.Line.{Line}
+use Rattle.i9_machine.specs.Line.{AddsLines}
 use Rattle.i9_machine.specs.StandsFor.{left_after}
 use Rattle.i9_machine.proofs.Issuing.{left_less}
 use Rattle.i9_machine.specs.Turned.{steps_on}
@@ -31,6 +35,12 @@ lines_of-append (y ∷ ys) xs =
 -- what is shown of records, and then of later ones
 pub text-append : (ys xs : List Record) → text_of (lines_of xs) ++ text_of (lines_of ys) ≡ text_of (lines_of (ys ++ xs))
 text-append ys xs = sym (text_of-append (lines_of xs) (lines_of ys)) ∙ ap text_of (sym (lines_of-append ys xs))
+
+-- the lines of one more
+pub text-more : (rs : List Record) (r : Record) (ls : List Line) → AddsLines [] ls (record_lines r)
+    → text_of (lines_of rs) ++ flat_map line_text ls ≡ text_of (lines_of (r ∷ rs))
+text-more rs r ls e =
+    ap (λ (x : List ℕ). text_of (lines_of rs) ++ x) (added-text ls (record_lines r) e) ∙ sym (text_of-append (lines_of rs) (record_lines r))
 
 pub ending-append : (g : Given) (h : List Item) (ys xs : List Record) (f : Finish)
     → text_of (lines_of xs) ++ text_of (ending_lines g (steps_on xs h) ys f) ≡ text_of (ending_lines g h (ys ++ xs) f)

@@ -26,7 +26,7 @@ use Rattle.i9_debug.specs.Session.{Place, at, ended, turn_ahead, ending_lines, c
 use Rattle.i9_debug.specs.Driven.{StandsAt, Drives, StopsAt, AtMostOne, CutInRun, behind_step, behind_end, StopsBy, stops, never_stops, goes_on, output, target}
 use Rattle.i9_lines.proofs.Prints.{prints_none, prints_then, prints_stop, prints_same, prints_behind, not_done, on_cut, cut_whole}
 use Rattle.i9_lines.proofs.ClosedLines.{closed_text}
-use Rattle.i9_debug.proofs.Places.{steps_on-append, text-append, either, comes_after, address_leads}
+use Rattle.i9_debug.proofs.Places.{steps_on-append, text-append, text-more, either, comes_after, address_leads}
 use Rattle.i9_lines.proofs.ClosedLines.{added-text}
 
 same_whole : (answer : Printed) (P : Type 0) → P → OnDone answer P
@@ -55,9 +55,6 @@ module _ {K : Type 0} (k : Account K) (g : Given) (h : List Item) (allows : View
     abbrev front : List ℕ
     front = text_of (lines_of inv.done)
 
-    one-more : (r : Record) → AddsLines [] ls (record_lines r) → front ++ flat_map line_text ls ≡ text_of (lines_of (r ∷ inv.done))
-    one-more r e = ap (λ (x : List ℕ). front ++ x) (added-text ls (record_lines r) e) ∙ sym (text_of-append (lines_of inv.done) (record_lines r))
-
     behind : (answer : Printed) → Prints answer k b c (flat_map line_text ls) → Prints answer k a c (front ++ flat_map line_text ls)
     behind answer p = prints_then k answer a b c front (flat_map line_text ls) (closed_text (lines_of inv.done)) inv.prints p
 
@@ -69,7 +66,7 @@ module _ {K : Type 0} (k : Account K) (g : Given) (h : List Item) (allows : View
       stands = d.stands;
       follows = d.follows;
       passed = (passed, inv.passed);
-      prints = prints_same k Done a c _ _ (one-more d.done d.lines) (behind Done p);
+      prints = prints_same k Done a c _ _ (text-more inv.done d.done ls d.lines) (behind Done p);
     }
 
     pub on_seeks : Comes g (steps_on inv.done h) answers.On mid next plan [] ls → Prints Done k b c (flat_map line_text ls) → Sought a c next plan
@@ -93,7 +90,7 @@ module _ {K : Type 0} (k : Account K) (g : Given) (h : List Item) (allows : View
           last = place;
           is_text = stops inv.done d.done d.stands.past inv.passed (issued_counts d.done.kind d.done.before t d.tells)
               (subst (λ (v : View). allows v true) shown held);
-          prints = prints_same k Done a c _ _ (one-more d.done d.lines) (behind Done p);
+          prints = prints_same k Done a c _ _ (text-more inv.done d.done ls d.lines) (behind Done p);
           place = place;
           stands = record { stands = d.stands; turn = d.turn ∙ sym d.now; follows = d.follows; events = d.follows.events };
           whole = refl;

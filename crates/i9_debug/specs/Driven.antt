@@ -120,26 +120,22 @@ pub record Drives {K : Type 0} (leads : List ℕ → Place → Type 0) (cut : Li
 
 -- ---- where printing stopped
 
--- records behind items that issue at one turn
-abbrev pub InOneTurn : Given → List Item → List Record → Type 0
-InOneTurn g h rs = last_issue (late_turns (course g (steps_on rs h)).late) ≤ turn_ahead g h
-
 -- one record behind items, or none
 abbrev pub AtMostOne : List Item → List Record → Type 0
 AtMostOne h rs = length rs ≤ 1
 
 -- the records of one step of a command, which prints between its steps
-abbrev pub StepOf : Given → Command → List Item → List Record → Type 0
-StepOf g (commands.Turn n) h rs = InOneTurn g h rs
-StepOf g (commands.Until a) h rs = AtMostOne h rs
-StepOf g commands.Regs h rs = ⊥
-StepOf g commands.Raw h rs = ⊥
-StepOf g commands.Held h rs = ⊥
-StepOf g (commands.Mem a n) h rs = ⊥
-StepOf g (commands.RawMem a n) h rs = ⊥
-StepOf g (commands.Back k) h rs = ⊥
-StepOf g (commands.Last a) h rs = ⊥
-StepOf g (commands.Who a) h rs = ⊥
+abbrev pub StepOf : Command → List Item → List Record → Type 0
+StepOf (commands.Turn n) h rs = AtMostOne h rs
+StepOf (commands.Until a) h rs = AtMostOne h rs
+StepOf commands.Regs h rs = ⊥
+StepOf commands.Raw h rs = ⊥
+StepOf commands.Held h rs = ⊥
+StepOf (commands.Mem a n) h rs = ⊥
+StepOf (commands.RawMem a n) h rs = ⊥
+StepOf (commands.Back k) h rs = ⊥
+StepOf (commands.Last a) h rs = ⊥
+StepOf (commands.Who a) h rs = ⊥
 
 -- A run was cut: what is shown of the records before is whole, and behind them only those of one step were done, or the
 -- end came with them.
@@ -154,7 +150,7 @@ pub data CutInRun (g : Given) (step : List Item → List Record → Type 0) (h :
 
 -- What a command runs was cut: its run was, or memory was refused on the way back, and the place is as before.
 pub data CutOnWay (g : Given) (p : Place) : Command → List ℕ → List ℕ → Place → Type 0 where
-  in_run : (c : Command) (x y : List ℕ) (q : Place) → CutInRun g (StepOf g c) p.items x y q → CutOnWay g p c x y q
+  in_run : (c : Command) (x y : List ℕ) (q : Place) → CutInRun g (StepOf c) p.items x y q → CutOnWay g p c x y q
   not_back : (k : ℕ) → CutOnWay g p (commands.Back k) [] [] p
   not_last : (a : ℕ) → CutOnWay g p (commands.Last a) [] [] p
 

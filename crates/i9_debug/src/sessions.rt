@@ -4,14 +4,14 @@ ghost use Rattle.i9_model.specs.Given.{Given};
 ghost use Rattle.i9_course.specs.Course.{Item};
 ghost use Rattle.i9_machine.specs.InRun.{IsInRun};
 ghost use Rattle.i9_machine.specs.StandsFor.{StandsFor, Follows, IsUnderWay};
-ghost use Rattle.i9_script.specs.ScriptText.{IsCommandInRange};
+ghost use Rattle.i9_script.specs.ScriptText.{IsCommandInRange, most_turns};
 ghost use Rattle.i9_tracer.specs.Closures.{TakesEachView};
 ghost use Rattle.i9_back.specs.Stands.{StaysAt};
 ghost use Rattle.i9_back.specs.Trail.{IsTrail};
 ghost use Rattle.i9_lines.specs.Print.{Prints, account};
 ghost use Rattle.i9_debug.specs.Session.{Place, at, UnlessOver, Stays, TurnsTo, ComesTo, Runs, Answers, told};
 ghost use Rattle.i9_debug.specs.Driven.{StandsAt, IsOf, IsPlace, IsDebugged, given_of, output, target};
-ghost use Rattle.i9_debug.specs.Driven.{Drives, InOneTurn, AtMostOne, CutInRun, CutOnWay, CutInAnswer, StopsBy};
+ghost use Rattle.i9_debug.specs.Driven.{Drives, AtMostOne, CutInRun, CutOnWay, CutInAnswer, StopsBy};
 ghost use Rattle.i9_debug.specs.Driven.{RunsScript};
 ghost use Rattle.i9_lines.specs.declared.print.Printed.TheVariants as printed;
 
@@ -42,7 +42,7 @@ pub enum SessionEnd {
     Memory,
 }
 
-/// Runs so many turns, fewer at an end, and prints the lines of each.
+/// Runs until so many turns have passed, fewer at an end, and prints the lines of each step.
 fn run_turns<K: Sink>(
     alloc: Global,
     m: &mut Machine,
@@ -52,14 +52,18 @@ fn run_turns<K: Sink>(
 ) -> Printed
     requires stands { IsUnderWay m.old plan.old }
     requires some { 1 ≤ count }
+    requires few { count ≤ most_turns }
     ensures { (g : Given) (h : List Item) → StandsFor g h None m.old → Follows g h plan.old
-        → Drives (TurnsTo g h (m.old.turn + count)) (CutInRun g (InOneTurn g) h) result g
+        → Drives (TurnsTo g h (m.old.turn + count)) (CutInRun g AtMostOne h) result g
         (output (account K.told K.faults K.writes K.sure K.pieces) out.old out.new) (target m.new plan.new) }
 {
+    let until = m.at_turn() + count;
     let mut lines = Vec::new(alloc);
-    for _passed in 0..count {
+    loop {
         lines.clear();
-        let turn = m.turn(plan, &mut lines);
+        let Some(turn) = m.proceed_below(until, plan, &mut lines) else {
+            return Printed::Done;
+        };
         match print_lines(alloc, &lines, out) {
             Printed::Done => {}
             Printed::Write => return Printed::Write,
@@ -67,13 +71,11 @@ fn run_turns<K: Sink>(
         }
         match turn {
             Turn::On => {}
-            // No turn is answered so.
             Turn::Issued(_) => {}
             Turn::End(_) => return Printed::Done,
             Turn::Memory => return Printed::Memory,
         }
     }
-    Printed::Done
 }
 
 /// Runs until the first instruction issued in this call after which a stop holds of the view, or else until the end,
@@ -149,7 +151,7 @@ fn run_to<K: Sink>(
     run_while_not(alloc, m, plan, is_there, out)
 }
 
-/// Runs so many turns, fewer at an end, and prints the lines of each; at an end nothing.
+/// Runs as `run_turns` does; at an end nothing.
 fn turn_on<K: Sink>(
     alloc: Global,
     m: &mut Machine,
@@ -159,9 +161,10 @@ fn turn_on<K: Sink>(
 ) -> Printed
     requires stands { IsInRun m.old plan.old }
     requires some { 1 ≤ count }
+    requires few { count ≤ most_turns }
     ensures { (g : Given) (p : Place) → StandsAt g p m.old plan.old
         → Drives (λ x q. UnlessOver p.end (TurnsTo g p.items (p.turn + count) x q) (Stays p x q))
-        (CutInRun g (InOneTurn g) p.items) result g
+        (CutInRun g AtMostOne p.items) result g
         (output (account K.told K.faults K.writes K.sure K.pieces) out.old out.new) (target m.new plan.new) }
 {
     match m.ended() {

@@ -117,9 +117,22 @@ the end            | proceed, turn?, lines? | limit, 7, point End, limit
 again              | proceed | limit
 ";
 
+/// The same, up to a turn: nothing comes below 1 and 6, where the turn rises to it at most, nor the end below 7.
+const BELOW: &str = "\
+mulo; addo         | image 1000 70A58095 59C50801, run 2, below 1, turn?, count? | none, 1, 0
+mulo               | below 2, turn?, count? | issued, 1, 1
+up to 4            | below 4, turn?, count? | none, 4, 1
+not back           | below 3, turn?, count? | none, 4, 1
+up to 6            | below 6, turn?, count? | none, 6, 1
+addo               | below 7, turn?, count? | issued, 6, 2
+up to 7            | below 7, at?, lines? | none, 7, no lines
+the end            | below 8, turn?, lines? | limit, 7, point End, limit
+again              | below 3, at? | limit, 7
+";
+
 #[test]
 fn waits_for_what_is_open(rt: HostRuntime) -> Result<(), Fail> {
-    tables_hold(&rt, rt.alloc(), &[WAITING, PASSED])
+    tables_hold(&rt, rt.alloc(), &[WAITING, PASSED, BELOW])
 }
 
 /// Machines that are copied, and go on as they would without: with a store that waits; with a frame that is held, and

@@ -153,6 +153,15 @@ pub(crate) fn proceed(run: &mut Run) -> Turn
     run.machine.proceed(&mut run.plan, &mut run.lines)
 }
 
+/// One step below a turn, behind the turns at which nothing comes; nothing where none comes below it.
+pub(crate) fn proceed_below(run: &mut Run, until: u64) -> Option<Turn>
+    requires { IsInRun run.old.machine run.old.plan }
+    ensures { IsInRun run.new.machine run.new.plan }
+{
+    run.machine
+        .proceed_below(until, &mut run.plan, &mut run.lines)
+}
+
 /// Lands all that is open, and says whether the view stays as it is.
 pub(crate) fn settle(run: &mut Run) -> bool
     requires { IsInRun run.old.machine run.old.plan }

@@ -4,7 +4,7 @@
 //! - `run N S: EVENTS` starts a machine of the image: of at most N instructions, of S sets where these are not those
 //!   of the PRCB, with a schedule. It answers nothing, and neither do `steps N` and `turns N`, which go on.
 //! - `advance`, `turn`, `proceed` and `settle` are calls of the machine, and `step` advances to the next step that is
-//!   no move of the turn. `issue` answers the instruction of that step, `moves` how often the turn moved before it,
+//!   no move of the turn. `below N` proceeds below turn N, and answers `none` where nothing comes there. `issue` answers the instruction of that step, `moves` how often the turn moved before it,
 //!   `most N` the most frames that were held in N of them, and `end` how the run ends.
 //! - `copy` goes on with a copy of the machine, and keeps that.
 //! - A word with a question mark asks for what it names; behind `kept` it asks the machine that was copied last.
@@ -14,10 +14,12 @@ ghost use Rattle.i9_machine.specs.InRun.{IsInRun};
 
 use crate::check::same_at;
 use crate::run::{
-    Run, advance, copy, idle, image_of, moves_and_step, proceed, put_words, settle, start, step,
-    steps, turn, turns,
+    Run, advance, copy, idle, image_of, moves_and_step, proceed, proceed_below, put_words, settle,
+    start, step, steps, turn, turns,
 };
-use crate::told::{add, answer, counted_text, issue_text, lines_text, truth, turn_text};
+use crate::told::{
+    add, answer, below_text, counted_text, issue_text, lines_text, truth, turn_text,
+};
 use std::alloc::Global;
 use std::process::Abort;
 use std::test::Fail;
@@ -78,6 +80,7 @@ fn goes(alloc: Global, run: &mut Run, name: &str, rest: &str) -> Result<String, 
         "step" => turn_text(alloc, step(run)),
         "turn" => turn_text(alloc, turn(run)),
         "proceed" => turn_text(alloc, proceed(run)),
+        "below" => below_text(alloc, proceed_below(run, rest.parse::<u64>()?)),
         "settle" => {
             let stays = settle(run);
             truth(alloc, stays)

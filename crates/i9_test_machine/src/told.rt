@@ -70,6 +70,14 @@ pub(crate) fn turn_text(alloc: Global, turn: Turn) -> Result<String, Fail> {
     }
 }
 
+/// What a step below a turn was, or that none comes there.
+pub(crate) fn below_text(alloc: Global, turn: Option<Turn>) -> Result<String, Fail> {
+    match turn {
+        Some(turn) => turn_text(alloc, turn),
+        None => plain(alloc, "none"),
+    }
+}
+
 /// The instruction that was issued: how many came before it, its address and its words.
 pub(crate) fn issue_text(alloc: Global, turn: Turn) -> Result<String, Fail> {
     match turn {
@@ -169,6 +177,7 @@ fn raw_text(alloc: Global, machine: &Machine, name: &str, rest: &str) -> Result<
         "sets?" => decimal(alloc, u64::from(held.size())),
         "frame?" => frame_text(alloc, held, rest.parse::<u8>()?),
         "turn?" => decimal(alloc, raw.turn),
+        "at?" => decimal(alloc, machine.at_turn()),
         "busy?" => hex(alloc, u64::from(raw.busy)),
         "raw_regs?" => registers_text(alloc, raw.regs.as_slice(), rest),
         "raw_byte?" => {

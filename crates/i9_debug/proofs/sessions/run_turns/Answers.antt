@@ -1,68 +1,86 @@
-use Rattle.std.proofs.Common.{◌≡◌, ◌+◌, arith}
+use Rattle.std.specs.Prelude.{◌-◌, vec_capacity, vec_len}
+use Rattle.std.proofs.Common.{◌≡◌, ◌+◌, Some, ap, arith}
 use Rattle.i9_machine.specs.Turned.{steps_on}
 use Rattle.i9_lines.specs.declared.print.Printed.TheVariants.{Write, Memory}
-use Rattle.i9_debug.proofs.Turns.{none_turned, turned_on, turned_whole, turn_cut, turn_refused, turn_ends, turn_under_way}
+use Rattle.i9_debug.proofs.Turns.{none_turned, none_left, stops_left, refused_left, ends_left, on_left, issued_left, on_under_way, issued_under_way}
 use Rattle.i9_debug.proofs.sessions.run_turns.Goals as goal
-use Rattle.i9_debug.proofs.sessions.run_turns.Goals.{in-On, in-Issued}
 
-pub loop-passed-init : goal.loop-passed-init
-loop-passed-init g c = record {
-  under_way = c.requires.stands;
-  turned = λ what h stands follows. none_turned _ what h c.args.out.now c.args.m.now c.args.plan.now stands follows;
-}
+pub overflow_add-until : goal.overflow_add-until
+overflow_add-until g c =
+    let small = c.at_turn.ensures.small c.args.plan.now c.requires.stands in
+    let few = c.requires.few in
+    omega (arith, small, few)
+
+pub loop-turn-init : goal.loop-turn-init
+loop-turn-init g c =
+    let some = c.requires.some in
+    record {
+      under_way = c.requires.stands;
+      turned = λ what h stands follows. none_turned _ what h (c.args.m.now.turn + c.args.count) c.args.out.now c.args.m.now c.args.plan.now (omega (arith, some)) stands follows;
+    }
+
+pub proceed_below-requires : goal.proceed_below-requires
+proceed_below-requires g c = record { stands = λ none. c.loop-turn.invariant.under_way }
+
+pub returns-in_default : goal.returns-in_default
+returns-in_default g c = λ what h stands follows.
+    let inv = c.loop-turn.invariant.turned what h stands follows in
+    none_left _ what h (c.args.m.now.turn + c.args.count) c.args.out.now c.loop-turn.out c.loop-turn.m c.proceed_below.new.self c.loop-turn.plan c.proceed_below.new.plan inv _ _
+    c.clear.new.self.items c.proceed_below.new.out.items c.proceed_below.result c.clear.ensures.items (ap (λ t. t + c.args.count) c.at_turn.ensures.value)
+    (c.proceed_below.ensures.next what (steps_on inv.done h) inv.stands inv.follows) c.in_default.is
 
 pub returns-in-Write : goal.returns-in-Write
 returns-in-Write g c = λ what h stands follows.
-    let inv = c.loop-passed.invariant.turned what h stands follows in
-    let step = rw c.clear.ensures.items at (c.turn-turn.ensures.next what (steps_on inv.done h) inv.stands inv.follows) in
-    let low = c.loop-passed-test.true in
-    turn_cut _ what h _ _ _ _ _ _ inv c.turn-turn.new.self c.turn-turn.new.plan c.turn-turn.new.out.items _ Write (c.args.m.now.turn + c.args.count)
-    c.turn-turn.result tt (omega (arith, low)) step (rw c.deref.ensures.value at c.in-Write.ensures)
+    let inv = c.loop-turn.invariant.turned what h stands follows in
+    stops_left _ what h (c.args.m.now.turn + c.args.count) c.args.out.now c.loop-turn.out c.loop-turn.m c.proceed_below.new.self c.loop-turn.plan c.proceed_below.new.plan inv _ _
+    c.clear.new.self.items c.proceed_below.new.out.items c.proceed_below.result c.clear.ensures.items (ap (λ t. t + c.args.count) c.at_turn.ensures.value)
+    (c.proceed_below.ensures.next what (steps_on inv.done h) inv.stands inv.follows) c.print_lines.new.out c.in-Some.turn c.in-Some.is Write tt (rw c.deref.ensures.value at c.in-Write.ensures)
 
 pub returns-in-Memory : goal.returns-in-Memory
 returns-in-Memory g c = λ what h stands follows.
-    let inv = c.loop-passed.invariant.turned what h stands follows in
-    let step = rw c.clear.ensures.items at (c.turn-turn.ensures.next what (steps_on inv.done h) inv.stands inv.follows) in
-    let low = c.loop-passed-test.true in
-    turn_cut _ what h _ _ _ _ _ _ inv c.turn-turn.new.self c.turn-turn.new.plan c.turn-turn.new.out.items _ Memory (c.args.m.now.turn + c.args.count)
-    c.turn-turn.result tt (omega (arith, low)) step (rw c.deref.ensures.value at c.in-Memory.ensures)
+    let inv = c.loop-turn.invariant.turned what h stands follows in
+    stops_left _ what h (c.args.m.now.turn + c.args.count) c.args.out.now c.loop-turn.out c.loop-turn.m c.proceed_below.new.self c.loop-turn.plan c.proceed_below.new.plan inv _ _
+    c.clear.new.self.items c.proceed_below.new.out.items c.proceed_below.result c.clear.ensures.items (ap (λ t. t + c.args.count) c.at_turn.ensures.value)
+    (c.proceed_below.ensures.next what (steps_on inv.done h) inv.stands inv.follows) c.print_lines.new.out c.in-Some.turn c.in-Some.is Memory tt (rw c.deref.ensures.value at c.in-Memory.ensures)
 
 pub returns-in-Memory-turn : goal.returns-in-Memory-turn
 returns-in-Memory-turn g c = λ what h stands follows.
-    let inv = c.loop-passed.invariant.turned what h stands follows in
-    let step = rw c.in-Memory-turn.is at (rw c.clear.ensures.items at (c.turn-turn.ensures.next what (steps_on inv.done h) inv.stands inv.follows)) in
-    let low = c.loop-passed-test.true in
-    turn_refused _ what h _ _ _ _ _ _ inv c.turn-turn.new.self c.turn-turn.new.plan c.turn-turn.new.out.items _ (c.args.m.now.turn + c.args.count)
-    (omega (arith, low)) step (rw c.deref.ensures.value at c.in-Done.ensures)
+    let inv = c.loop-turn.invariant.turned what h stands follows in
+    refused_left _ what h (c.args.m.now.turn + c.args.count) c.args.out.now c.loop-turn.out c.loop-turn.m c.proceed_below.new.self c.loop-turn.plan c.proceed_below.new.plan inv _ _
+    c.clear.new.self.items c.proceed_below.new.out.items c.proceed_below.result c.clear.ensures.items (ap (λ t. t + c.args.count) c.at_turn.ensures.value)
+    (c.proceed_below.ensures.next what (steps_on inv.done h) inv.stands inv.follows) c.print_lines.new.out c.in-Some.turn c.in-Some.is (rw c.deref.ensures.value at c.in-Done.ensures) c.in-Memory-turn.is
 
 pub returns-in-End : goal.returns-in-End
 returns-in-End g c = λ what h stands follows.
-    let inv = c.loop-passed.invariant.turned what h stands follows in
-    let step = rw c.in-End.is at (rw c.clear.ensures.items at (c.turn-turn.ensures.next what (steps_on inv.done h) inv.stands inv.follows)) in
-    let low = c.loop-passed-test.true in
-    turn_ends _ what h _ _ _ _ _ _ inv c.turn-turn.new.self c.turn-turn.new.plan c.turn-turn.new.out.items _ (c.args.m.now.turn + c.args.count) c.in-End.field-0
-    (omega (arith, low)) step (rw c.deref.ensures.value at c.in-Done.ensures)
+    let inv = c.loop-turn.invariant.turned what h stands follows in
+    ends_left _ what h (c.args.m.now.turn + c.args.count) c.args.out.now c.loop-turn.out c.loop-turn.m c.proceed_below.new.self c.loop-turn.plan c.proceed_below.new.plan inv _ _
+    c.clear.new.self.items c.proceed_below.new.out.items c.proceed_below.result c.clear.ensures.items (ap (λ t. t + c.args.count) c.at_turn.ensures.value)
+    (c.proceed_below.ensures.next what (steps_on inv.done h) inv.stands inv.follows) c.print_lines.new.out c.in-Some.turn c.in-Some.is (rw c.deref.ensures.value at c.in-Done.ensures) c.in-End.field-0 c.in-End.is
 
-pub loop-passed-preserved : goal.loop-passed-preserved
-loop-passed-preserved g c = elim c.match-turn.branch [
-  | in-On w ↦
-      let under = c.loop-passed.invariant.under_way in
-      record {
-        under_way = turn_under_way under.given under.items _ _ _ _ _ (rw w.in-On.is at (c.turn-turn.ensures.next under.given under.items under.stands under.follows));
-        turned = λ what h stands follows.
-            let inv = c.loop-passed.invariant.turned what h stands follows in
-            let step = rw w.in-On.is at (rw c.clear.ensures.items at (c.turn-turn.ensures.next what (steps_on inv.done h) inv.stands inv.follows)) in
-            turned_on _ what h _ _ _ _ _ _ inv c.turn-turn.new.self c.turn-turn.new.plan c.turn-turn.new.out.items _ step (rw c.deref.ensures.value at c.in-Done.ensures);
-      }
-  | in-Issued w ↦
-      let under = c.loop-passed.invariant.under_way in
-      absurd (rw w.in-Issued.is at (c.turn-turn.ensures.next under.given under.items under.stands under.follows))
-]
+pub loop-turn-preserved-in-On : goal.loop-turn-preserved-in-On
+loop-turn-preserved-in-On g c =
+    let u = c.loop-turn.invariant.under_way in
+    record {
+      under_way = on_under_way u.given u.items (Some (c.at_turn.result + c.args.count)) c.proceed_below.result c.in-Some.turn c.loop-turn.m c.proceed_below.new.self
+          c.proceed_below.new.plan (vec_capacity c.clear.new.self - vec_len c.clear.new.self) c.clear.new.self.items c.proceed_below.new.out.items c.in-Some.is
+          (c.proceed_below.ensures.next u.given u.items u.stands u.follows) c.in-On.is;
+      turned = λ what h stands follows.
+          let inv = c.loop-turn.invariant.turned what h stands follows in
+          on_left _ what h (c.args.m.now.turn + c.args.count) c.args.out.now c.loop-turn.out c.loop-turn.m c.proceed_below.new.self c.loop-turn.plan c.proceed_below.new.plan inv _ _
+          c.clear.new.self.items c.proceed_below.new.out.items c.proceed_below.result c.clear.ensures.items (ap (λ t. t + c.args.count) c.at_turn.ensures.value)
+          (c.proceed_below.ensures.next what (steps_on inv.done h) inv.stands inv.follows) c.print_lines.new.out c.in-Some.turn c.in-Some.is (rw c.deref.ensures.value at c.in-Done.ensures) c.in-On.is;
+    }
 
-pub returns : goal.returns
-returns g c = λ what h stands follows.
-    let low = c.loop-passed-test.false in
-    let up = c.loop-passed.auto._passed-end in
-    let some = c.requires.some in
-    let same : c.loop-passed._passed ≡ c.args.count = omega (arith, low, up) in
-    turned_whole _ what h c.args.m.now.turn c.args.count _ _ _ _ (omega (arith, some)) (rw same at (c.loop-passed.invariant.turned what h stands follows))
+pub loop-turn-preserved : goal.loop-turn-preserved
+loop-turn-preserved g c =
+    let u = c.loop-turn.invariant.under_way in
+    record {
+      under_way = issued_under_way u.given u.items (Some (c.at_turn.result + c.args.count)) c.proceed_below.result c.in-Some.turn c.loop-turn.m c.proceed_below.new.self
+          c.proceed_below.new.plan (vec_capacity c.clear.new.self - vec_len c.clear.new.self) c.clear.new.self.items c.proceed_below.new.out.items c.in-Some.is
+          (c.proceed_below.ensures.next u.given u.items u.stands u.follows) c.in-Issued.field-0 c.in-Issued.is;
+      turned = λ what h stands follows.
+          let inv = c.loop-turn.invariant.turned what h stands follows in
+          issued_left _ what h (c.args.m.now.turn + c.args.count) c.args.out.now c.loop-turn.out c.loop-turn.m c.proceed_below.new.self c.loop-turn.plan c.proceed_below.new.plan inv _ _
+          c.clear.new.self.items c.proceed_below.new.out.items c.proceed_below.result c.clear.ensures.items (ap (λ t. t + c.args.count) c.at_turn.ensures.value)
+          (c.proceed_below.ensures.next what (steps_on inv.done h) inv.stands inv.follows) c.print_lines.new.out c.in-Some.turn c.in-Some.is (rw c.deref.ensures.value at c.in-Done.ensures) c.in-Issued.field-0 c.in-Issued.is;
+    }

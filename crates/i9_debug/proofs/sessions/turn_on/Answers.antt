@@ -11,6 +11,7 @@ run_turns-requires g c =
     record {
       stands = on_its_way c.args.m.now c.args.plan.now r (none_ended r.end (sym (c.ended.ensures r.given r.items r.end r.stands) ∙ c.in-None.is));
       some = c.requires.some;
+      few = c.requires.few;
     }
 
 pub returns-in-None : goal.returns-in-None

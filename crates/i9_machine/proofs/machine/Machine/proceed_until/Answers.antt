@@ -54,8 +54,9 @@ returns-in_default-clause-next c = λ g h stands follows.
           let at : w.max.result ≡ max t mid.turn = w.max.ensures in
           subst (λ (u : Option ℕ). IfSome u (λ u. (ahead g h).turn < u)) (sym w.in-Some.is) (omega (arith, late, at, turn, same))
       | in_default-via-in_default w ↦ none_below g h c.args.until w.in_default.not-Some
-    ] in
-    (below, record {
+    ] in (
+      below,
+      record {
         mid = c.pass_to-in_default.new.self;
         now = omega (arith, turn, same, now);
         stands = stands_now;
@@ -65,7 +66,8 @@ returns-in_default-clause-next c = λ g h stands follows.
             let spare = vec_capacity out - vec_len out in
             let keeps = subst (λ (p : Processor). KeepsRoom p c.pass_to-in_default.new.self.processor) c.look-turn.ensures.like.processor c.pass_to-in_default.ensures.room in
             c.come.ensures.lacking is (next_room g h c.pass_to-in_default.new.self c.args.plan.now spare stands_now follows (kept_room m c.pass_to-in_default.new.self spare (comes_next g h) keeps room));
-      })
+      },
+    )
 
 pub returns-in_default-clause-fewer : goal.returns-in_default-clause-fewer
 returns-in_default-clause-fewer c =
