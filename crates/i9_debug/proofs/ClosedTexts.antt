@@ -1,5 +1,5 @@
 -- The texts of a session: the last line of each has its line feed.
-use Rattle.std.proofs.Common.{ℕ, List, [], ◌∷◌, ◌++◌, Option, Some, None, sym, subst}
+use Rattle.std.proofs.Common.{ℕ, List, ◌∷◌, Option, Some, None, sym, subst}
 use Rattle.i9_model.specs.PrintedText.{lines_of}
 use Rattle.i9_model.specs.Run.{Given, Record, Finish}
 use Rattle.i9_course.specs.Course.{Item}

@@ -7,7 +7,8 @@ use Rattle.i9_debug.proofs.sessions.run_command.Goals as goal
 pub turn_on-requires : goal.turn_on-requires
 turn_on-requires g c =
     let r = c.requires.stands in
-    record { stands = place_in_run r.given r.place c.args.m.now c.args.plan.now r.stands; some = (rw c.in-Turn.is at c.requires.range).0 }
+    let range = rw c.in-Turn.is at c.requires.range in
+    record { stands = place_in_run r.given r.place c.args.m.now c.args.plan.now r.stands; some = range.0; few = range.1 }
 
 pub come_to-requires : goal.come_to-requires
 come_to-requires g c =

@@ -1,5 +1,5 @@
 use Rattle.std.specs.Prelude.{◌-◌, vec_capacity, vec_len}
-use Rattle.std.proofs.Common.{◌≡◌, ◌+◌, Some, ap, arith}
+use Rattle.std.proofs.Common.{◌+◌, Some, ap, arith}
 use Rattle.i9_machine.specs.Turned.{steps_on}
 use Rattle.i9_lines.specs.declared.print.Printed.TheVariants.{Write, Memory}
 use Rattle.i9_debug.proofs.Turns.{none_turned, none_left, stops_left, refused_left, ends_left, on_left, issued_left, on_under_way, issued_under_way}
