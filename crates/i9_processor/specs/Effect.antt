@@ -197,6 +197,11 @@ pub record SetsOnly (e : Effect) : Type 0 where
   pub dma : e.dma ≡ changes.Keeps
   pub control : e.control ≡ controls.Keeps
 
+-- an effect is told to be plain, and stores no byte
+pub record IsLight (e : Effect) : Type 0 where
+  pub plain : e.plain ≡ true
+  pub bytes : length e.bytes.items ≡ 0
+
 -- ---- room
 
 -- there is room for what is done to frames

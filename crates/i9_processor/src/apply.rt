@@ -28,6 +28,7 @@ ghost use Rattle.i9_processor.specs.Effect.{move_in, group_in, sets_in, marked_i
 ghost use Rattle.i9_processor.specs.Effect.{cache_through, size_with, is_costly, has_writes};
 ghost use Rattle.i9_processor.specs.Effect.{AreRegisters, AreSpacious, CanPost, CanChange, CanControl, CanMove};
 ghost use Rattle.i9_processor.specs.Effect.{HasMoveSpace, HasRunSpace, HasSpaceFor, KeepsRoom, IsEmptied, CanTake};
+ghost use Rattle.i9_processor.specs.Effect.{IsLight};
 
 use crate::effect::{Control, DmaChange, Effect, MOST_BYTES, Move, Posting, Requests};
 use crate::landing::Landing;
@@ -65,7 +66,8 @@ fn reserve_move(storage: &mut Storage, m: &Move) -> Result<(), NoMemory>
 /// Makes room for the bytes in a row of an effect, and for their marks where some get one. Most effects have none,
 /// and then nothing is looked up.
 #[inline(always)]
-fn reserve_run(storage: &mut Storage, e: &Effect) -> Result<(), NoMemory>
+fn reserve_run(storage: &mut Storage, e: &Effect, light: bool) -> Result<(), NoMemory>
+    requires light { light ≡ true → IsLight e.now }
     ensures keeps { KeepsAll storage.old storage.new }
     ensures only { AddsRunOnly storage.old storage.new e.now }
     ensures space { OnOk result (HasRunSpace storage.new e.now) }
@@ -73,7 +75,7 @@ fn reserve_run(storage: &mut Storage, e: &Effect) -> Result<(), NoMemory>
     ensures lacking { OnErr result (HasRunSpace storage.old e.now → ⊥) }
     ensures still_lacking { OnErr result (HasRunSpace storage.new e.now → ⊥) }
 {
-    if e.bytes.is_empty() {
+    if e.has_no_run(light) {
         return Ok(());
     }
     let n = e.bytes.len() as u32;
@@ -118,7 +120,8 @@ fn reserve_requests(storage: &mut Storage, requests: &Requests) -> Result<(), No
 
 /// Stores the bytes in a row of an effect. Most effects have none, and then nothing is looked up.
 #[inline(always)]
-fn store_run(storage: &mut Storage, e: &Effect)
+fn store_run(storage: &mut Storage, e: &Effect, light: bool)
+    requires light { light ≡ true → IsLight e.now }
     requires drained { 0 < length e.now.bytes.items → stores.IsDrained storage.old }
     requires space { HasRunSpace storage.old e.now }
     requires free { writes_hazard (stores.frames_in storage.old) (run_in e.now) ≡ None }
@@ -126,7 +129,7 @@ fn store_run(storage: &mut Storage, e: &Effect)
     ensures acted { length e.now.bytes.items ≡ 0 → stores.acted_in storage.new ≡ stores.acted_in storage.old }
     ensures keeps { stores.KeepsRest storage.old storage.new }
 {
-    if !e.bytes.is_empty() {
+    if !e.has_no_run(light) {
         storage.store(e.address, e.bytes.as_slice(), e.stale);
     }
 }
@@ -175,7 +178,7 @@ fn store_bytes(storage: &mut Storage, e: &Effect)
     ensures acted { length (writes_in e.now) ≡ 0 → stores.acted_in storage.new ≡ stores.acted_in storage.old }
     ensures keeps { stores.KeepsRest storage.old storage.new }
 {
-    store_run(storage, e);
+    store_run(storage, e, false);
     store_requests(storage, &e.requests);
 }
 
@@ -190,8 +193,8 @@ fn listed_all(bytes: &[u8]) -> ArrayVec<u8, MOST_BYTES>
     list
 }
 
-/// The same. None, a byte, a word and four words have code of their own, since a copy is a move or two where its length
-/// is known.
+/// The same. A byte, a word and four words have code of their own, since a copy is a move or two where its length is
+/// known.
 #[inline(always)]
 #[tactic(auto, using(crate::proofs::Appending::first_rules))]
 fn listed(bytes: &[u8]) -> ArrayVec<u8, MOST_BYTES>
@@ -199,7 +202,6 @@ fn listed(bytes: &[u8]) -> ArrayVec<u8, MOST_BYTES>
     ensures { result.items ≡ bytes.now }
 {
     match bytes.len() {
-        0 => ArrayVec::new(),
         1 => listed_all(&bytes[..1]),
         4 => listed_all(&bytes[..4]),
         16 => listed_all(&bytes[..16]),
@@ -207,9 +209,22 @@ fn listed(bytes: &[u8]) -> ArrayVec<u8, MOST_BYTES>
     }
 }
 
+/// The bytes in a row of an effect as a list. Those that load have none, and then nothing is copied.
+#[inline(always)]
+fn listed_run(e: &Effect, light: bool) -> ArrayVec<u8, MOST_BYTES>
+    requires { light ≡ true → IsLight e.now }
+    ensures { result.items ≡ e.now.bytes.items }
+{
+    if e.has_no_run(light) {
+        return ArrayVec::new();
+    }
+    listed(e.bytes.as_slice())
+}
+
 /// The bytes in a row of an effect wait until a turn, behind the others that wait.
 #[inline(always)]
-fn queue_run(storage: &mut Storage, e: &Effect, done: u64)
+fn queue_run(storage: &mut Storage, e: &Effect, light: bool, done: u64)
+    requires light { light ≡ true → IsLight e.now }
     requires few { length (stores.waiting_in storage.old) < 3 }
     requires order { AllByRecursion (λ w. w.due ≤ done) (stores.waiting_in storage.old) }
     requires space { HasRunSpace storage.old e.now }
@@ -223,7 +238,7 @@ fn queue_run(storage: &mut Storage, e: &Effect, done: u64)
 {
     let request = Request {
         address: e.address,
-        bytes: listed(e.bytes.as_slice()),
+        bytes: listed_run(e, light),
         due: done,
     };
     storage.enqueue(request, e.stale);
@@ -231,7 +246,8 @@ fn queue_run(storage: &mut Storage, e: &Effect, done: u64)
 
 /// The bytes of an effect wait where it is a request, and else they are stored.
 #[inline(always)]
-fn put_bytes(storage: &mut Storage, e: &Effect, landing: &Landing)
+fn put_bytes(storage: &mut Storage, e: &Effect, light: bool, landing: &Landing)
+    requires light { light ≡ true → IsLight e.now }
     requires acts { CanPut (stores.waiting_in storage.old) landing.now e.now }
     requires space { HasRunSpace storage.old e.now }
     requires requests { AreSpacious storage.old (requests_in e.now.requests) }
@@ -247,9 +263,9 @@ fn put_bytes(storage: &mut Storage, e: &Effect, landing: &Landing)
     ensures pages { KeepsPages storage.old storage.new }
 {
     if landing.request {
-        queue_run(storage, e, landing.done);
-    } else if e.plain {
-        store_run(storage, e);
+        queue_run(storage, e, light, landing.done);
+    } else if e.is_plain(light) {
+        store_run(storage, e, light);
     } else {
         store_bytes(storage, e);
     }
@@ -273,7 +289,8 @@ impl Processor {
     // Each step calls it, and most effects store and save nothing.
     #[inline(always)]
     #[tactic(auto, unfolding(crate::specs::State::state_of, crate::specs::State::cache_of, crate::specs::State::size_of, crate::specs::State::cells_of, crate::specs::State::bytes_of, crate::specs::State::queue_of), using(crate::proofs::Applying::room_rules))]
-    pub fn reserve(&mut self, e: &Effect) -> Result<(), NoMemory>
+    pub fn reserve(&mut self, e: &Effect, light: bool) -> Result<(), NoMemory>
+        requires light { light ≡ true → IsLight e.now }
         ensures keeps { KeepsContents self.old self.new }
         ensures space { OnOk result (HasSpaceFor self.new e.now) }
         ensures needed { OnErr result (has_writes (action_in (state_of self.old) e.now) ≡ true) }
@@ -281,8 +298,8 @@ impl Processor {
         ensures still_lacking { OnErr result (HasSpaceFor self.new e.now → ⊥) }
         ensures only { AddsActionOnly self.old self.new (action_in (state_of self.old) e.now) }
     {
-        reserve_run(&mut self.storage, e)?;
-        if e.plain {
+        reserve_run(&mut self.storage, e, light)?;
+        if e.is_plain(light) {
             return Ok(());
         }
         reserve_requests(&mut self.storage, &e.requests)?;
@@ -533,7 +550,8 @@ impl Processor {
     /// Does what an effect says, but for what is done to the controls that start-up reads.
     #[inline(always)]
     #[tactic(auto, unfolding(crate::specs::State::state_of, crate::specs::State::cache_of, crate::specs::State::size_of, crate::specs::State::bytes_of, crate::specs::State::queue_of, i9_model::specs::Step::moved))]
-    fn do_moves(&mut self, e: &Effect, landing: &Landing)
+    fn do_moves(&mut self, e: &Effect, light: bool, landing: &Landing)
+        requires light { light ≡ true → IsLight e.now }
         requires registers { AreRegisters e.now }
         requires posts { CanPost e.now.posting }
         requires changes { CanChange e.now.dma }
@@ -559,14 +577,14 @@ impl Processor {
             → bytes_of self.new ≡ bytes_of self.old }
         ensures no_more { AddsNoPage self.old self.new }
     {
-        if e.plain {
+        if e.is_plain(light) {
             let (file, flags) = (&mut self.file, &mut self.flags);
             issue_group(file, flags, landing, e.register, e.values.as_slice(), e.ac);
             self.mark_group(e);
-            put_bytes(&mut self.storage, e, landing);
+            put_bytes(&mut self.storage, e, light, landing);
         } else {
             self.move_frames(e, landing);
-            put_bytes(&mut self.storage, e, landing);
+            put_bytes(&mut self.storage, e, light, landing);
             self.post(e.posting);
             self.change_dma(e.dma);
         }
@@ -626,7 +644,15 @@ impl Processor {
     // Each step calls it, and most effects set registers alone: all that they ask for is part of the code
     // that calls it, and what few effects do is kept apart.
     #[inline(always)]
-    pub fn apply(&mut self, e: &Effect, landing: &Landing, counts: u64, sets: Option<Sets>)
+    pub fn apply(
+        &mut self,
+        e: &Effect,
+        light: bool,
+        landing: &Landing,
+        counts: u64,
+        sets: Option<Sets>,
+    )
+        requires light { light ≡ true → IsLight e.now }
         requires registers { AreRegisters e.now }
         requires posts { CanPost e.now.posting }
         requires changes { CanChange e.now.dma }
@@ -653,17 +679,17 @@ impl Processor {
             → bytes_of self.new ≡ bytes_of self.old }
         ensures no_more { AddsNoPage self.old self.new }
     {
-        self.do_moves(e, landing);
-        self.control(landing, e.control);
-        self.flag(e.trace);
+        self.do_moves(e, light, landing);
+        self.control(landing, e.control_by(light));
+        self.flag(e.trace_by(light));
         self.renew(sets);
         self.add_count(counts);
     }
 
     /// What is due by `turn` lands: bytes that wait are stored. Nothing else changes, and no room goes. Planned values
     /// take their place by themselves.
-    // At most turns nothing waits, and then this test is all that is done. It is no part of the code that calls it.
-    #[inline(never)]
+    // At most turns nothing waits, and then this test is all that is done: it is part of the code that calls it.
+    #[inline(always)]
     #[tactic(auto, unfolding(crate::specs::State::state_of, crate::specs::State::cache_of, crate::specs::State::size_of, crate::specs::State::cells_of, crate::specs::State::bytes_of, crate::specs::State::queue_of))]
     pub fn land(&mut self, turn: u64)
         ensures seen { KeepsState self.old self.new }

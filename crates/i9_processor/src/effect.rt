@@ -1,5 +1,5 @@
 //! What is done to a processor, as data.
-ghost use Rattle.std.specs.Prelude.{◌≡◌, ◌≢◌, ◌+◌, ◌<◌, ◌≤◌, ◌^◌, ◌↔◌, IsTrue, [], length};
+ghost use Rattle.std.specs.Prelude.{◌≡◌, ◌≢◌, ◌+◌, ◌<◌, ◌≤◌, ◌^◌, ◌↔◌, ◌==◌, IsTrue, [], length, true};
 ghost use Rattle.i9_model.specs.Writes.{last_put, pairs_at, upwards};
 ghost use Rattle.i9_model.specs.Step.{going};
 ghost use Rattle.i9_model.specs.Memory.{console_byte, exit_word};
@@ -94,7 +94,8 @@ pub enum DmaChange {
 ///
 /// Most effects are plain: they store bytes in a row at most, and frames, interrupts, DMA and the controls that
 /// start-up reads stay. Where `plain` is set nothing of that is asked for; where it is not, the effect may be plain
-/// nevertheless.
+/// nevertheless. A light effect is plain and stores no byte; calls whose caller knows that take a `light`, which each
+/// passes as a literal, so that the code for light effects asks for nothing of that.
 #[derive(Drop)]
 pub struct Effect {
     pub register: u8,
@@ -178,7 +179,7 @@ impl Requests {
 }
 
 impl Effect {
-    ghost use Rattle.i9_processor.specs.Effect.{requests_in, writes_in, AreBelowPort, IsEffect, SetsOnly};
+    ghost use Rattle.i9_processor.specs.Effect.{requests_in, writes_in, AreBelowPort, IsEffect, IsLight, SetsOnly};
     ghost use Rattle.i9_processor.specs.State.{state_of};
 
     /// Values go to registers from one up, and control goes to an address.
@@ -291,24 +292,63 @@ impl Effect {
         self.next = next;
     }
 
+    /// Whether it is plain. Nothing is read for that where `light` is set.
+    #[inline(always)]
+    pub fn is_plain(&self, light: bool) -> bool
+        requires { light ≡ true → IsLight self.now }
+        ensures { result ≡ self.now.plain }
+    {
+        light || self.plain
+    }
+
+    /// Whether it stores no bytes in a row. Nothing is read for that where `light` is set.
+    #[inline(always)]
+    pub(crate) fn has_no_run(&self, light: bool) -> bool
+        requires { light ≡ true → IsLight self.now }
+        ensures { result ≡ (length self.now.bytes.items == 0) }
+    {
+        light || self.bytes.is_empty()
+    }
+
+    /// What is done to the controls that start-up reads. Nothing is read for that where `light` is set.
+    #[inline(always)]
+    pub(crate) fn control_by(&self, light: bool) -> Control
+        requires { light ≡ true → IsLight self.now }
+        ensures { result ≡ self.now.control }
+    {
+        if light { Control::Keeps } else { self.control }
+    }
+
+    /// The trace controls with their flags and the subtype of their fault, where trace events count. Nothing is read
+    /// for that where `light` is set.
+    #[inline(always)]
+    pub fn trace_by(&self, light: bool) -> Option<Trace>
+        requires { light ≡ true → IsLight self.now }
+        ensures { result ≡ self.now.trace }
+    {
+        if light { None } else { self.trace }
+    }
+
     /// Whether no bits of requests are stored.
     #[inline(always)]
-    fn asks_nothing(&self) -> bool
+    fn asks_nothing(&self, light: bool) -> bool
+        requires { light ≡ true → IsLight self.now }
         ensures { IsTrue result ↔ requests_in self.now.requests ≡ [] }
     {
-        self.plain || self.requests.is_empty()
+        self.is_plain(light) || self.requests.is_empty()
     }
 
     /// Whether all bytes that are stored lie below the port page; it may say no.
     #[inline(always)]
-    fn stores_below_port(&self) -> bool
+    fn stores_below_port(&self, light: bool) -> bool
+        requires { light ≡ true → IsLight self.now }
         ensures { IsTrue result → AreBelowPort (writes_in self.now) }
     {
-        if !self.asks_nothing() {
+        if !self.asks_nothing(light) {
             return false;
         }
         let end = self.address as usize + self.bytes.len();
-        self.bytes.is_empty() || end <= PORT_PAGE as usize
+        self.has_no_run(light) || end <= PORT_PAGE as usize
     }
 
     /// The byte that is stored at an address.
@@ -342,10 +382,11 @@ impl Effect {
     /// The word that ends the run, in the order of its region: stores to all four of its bytes.
     #[inline(always)]
     #[tactic(auto, using(crate::proofs::Appending::below_rules))]
-    pub fn exit_word(&self, processor: &Processor) -> Option<u32>
+    pub fn exit_word(&self, processor: &Processor, light: bool) -> Option<u32>
+        requires { light ≡ true → IsLight self.now }
         ensures { result ≡ exit_word (state_of processor.now).memory (writes_in self.now) }
     {
-        if self.stores_below_port() {
+        if self.stores_below_port(light) {
             return None;
         }
         self.stored_exit_word(processor)
@@ -354,10 +395,11 @@ impl Effect {
     /// The byte that goes out at the console.
     #[inline(always)]
     #[tactic(auto, using(crate::proofs::Appending::below_rules))]
-    pub fn console_byte(&self) -> Option<u8>
+    pub fn console_byte(&self, light: bool) -> Option<u8>
+        requires { light ≡ true → IsLight self.now }
         ensures { result ≡ console_byte (writes_in self.now) }
     {
-        if self.stores_below_port() {
+        if self.stores_below_port(light) {
             return None;
         }
         self.byte_at(CONSOLE)

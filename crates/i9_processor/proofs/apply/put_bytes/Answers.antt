@@ -8,7 +8,7 @@ store_run-requires-clause-drained c some =
     let e = c.args.e.now in
     c.requires.acts.1 c.if-landing.false (longer_first (run_in e) (requests_in e.requests) (run_long e.address e.bytes.items some))
 
-pub returns-then-e-clause-still : goal.returns-then-e-clause-still
-returns-then-e-clause-still c at_once none =
+pub returns-then-is_plain-clause-still : goal.returns-then-is_plain-clause-still
+returns-then-is_plain-clause-still c at_once none =
     let e = c.args.e.now in
     c.store_run.ensures.acted (run_none e.address e.bytes.items (none_first (run_in e) (requests_in e.requests) none))

@@ -1,10 +1,13 @@
-use Rattle.std.proofs.Common.{ℕ, refl, sym, ap, ◌∙◌, subst}
+use Rattle.std.proofs.Common.{ℕ, Option, refl, sym, ap, ◌∙◌, subst}
 use Rattle.i9_regs.specs.declared.file.File.{File}
+use Rattle.i9_model.specs.declared.trace.Trace.{Trace}
+use Rattle.i9_model.specs.Controls.{controlled}
 use Rattle.i9_model.specs.Step.{moved, flagged, acted, counted}
 use Rattle.i9_model.specs.Alike.{AreAlike}
 use Rattle.i9_storage.specs.declared.storage.Storage.{Storage}
 use Rattle.i9_storage.specs.Storage.{waiting_in, acted_in}
-use Rattle.i9_processor.specs.Effect.{action_in, control_in}
+use Rattle.i9_processor.specs.declared.effect.Control.{Control}
+use Rattle.i9_processor.specs.Effect.{CanControl, action_in, control_in}
 use Rattle.i9_processor.specs.Issued.{IsIssued}
 use Rattle.i9_processor.specs.State.{state_of, cells_of, bytes_of, queue_of}
 use Rattle.i9_processor.proofs.Applying.{reads_zero, moved_alike_by, can_alike, applied_alike, counted_alike}
@@ -16,7 +19,7 @@ control-requires-clause-can c =
     let s = state_of p in
     let a = action_in s c.args.e.now in
     let alike = moved_alike_by p a c.do_moves.new.self c.requires.free c.do_moves.ensures.state c.do_moves.ensures.memory c.do_moves.ensures.cache in
-    can_alike c.args.e.now.control (moved s a) (state_of c.do_moves.new.self) alike c.requires.controls
+    subst (CanControl (state_of c.do_moves.new.self)) (sym c.control_by.ensures) (can_alike c.args.e.now.control (moved s a) (state_of c.do_moves.new.self) alike c.requires.controls)
 
 pub returns-clause-state : goal.returns-clause-state
 returns-clause-state c =
@@ -24,8 +27,12 @@ returns-clause-state c =
     let s = state_of p in
     let a = action_in s c.args.e.now in
     let alike = moved_alike_by p a c.do_moves.new.self c.requires.free c.do_moves.ensures.state c.do_moves.ensures.memory c.do_moves.ensures.cache in
-    let controlled = applied_alike c.args.e.now.control s (state_of c.do_moves.new.self) (state_of c.renew.new.self) a (reads_zero p) refl c.requires.controls alike (c.renew.ensures.state ∙ c.flag.ensures.state ∙ ap (flagged c.args.e.now.trace) c.control.ensures.state) in
-    subst (AreAlike (counted c.args.counts (acted s a))) (sym c.add_count.ensures.state) (counted_alike c.args.counts (acted s a) (state_of c.renew.new.self) controlled)
+    let t = state_of c.do_moves.new.self in
+    let known =
+    ap (λ (o : Option Trace). flagged o (state_of c.control.new.self)) c.trace_by.ensures
+    ∙ ap (flagged c.args.e.now.trace) (c.control.ensures.state ∙ ap (λ (k : Control). controlled t (control_in k)) c.control_by.ensures) in
+    let last = applied_alike c.args.e.now.control s t (state_of c.renew.new.self) a (reads_zero p) refl c.requires.controls alike (c.renew.ensures.state ∙ c.flag.ensures.state ∙ known) in
+    subst (AreAlike (counted c.args.counts (acted s a))) (sym c.add_count.ensures.state) (counted_alike c.args.counts (acted s a) (state_of c.renew.new.self) last)
 
 pub returns-clause-cells : goal.returns-clause-cells
 unfolding state_of cells_of
@@ -44,7 +51,7 @@ returns-clause-cells c =
 pub returns-clause-waits : goal.returns-clause-waits
 unfolding bytes_of queue_of
 returns-clause-waits c asks =
-    let keeps = ap control_in (c.requires.acts.0 asks).control in
+    let keeps = ap control_in (c.control_by.ensures ∙ (c.requires.acts.0 asks).control) in
     let counted = c.add_count.ensures.keeps.stored.storage in
     let flagged = c.flag.ensures.keeps.stored.storage in (
       ap (λ (s : Storage). (acted_in s).bytes) counted
@@ -74,5 +81,5 @@ returns-clause-still c rests still =
     ap (λ (s : Storage). (acted_in s).bytes) c.add_count.ensures.keeps.stored.storage
     ∙ c.renew.ensures.bytes
     ∙ ap (λ (s : Storage). (acted_in s).bytes) c.flag.ensures.keeps.stored.storage
-    ∙ c.control.ensures.bytes still.control
+    ∙ c.control.ensures.bytes (ap control_in c.control_by.ensures ∙ still.control)
     ∙ c.do_moves.ensures.still rests still

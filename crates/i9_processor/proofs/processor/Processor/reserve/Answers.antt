@@ -22,8 +22,8 @@ returns-in_err-reserve_run-clause-only c =
       marks = λ x marked move has. c.reserve_run.ensures.only.marks x (run_apart e (state_of c.args.self.now) x marked) has;
     }
 
-pub returns-then-e-clause-only : goal.returns-then-e-clause-only
-returns-then-e-clause-only c =
+pub returns-then-is_plain-clause-only : goal.returns-then-is_plain-clause-only
+returns-then-is_plain-clause-only c =
     let e = c.args.e.now in
     record {
       bytes = λ x writes move has. c.reserve_run.ensures.only.bytes x (row_apart e.address e.bytes.items x (first_apart (run_in e) (requests_in e.requests) x writes)) has;
