@@ -1,7 +1,10 @@
 -- What comes next while something is open: it waits for all, or is an instruction.
-use Rattle.std.proofs.Common.{◌≡◌, ◌≢◌, ℕ, Bool, true, false, cond, ◌&&◌, eqb, Option, Some, None, Result, Ok, Err, refl, sym, ap, ◌∙◌, subst, inr}
+use Rattle.std.proofs.Common.{◌≡◌, ◌≢◌, ℕ, Bool, true, false, cond, ◌&&◌, eqb, Option, Some, None, Result, Ok, Err, refl, sym, ap, ◌∙◌, subst, inl, inr}
 use Rattle.std.specs.Prelude.{IsTrue}
+use Rattle.std.proofs.lemmas.Bool.{cases_Bool, both_ways}
 use Rattle.i9_isa.specs.declared.inst.Inst.{Inst}
+use Rattle.i9_isa.specs.declared.op.Op.{Op}
+use Rattle.i9_isa.specs.declared.op.Op.TheVariants.{Flushreg, Syncf}
 use Rattle.i9_model.specs.declared.event.Event.{Event}
 use Rattle.i9_model.specs.declared.faults.Entry.{Entry}
 use Rattle.i9_model.specs.declared.faults.FaultStop.{FaultStop}
@@ -13,11 +16,12 @@ use Rattle.i9_model.specs.declared.run.Due.TheVariants as dues
 use Rattle.i9_model.specs.declared.run.End.TheVariants.{Limit}
 use Rattle.i9_model.specs.Before.{Received, choice_in, interrupt_in, received_in}
 use Rattle.i9_model.specs.HeldFrames.{Cache}
-use Rattle.i9_model.specs.Needs.{is_request_name}
+use Rattle.i9_model.specs.Needs.{is_request_name, is_barrier_name}
 use Rattle.i9_model.specs.State.{State}
-use Rattle.i9_model.specs.Run.{Kind, Instruction, Faulted, Entered, Interrupted, Reached, Next, Ends, entry_in, next_by_entry, next_by_event, next_by_interrupt, next_by_choice, next_in, finish, next_by_received}
+use Rattle.i9_model.specs.Run.{Kind, Instruction, Faulted, Entered, Interrupted, Reached, Next, Ends, entry_in, next_by_entry, next_by_event, next_by_interrupt, next_by_choice, next_in, finish, next_by_received, point_by_name}
 use Rattle.i9_schedule.specs.Plan.{Plan}
 use Rattle.i9_course.specs.NeedOf.{need_of, need_ahead}
+use Rattle.i9_course.proofs.Barriers.{kind_barrier}
 use Rattle.i9_processor.specs.declared.effect.Effect.{Effect}
 use Rattle.i9_processor.specs.State.{state_of, cache_of, size_of}
 use Rattle.i9_plan.specs.Planned.{IsInRow}
@@ -112,6 +116,19 @@ pub no_request_in : (k : Kind) (m : Machine) (need : Need) {e : Effect} → need
     → IsNone k → need.request ≡ true → IsInRow e
 no_request_in k m need is none request =
     absurd (cc (sym (none_requests k (size_of m.processor) (cache_of m.processor) (state_of m.processor) none) ∙ ap (λ (n : Need). n.request) (sym is) ∙ request))
+
+-- what is no barrier is none by its name, and no drained point is behind it
+pub no_barrier_named : (i : Inst) (n : ℕ) (c : Cache) (s : State) → (need_of n c s (Instruction i)).barrier ≡ false → is_barrier_name i.op ≡ false
+no_barrier_named i n c s none =
+    elim (cases_Bool (is_barrier_name i.op)) [
+      | inl barrier ↦ absurd (both_ways (need_of n c s (Instruction i)).barrier none (kind_barrier n c s (Instruction i) barrier))
+      | inr other ↦ other
+    ]
+
+pub no_point : (op : Op) → is_barrier_name op ≡ false → None ≡ point_by_name op
+no_point Flushreg none = absurd (cc none)
+no_point Syncf none = absurd (cc none)
+no_point _ none = refl
 
 -- an instruction is one by its name alone
 pub request_named : (i : Inst) (n : ℕ) (c : Cache) (s : State) → (need_of n c s (Instruction i)).request ≡ true → is_request_name i.op ≡ true

@@ -15,7 +15,7 @@ use Rattle.i9_model.specs.declared.run.Point.{Point}
 use Rattle.i9_model.specs.PrintedText.{Shown, Journal, bytes_lines, out_lines, point_lines}
 use Rattle.i9_processor.specs.declared.effect.Effect.{Effect}
 use Rattle.i9_processor.specs.Effect.{writes_in, action_in, control_in, AreRegisters, CanPost, CanChange, CanControl}
-use Rattle.i9_processor.specs.Effect.{CanMove, HasSpaceFor, has_writes, is_restart}
+use Rattle.i9_processor.specs.Effect.{CanMove, HasSpaceFor, IsLight, has_writes, is_restart}
 use Rattle.i9_machine.specs.declared.machine.Machine.{Machine}
 use Rattle.i9_machine.specs.declared.step.Step.{Step}
 
@@ -72,6 +72,11 @@ pub record HasRoomForStep (m : Machine) (spare : ℕ) (e : Effect) (step : Step)
   pub lines : line_count e step event ≤ spare
   pub effect : HasSpaceFor m.processor e
   pub no_sets : is_restart (control_in e.control) ≡ false
+
+-- what is planned in a machine has a light effect, and is no barrier
+pub record PlansLight (m : Machine) : Type 0 where
+  pub effect : IsLight m.effect
+  pub barrier : m.need.barrier ≡ false
 
 -- its effect can be applied in a state, and its count fits a length
 pub record IsReady (s : State) (limit : ℕ) (e : Effect) (step : Step) : Type 0 where

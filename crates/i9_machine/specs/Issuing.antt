@@ -58,11 +58,11 @@ pub record Acts (before : Processor) (l : Landing) (a : Action) (p : Processor) 
   pub still : l.request ≡ false → IsStill a → bytes_of p ≡ bytes_of before
 
 -- what is kept of the bytes under what is done by a turn: those under a barrier that is no request, and else as before
-pub record Hidden (before : Machine) (need : Need) (a : Action) (done : ℕ) (k : Kept) : Type 0 where
+pub record Hidden (before : Processor) (was : Kept) (need : Need) (a : Action) (done : ℕ) (k : Kept) : Type 0 where
   pub bytes : shades_need need ≡ true
-      → Hides (bytes_of before.processor) (puts_of (size_of before.processor) (cache_of before.processor) a) k.pieces
+      → Hides (bytes_of before) (puts_of (size_of before) (cache_of before) a) k.pieces
   pub due : shades_need need ≡ true → k.due ≡ done
-  pub keeps : shades_need need ≡ false → k ≡ before.shade
+  pub keeps : shades_need need ≡ false → k ≡ was
 
 -- A record of this need and action issued: it was placed, and what it leaves lands when it is done.
 pub record IsIssued (before : Machine) (need : Need) (a : Action) (m : Machine) : Type 0 where
@@ -79,7 +79,7 @@ pub record IsIssued (before : Machine) (need : Need) (a : Action) (m : Machine) 
   pub done : m.done ≡ placed.done
   pub acts : Acts before.processor (record { writes = need.writes; done = placed.done; request = need.request }) a
       m.processor
-  pub hides : Hidden before need a placed.done m.shade
+  pub hides : Hidden before.processor before.shade need a placed.done m.shade
 
 -- nothing issued, and nothing landed
 pub record IsUnmoved (before m : Machine) : Type 0 where

@@ -77,6 +77,7 @@ impl Machine {
     ghost use Rattle.i9_machine.specs.StandsFor.{LeavesFewer, IsUnderWay, HasCome};
     ghost use Rattle.i9_machine.specs.Issuing.{KeepsPlanned, IsMovedTo, IsPassedTo, IsMoved, IsSettled, IsQuiet};
     ghost use Rattle.i9_machine.specs.NewPages.{AddsNextOnly};
+    ghost use Rattle.i9_machine.specs.Doing.{PlansLight};
     ghost use Rattle.i9_machine.specs.Opening.{IsTimely};
     ghost use Rattle.i9_machine.specs.Raw.{IsLevel};
     ghost use Rattle.i9_machine.specs.Step.{HasRoom, Steps, Issues, next_for, steps_left};
@@ -264,7 +265,7 @@ impl Machine {
         match self.next_step(read, plan) {
             Ok(step) => {
                 let issue = self.issue_turn();
-                self.perform(&step, issue, plan, out)
+                self.perform(&step, false, issue, plan, out)
             }
             Err(end) => self.answer_end(end, plan, out),
         }
@@ -294,13 +295,20 @@ impl Machine {
         ensures fewer { LeavesFewer result (steps_left self.old plan.old) (steps_left self.new plan.new) }
     {
         let step = self.faults_by(number);
-        self.perform(&step, issue, plan, out)
+        self.perform(&step, false, issue, plan, out)
     }
 
-    /// An instruction that is planned runs.
-    // Each caller knows more of its effect, and has its own code for it.
+    /// An instruction that is planned runs. Nothing is asked for that it does not have where `light` is set.
+    // Each caller passes a literal, and has its own code for it.
     #[inline(always)]
-    fn step_running(&mut self, issue: u64, plan: &mut Schedule, out: &mut Vec<Line>) -> Turn
+    fn step_running(
+        &mut self,
+        light: bool,
+        issue: u64,
+        plan: &mut Schedule,
+        out: &mut Vec<Line>,
+    ) -> Turn
+        requires light { light ≡ true → PlansLight self.old }
         requires running { self.old.ended ≡ None }
         requires come { HasCome self.old plan.old }
         requires runs { RunsAhead self.old plan.old issue }
@@ -313,8 +321,8 @@ impl Machine {
         ensures only { AddsNextOnly self.old self.new (next_for self.old plan.old) }
         ensures fewer { LeavesFewer result (steps_left self.old plan.old) (steps_left self.new plan.new) }
     {
-        let step = self.does();
-        self.perform(&step, issue, plan, out)
+        let step = self.does(light);
+        self.perform(&step, light, issue, plan, out)
     }
 
     /// An instruction that is planned runs, which may do more than to set registers, or be a barrier.
@@ -333,12 +341,13 @@ impl Machine {
         ensures only { AddsNextOnly self.old self.new (next_for self.old plan.old) }
         ensures fewer { LeavesFewer result (steps_left self.old plan.old) (steps_left self.new plan.new) }
     {
-        self.step_running(issue, plan, out)
+        self.step_running(false, issue, plan, out)
     }
 
     /// Whether what is planned is no barrier, and sets registers at most.
     #[inline(always)]
     fn is_light(&self) -> bool
+        ensures plain { result ≡ true → self.now.effect.plain ≡ true }
         ensures bytes { result ≡ true → length self.now.effect.bytes.items ≡ 0 }
         ensures barrier { result ≡ true → self.now.need.barrier ≡ false }
     {
@@ -365,7 +374,7 @@ impl Machine {
             Coming::Overtaking(address) => {
                 self.answer_end(Ending::Alone(End::Imprecise(address)), plan, out)
             }
-            Coming::Running if self.is_light() => self.step_running(turn, plan, out),
+            Coming::Running if self.is_light() => self.step_running(true, turn, plan, out),
             Coming::Running => self.step_storing(turn, plan, out),
             Coming::Faulting(number) => self.step_faulting(number, turn, plan, out),
         }

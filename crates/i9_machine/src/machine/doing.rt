@@ -1,6 +1,6 @@
 //! A step done, or an end answered, once there is room for what it needs.
 ghost use Rattle.std.specs.Prelude.{◌≡◌, [], ◌∷◌, ◌+◌, ◌-◌, ◌<◌, ◌≤◌, ◌^◌, ◌++◌, None, Some, IfSome, IfOk, OnOk, OnErr};
-ghost use Rattle.std.specs.Prelude.{vec_len, vec_capacity, length, nat_lt, true, ℕ};
+ghost use Rattle.std.specs.Prelude.{vec_len, vec_capacity, length, nat_lt, true, false, ℕ};
 ghost use Rattle.std.specs.Option.{option_copied, option_map};
 ghost use Rattle.i9_model.specs.State.{State};
 ghost use Rattle.i9_model.specs.Memory.{console_byte};
@@ -14,7 +14,8 @@ ghost use Rattle.i9_model.specs.PrintedText.{Drained, Last, view_of, out_lines, 
 ghost use Rattle.i9_model.specs.PrintedText.{journal_lines};
 ghost use Rattle.i9_course.specs.LateRun.{is_imprecise};
 ghost use Rattle.i9_processor.specs.Effect.{action_in, move_in, control_in, AreRegisters, AreMade, CanControl, CanMove};
-ghost use Rattle.i9_processor.specs.Effect.{CanTake, HasSpaceFor, cache_through, size_with, has_writes, is_restart};
+ghost use Rattle.i9_processor.specs.Effect.{CanTake, HasSpaceFor, IsLight, cache_through, size_with, has_writes};
+ghost use Rattle.i9_processor.specs.Effect.{is_restart};
 ghost use Rattle.i9_processor.specs.State.{state_of, cache_of, size_of};
 ghost use Rattle.i9_processor.specs.Pages.{AddsActionOnly, AddsNoPage};
 ghost use Rattle.i9_model.specs.Events.{IsInRange};
@@ -22,6 +23,7 @@ ghost use Rattle.i9_model.specs.Turns.{HasCost, IssuesAt, waiting_until};
 ghost use Rattle.i9_issue.specs.Room.{IsEarly};
 ghost use Rattle.i9_regs.specs.Covered.{IsCovered};
 ghost use Rattle.i9_machine.specs.Doing.{point_count, reached_lines, reached_count, plan_behind_event};
+ghost use Rattle.i9_machine.specs.Issuing.{Hidden};
 ghost use Rattle.i9_machine.specs.Line.{AddsLines};
 
 use super::Machine;
@@ -34,6 +36,7 @@ use i9_model::{End, Event, Need, Point, View};
 use i9_processor::{Control, Effect, Landing, Processor};
 use i9_raw::hide;
 use i9_schedule::{Schedule, copied};
+use i9_shade::Shade;
 
 /// Makes room for so many lines.
 #[inline(always)]
@@ -210,16 +213,30 @@ fn reached_count(event: Option<&Event>) -> usize
     }
 }
 
+/// As `hide`. Nothing is asked where `light` is set, since a light step is no barrier.
+#[inline(always)]
+fn hide_under(p: &Processor, e: &Effect, need: &Need, light: bool, done: u64, shade: &mut Shade)
+    requires light { light ≡ true → need.now.barrier ≡ false }
+    requires whole { AreWhole (cache_of p.now).held }
+    ensures { Hidden p.now shade.old need.now (action_in (state_of p.now) e.now) done shade.new }
+{
+    if light {
+        return;
+    }
+    hide(p, e, need, done, shade);
+}
+
 impl Step {
     ghost use Rattle.i9_machine.specs.Doing.{line_count};
 
     /// How many lines it prints: those of an event that it reaches, a byte of the console, and a drained
     /// point.
     #[inline(always)]
-    fn line_count(&self, effect: &Effect, event: Option<&Event>) -> usize
+    fn line_count(&self, effect: &Effect, light: bool, event: Option<&Event>) -> usize
+        requires { light ≡ true → IsLight effect.now }
         ensures { result ≡ line_count effect.now self.now (option_copied event.entry) }
     {
-        let console = usize::from(effect.console_byte().is_some());
+        let console = usize::from(effect.console_byte(light).is_some());
         reached_count(event) + (console + usize::from(self.point.is_some()))
     }
 }
@@ -241,7 +258,7 @@ impl Machine {
     ghost use Rattle.i9_machine.specs.Step.{steps_left};
     ghost use Rattle.i9_machine.specs.NewPages.{AddsNextOnly};
     ghost use Rattle.i9_machine.specs.Doing.{lines_of, line_count, asks_room, HasRoomForStep, IsReady, action_for};
-    ghost use Rattle.i9_machine.specs.Doing.{state_behind};
+    ghost use Rattle.i9_machine.specs.Doing.{PlansLight, state_behind};
     ghost use Rattle.i9_machine.specs.Issuing.{most_turns, IsIssued, CanActPlaced};
     ghost use Rattle.i9_machine.specs.StandsFor.{HasCome};
 
@@ -270,12 +287,13 @@ impl Machine {
 
     /// New sets where the processor starts anew: as many as were asked for, or as the PRCB asks for.
     #[inline(always)]
-    fn make_sets(&self) -> Result<Option<Sets>, NoMemory>
+    fn make_sets(&self, light: bool) -> Result<Option<Sets>, NoMemory>
+        requires { light ≡ true → PlansLight self.now }
         ensures made { IfOk result
             (AreMade self.now.sets (state_of self.now.processor).memory self.now.effect.control) }
         ensures needed { OnErr result (is_restart (control_in self.now.effect.control) ≡ true) }
     {
-        if self.effect.plain {
+        if self.effect.is_plain(light) {
             return Ok(None);
         }
         match self.effect.control {
@@ -295,9 +313,11 @@ impl Machine {
     fn make_room(
         &mut self,
         step: &Step,
+        light: bool,
         event: Option<&Event>,
         out: &mut Vec<Line>,
     ) -> Result<Option<Sets>, NoMemory>
+        requires light { light ≡ true → PlansLight self.old }
         ensures same { IsSame self.old self.new }
         ensures ended { self.new.ended ≡ self.old.ended }
         ensures effect { self.new.effect ≡ self.old.effect }
@@ -317,9 +337,9 @@ impl Machine {
             (option_copied event.entry) → ⊥) }
         ensures only { AddsActionOnly self.old.processor self.new.processor (action_for self.old self.old.effect) }
     {
-        let sets = self.make_sets()?;
-        self.processor.reserve(&self.effect)?;
-        reserve_lines(step.line_count(&self.effect, event), out)?;
+        let sets = self.make_sets(light)?;
+        self.processor.reserve(&self.effect, light)?;
+        reserve_lines(step.line_count(&self.effect, light, event), out)?;
         Ok(sets)
     }
 
@@ -329,11 +349,13 @@ impl Machine {
     fn act(
         &mut self,
         step: &Step,
+        light: bool,
         issue: u64,
         event: Option<&Event>,
         sets: Option<Sets>,
         out: &mut Vec<Line>,
     ) -> Turn
+        requires light { light ≡ true → PlansLight self.old }
         requires cost { HasCost self.old.need }
         requires turns { self.old.need.cost ≤ most_turns }
         requires early { IsEarly self.old.board self.old.need }
@@ -373,32 +395,35 @@ impl Machine {
             request: self.need.request,
         };
         put_event(event, &self.processor, out);
-        hide(
+        hide_under(
             &self.processor,
             &self.effect,
             &self.need,
+            light,
             placed.done,
             &mut self.shade,
         );
         self.processor
-            .apply(&self.effect, &landing, step.counts, sets);
+            .apply(&self.effect, light, &landing, step.counts, sets);
         self.due = step.due;
-        put_out(self.effect.console_byte(), out);
+        put_out(self.effect.console_byte(light), out);
         put_point(step.point, &self.processor, out);
         step.answer
     }
 
     /// Makes room for a step and does it, at the turn at which it issues. Where it reaches an event, the schedule
-    /// goes on behind that.
-    // Each caller knows more of its step, and has its own code for it.
+    /// goes on behind that. Nothing is asked for that a light step does not have where `light` is set.
+    // Each caller passes a literal, and has its own code for it.
     #[inline(always)]
     pub(super) fn perform(
         &mut self,
         step: &Step,
+        light: bool,
         issue: u64,
         plan: &mut Schedule,
         out: &mut Vec<Line>,
     ) -> Turn
+        requires light { light ≡ true → PlansLight self.old }
         requires running { self.old.ended ≡ None }
         requires step { IsPlanned self.old plan.old step.now }
         requires issue { IssuesAt self.old.board.last self.old.board.records self.old.need issue }
@@ -413,9 +438,9 @@ impl Machine {
         ensures fewer { LeavesFewer result (steps_left self.old plan.old) (steps_left self.new plan.new) }
     {
         let event = next_event(plan, step.reaches);
-        match self.make_room(step, event, out) {
+        match self.make_room(step, light, event, out) {
             Ok(sets) => {
-                let answer = self.act(step, issue, event, sets, out);
+                let answer = self.act(step, light, issue, event, sets, out);
                 go_on(step.reaches, plan);
                 answer
             }

@@ -9,6 +9,7 @@ ghost use Rattle.i9_schedule.specs.Plan.{Plan};
 ghost use Rattle.i9_machine.specs.Opening.{IsTimely};
 ghost use Rattle.i9_isa.specs.declared.inst.Inst.{Inst};
 ghost use Rattle.i9_isa.specs.Words.{words_of};
+ghost use Rattle.i9_model.specs.Needs.{is_barrier_name};
 ghost use Rattle.i9_model.specs.Turns.{waiting_until};
 ghost use Rattle.i9_course.specs.NeedOf.{need_of};
 ghost use Rattle.i9_model.specs.Traced.{traced_action};
@@ -16,7 +17,7 @@ ghost use Rattle.i9_model.specs.Run.{Does, Instruction, Faulted, faulted_words, 
 ghost use Rattle.i9_model.specs.Run.{action_due};
 ghost use Rattle.i9_plan.specs.Kept.{inst_in, words_in};
 ghost use Rattle.i9_plan.specs.Planned.{TellsWords, IsRead, AreRequestsInRow};
-ghost use Rattle.i9_processor.specs.Effect.{action_in, IsEffect};
+ghost use Rattle.i9_processor.specs.Effect.{action_in, IsEffect, IsLight};
 ghost use Rattle.i9_processor.specs.State.{state_of, cache_of, size_of, IsDrained};
 ghost use Rattle.i9_machine.specs.Issue.{TellsIssue};
 ghost use Rattle.i9_machine.specs.Issuing.{most_turns};
@@ -35,11 +36,15 @@ use i9_plan::{
 use i9_processor::Effect;
 use i9_schedule::Schedule;
 
-/// The drained point behind an instruction.
+/// The drained point behind an instruction. Barriers alone have one: nothing is asked for that where `light` is set.
 #[inline(always)]
-fn point_by_name(op: Op) -> Option<Point>
+fn point_by_name(op: Op, light: bool) -> Option<Point>
+    requires { light ≡ true → is_barrier_name op ≡ false }
     ensures { result ≡ point_by_name op }
 {
+    if light {
+        return None;
+    }
     match op {
         Op::Flushreg => Some(Point::Flush),
         Op::Syncf => Some(Point::Sync),
@@ -127,13 +132,14 @@ impl Machine {
     /// What an effect makes due: an exit, where it brings one, or else the entry of the fault of its trace
     /// events, where some count.
     #[inline(always)]
-    fn due_by(&self, e: &Effect) -> Due
+    fn due_by(&self, e: &Effect, light: bool) -> Due
+        requires { light ≡ true → IsLight e.now }
         ensures { result ≡ action_due (state_of self.now.processor) (action_in (state_of self.now.processor) e.now) }
     {
-        if let Some(w) = e.exit_word(&self.processor) {
+        if let Some(w) = e.exit_word(&self.processor, light) {
             return Due::End(End::Exit(w));
         }
-        match e.trace {
+        match e.trace_by(light) {
             Some(trace) => Due::Entry(Fault {
                 kind: TRACE,
                 subtype: trace.subtype,
@@ -159,7 +165,9 @@ impl Machine {
 
     /// An instruction is done, by the effect that was planned, where it comes next.
     #[inline(always)]
-    pub(super) fn does(&self) -> Step
+    pub(super) fn does(&self, light: bool) -> Step
+        requires light { light ≡ true → IsLight self.now.effect }
+        requires named { light ≡ true → is_barrier_name (inst_in self.now.decodes).op ≡ false }
         requires words { TellsWords (words_of (inst_in self.now.decodes)) (state_of self.now.processor)
             (words_in self.now.decodes) }
         requires effect { IsEffect (state_of self.now.processor)
@@ -174,9 +182,9 @@ impl Machine {
     {
         Step {
             reaches: false,
-            point: point_by_name(self.decodes.inst().op),
+            point: point_by_name(self.decodes.inst().op, light),
             counts: 1,
-            due: self.due_by(&self.effect),
+            due: self.due_by(&self.effect, light),
             answer: Turn::Issued(self.issued(self.decodes.words())),
         }
     }
@@ -256,7 +264,7 @@ impl Machine {
             }
             Planned::Runs => {
                 let need = need_done(&self.processor, &self.decodes, &self.effect);
-                let step = self.does();
+                let step = self.does(false);
                 self.keep(need);
                 Ok(step)
             }

@@ -45,9 +45,9 @@ returns-clause-issued c = λ need fenced.
       wait = refl;
       done = refl;
       hides = record {
-        bytes = λ is. c.hide.ensures.bytes (ap shades_need fenced ∙ is);
-        due = λ is. c.hide.ensures.due (ap shades_need fenced ∙ is);
-        keeps = λ beside. c.hide.ensures.keeps (ap shades_need fenced ∙ beside);
+        bytes = λ is. c.hide_under.ensures.bytes (ap shades_need fenced ∙ is);
+        due = λ is. c.hide_under.ensures.due (ap shades_need fenced ∙ is);
+        keeps = λ beside. c.hide_under.ensures.keeps (ap shades_need fenced ∙ beside);
       };
       acts = subst (λ (n : Need). Acts m.processor (record { writes = n.writes; done = place.result.done; request = n.request }) (action_for m c.args.self.now.effect) c.apply.new.self) fenced
           (record { cells = acts.cells; waits = acts.waits; acts = acts.acts; still = acts.still });
