@@ -92,8 +92,8 @@ pub(crate) fn applies(p: &mut Processor, effect: &Effect) -> Result<(), Fail>
     if p.count() > 100 {
         return Err("too many".into());
     }
-    p.reserve(effect)?;
-    p.apply(effect, &AT_ONCE, 0, None);
+    p.reserve(effect, false)?;
+    p.apply(effect, false, &AT_ONCE, 0, None);
     Ok(())
 }
 

@@ -98,8 +98,8 @@ fn applies(p: &mut Processor, effect: &Effect, sets: Option<Sets>) -> Result<(),
     if !p.is_drained() {
         return Err("a request waits".into());
     }
-    p.reserve(effect)?;
-    p.apply(effect, &AT_ONCE, 1, sets);
+    p.reserve(effect, false)?;
+    p.apply(effect, false, &AT_ONCE, 1, sets);
     p.land(1);
     Ok(())
 }
@@ -244,8 +244,8 @@ fn sets_late(p: &mut Processor, value: u32) -> Result<(), Fail> {
         done: 5,
         request: false,
     };
-    p.reserve(&effect)?;
-    p.apply(&effect, &landing, 1, None);
+    p.reserve(&effect, false)?;
+    p.apply(&effect, false, &landing, 1, None);
     Ok(())
 }
 
@@ -267,8 +267,8 @@ fn stores_late(p: &mut Processor, a: u32, byte: u8) -> Result<(), Fail> {
         done: 6,
         request: true,
     };
-    p.reserve(&effect)?;
-    p.apply(&effect, &landing, 1, None);
+    p.reserve(&effect, false)?;
+    p.apply(&effect, false, &landing, 1, None);
     Ok(())
 }
 
