@@ -5,7 +5,7 @@ use Rattle.i9_model.specs.declared.need.Need.{Need}
 use Rattle.i9_model.specs.declared.need.Placed.{Placed}
 use Rattle.i9_model.specs.declared.need.TimedNeed.{TimedNeed}
 use Rattle.i9_model.specs.declared.need.Cell.{Cell}
-use Rattle.i9_model.specs.Late.{Wait, resource, landed, due_puts, left_waiting, issued_cell}
+use Rattle.i9_model.specs.Late.{Wait, resource, due_puts, left_waiting}
 use Rattle.i9_model.specs.declared.run.Due.{Due}
 use Rattle.i9_model.specs.Memory.{stored}
 use Rattle.i9_model.specs.Left.{left_in}
