@@ -98,7 +98,8 @@ pub fn is_unaligned(access: Option<(u32, u32)>, config: u32) -> bool
 {
     match access {
         None => false,
-        Some((address, n)) => address % alignment(n) != 0 && (config >> UNALIGNED_MASK) % 2 == 0,
+        // The mask comes first: most firmware sets it, and then nothing is divided.
+        Some((address, n)) => (config >> UNALIGNED_MASK) % 2 == 0 && address % alignment(n) != 0,
     }
 }
 

@@ -1,12 +1,12 @@
 -- Frames that are saved with the marks of their words, and bytes that are stored with theirs.
-use Rattle.std.proofs.Common.{◌≡◌, ℕ, zero, suc, ◌+◌, ◌<◌, Bool, false, cond, List, [], ◌∷◌, None, map, refl, sym, ap, ◌∙◌, arith}
+use Rattle.std.proofs.Common.{◌≡◌, ℕ, zero, suc, ◌+◌, ◌<◌, Bool, true, false, not, ◌&&◌, cond, List, [], ◌∷◌, None, map, refl, sym, ap, ◌∙◌, subst, arith}
 use Rattle.std.specs.Prelude.{get_or}
 use Rattle.std.specs.List.{range_with_len}
 use Rattle.i9_isa.specs.Words.{bit}
 use Rattle.i9_model.specs.declared.layout.TheConstants.{RIP}
 use Rattle.i9_model.specs.Writes.{wrapped}
 use Rattle.i9_model.specs.State.{Frames}
-use Rattle.i9_model.specs.Frames.{saved, with_marked, wrote_run, softened}
+use Rattle.i9_model.specs.Frames.{in_bytes, saved, with_marked, wrote_run, softened}
 use Rattle.i9_model.specs.Hazards.{save_hazard}
 use Rattle.i9_model.specs.Stale.{picked, byte_marks}
 use Rattle.i9_model.specs.Sound.{IsSound}
@@ -33,7 +33,17 @@ pub none_stale : (f g : Frames) (a n v : ℕ) → v ≡ 0 → g ≡ wrote_run f 
 none_stale f g a n v e is =
     is ∙ sym (ap (λ (u : ℕ). softened (wrote_run f a n) (picked wrapped a (bits_of u n))) e ∙ ap (softened (wrote_run f a n)) (none_picked wrapped a n))
 
-pub ruleset stale_rules = (none_stale)
+-- no byte is stored
+pub none_stored : (f : Frames) (a n v : ℕ) → n ≡ 0 → f ≡ softened (wrote_run f a n) (picked wrapped a (bits_of v n))
+unfolding in_bytes
+none_stored f a n v e =
+    let soft : ◌≡◌ {A = ℕ → Bool} (λ x. f.soft x && not (in_bytes a 0 x)) f.soft = λ i x. and_true (f.soft x) i in
+    subst (λ (k : ℕ). f ≡ softened (wrote_run f a k) (picked wrapped a (bits_of v k))) (sym e)
+    (sym (ap (λ (g : ℕ → Bool). record f { soft = g }) soft))
+  where
+    and_true : (b : Bool) → (b && true) ≡ b
+    and_true true = refl
+    and_true false = refl
 
 -- ---- the marks of a frame whose return address has none
 

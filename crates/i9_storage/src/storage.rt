@@ -66,7 +66,6 @@ fn drop_frame(watch: &mut Watch)
 }
 
 /// Bytes were stored to: byte k is soft where bit k of `stale` is set, and elsewhere it is not.
-#[tactic(auto, using(crate::proofs::Saves::stale_rules))]
 fn mark_stored(watch: &mut Watch, a: u32, n: u32, stale: u16)
     requires few { stale ≢ 0 → n ≤ 16 }
     requires room { stale ≢ 0 → HasRunMarks watch.old a n }
@@ -75,6 +74,10 @@ fn mark_stored(watch: &mut Watch, a: u32, n: u32, stale: u16)
     ensures keeps { KeepsMarks watch.old watch.new }
     ensures no_more { KeepsMarks watch.new watch.old }
 {
+    // Those that load store nothing.
+    if n == 0 {
+        return;
+    }
     // Few values are marked.
     if stale == 0 {
         watch.wrote(a, n);
