@@ -90,7 +90,10 @@ fn port_text(alloc: Global, p: &Processor, address: u32) -> Told {
     effect.address = address;
     effect.bytes = ArrayVec::from([1, 2, 3, 4, 5, 6, 7, 8, 9, 10, 11, 12, 13, 14, 15, 16]);
     effect.plain = false;
-    let byte = number_text(alloc, effect.console_byte(false).map(|byte| u32::from(byte)))?;
+    let byte = number_text(
+        alloc,
+        effect.console_byte(false).map(|byte| u32::from(byte)),
+    )?;
     let word = number_text(alloc, effect.exit_word(p, false))?;
     Ok(format!(in alloc; "{byte} {word}")?)
 }
