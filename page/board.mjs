@@ -1,7 +1,7 @@
 // What is loaded and where the session stands, and the moves from there. Each is a run of the command from the start,
 // where what it shows was not told by an earlier one.
 import {
-  hex, number, leadTo, leadAlong, arriveAt, tell, tellSteps, tellTurn, tellFrames, readPlaces, readTurns, readTrace,
+  hex, number, leadTo, arriveAt, tell, tellSteps, tellTurn, tellFrames, readPlaces, readTurns, readTrace,
   readListing, readRefusal, readTable, sourceWithTable, memoryOf, framesOf, isCall,
 } from "./session.mjs";
 import { NOT_TOLD } from "./course.mjs";
@@ -12,19 +12,12 @@ const STRIDE = 64, STRIDES = 4096, WIDER = 8;
 // further where a place comes near to its end.
 const MOST_COURSE = 300000, COURSE_AHEAD = 5000, COUNTED = 3200, MOST_UNTILS = 300, NEAR = 5000, MOST_COUNTS = 1000;
 const EVERYWHERE = ["0", "FFFFFFFF"];
-const latin1 = new TextDecoder("latin1"), encoder = new TextEncoder();
+const latin1 = new TextDecoder("latin1");
 const NO_BYTES = bytesOf(":00000001FF\n");
 
 /** A text as the program takes it, a byte for each character; one past 255 is a byte past ASCII, which it refuses. */
 export function bytesOf(text) {
   return Uint8Array.from(text, character => Math.min(character.charCodeAt(0), 255));
-}
-
-function joined(first, second) {
-  const all = new Uint8Array(first.length + second.length);
-  all.set(first);
-  all.set(second, first.length);
-  return all;
 }
 
 /** What the program says of a file that it refuses; `text` is that of the file. */
@@ -69,7 +62,7 @@ export class Board {
   /** Lets go of what was told, as where something else is loaded. */
   forget() {
     Object.assign(this, { position: { turn: 1 }, place: undefined, before: undefined, script: "", ending: undefined });
-    Object.assign(this, { counts: new Map(), course: undefined, way: undefined });
+    Object.assign(this, { counts: new Map(), course: undefined });
     this.forgetPlaces();
   }
 
@@ -129,12 +122,10 @@ export class Board {
     throw new Refused(reply, name, this.schedule);
   }
 
-  /** What a script prints that leads to a turn and then does these commands. It leads there by the way, where one was
-   * told; what is printed is the same. */
+  /** What a script prints that leads to a turn and then does these commands. */
   async debug(turn, commands, ask = this.ask) {
-    const { counts } = this, { bytes, skipped, others, rest } = leadAlong(this.way, turn);
-    const script = joined(bytes, encoder.encode(rest + commands));
-    const text = latin1.decode(others) + (await this.form(["debug", "3"], script, ask, { skipped })).text;
+    const { counts } = this;
+    const { text } = await this.form(["debug", "3"], bytesOf(leadTo({ turn }) + commands), ask);
     // What others lead to stands within a turn. A turn in which the run ends comes again, with what has issued by then.
     if (/^(until|back|last) /m.test(commands)) return text;
     for (const { turn: at, count } of readTurns(text)) if (!counts.has(at)) counts.set(at, count);
@@ -245,7 +236,7 @@ export class Board {
 
   // ---- the course
 
-  /** Tells the course as far as it is wanted, and the counts of turns and the way along it, where that was not told. */
+  /** Tells the course as far as it is wanted, and the counts of turns, where that was not told. */
   async tellCourse() {
     const wanted = Math.min(MOST_COURSE, Math.max(Number(this.length) || 0, (this.place?.count ?? 0) + COURSE_AHEAD));
     const { counts, course: told } = this;
@@ -254,15 +245,11 @@ export class Board {
       const whole = ["trace", String(limit), ...EVERYWHERE];
       const { course } = await this.form(whole, undefined, this.askAside, { reads: "course" });
       if (counts !== this.counts) return;
-      this.course = { ...course, limit, isCounted: counts.has(1 + STRIDE * COUNTED), hasWay: false };
+      this.course = { ...course, limit, isCounted: counts.has(1 + STRIDE * COUNTED) };
     }
     const { course } = this;
     if (!course.isCounted) await this.debug(1, `turn ${STRIDE}\n`.repeat(COUNTED), this.askAside);
     course.isCounted = true;
-    if (course.hasWay) return;
-    const { way } = await this.form(["debug", "3"], undefined, this.askAside, { reads: "way", leads: course.leads });
-    if (course === this.course) this.way = way;
-    course.hasWay = true;
   }
 
   /** The address at which the last of so many instructions left the instruction address, where the course tells it. */

@@ -4,7 +4,7 @@
 export const LOCALS = ["pfp", "sp", "rip", ...Array.from({ length: 13 }, (_, n) => `r${n + 3}`)];
 export const GLOBALS = [...Array.from({ length: 15 }, (_, n) => `g${n}`), "fp"];
 export const REGISTERS = [...LOCALS, ...GLOBALS];
-const MOST_PASSED = 1000000, NONE = new Uint8Array(), BEHIND_EACH = ["turns", "ends", "behind", "before"];
+const MOST_PASSED = 1000000;
 export const FRAME_BYTES = 64, RECORD_BYTES = 16;
 
 export const hex = value => (value >>> 0).toString(16).toUpperCase().padStart(8, "0");
@@ -25,22 +25,6 @@ export const arriveAt = ({ address, times = 1 }) =>
 
 /** The commands that lead to a position from the start. */
 export const leadTo = position => pass(1, position.turn) + arriveAt(position);
-
-/** The commands that lead to a turn by a way, where there is one: those of the way, as bytes, and the `rest`. Without
- * the first bytes that are printed, `skipped` of them, and with `others` before what is left, that is what those
- * commands print that lead there by `turn` alone. */
-export function leadAlong(way, turn) {
-  const first = Math.min(turn, 1 + MOST_PASSED);
-  let passed = 0;
-  for (let end = way?.turns.length ?? 0; passed < end;) {
-    const middle = passed + end >> 1;
-    if (way.turns[middle] < first) passed = middle + 1;
-    else end = middle;
-  }
-  const [from, end, skipped, length] = passed === 0 ? [1, 0, 0, 0] : BEHIND_EACH.map(list => way[list][passed - 1]);
-  const [bytes, others] = [way?.script.subarray(0, end) ?? NONE, way?.others.subarray(0, length) ?? NONE];
-  return { bytes, skipped, others, rest: pass(from, first) + pass(first, turn) };
-}
 
 /** The commands that tell a place: rows of 16 bytes of memory by the command `mem` or `rawmem`, and then the state. */
 export function tell({ from, rows, by }) {

@@ -7,8 +7,8 @@ export class Cancelled extends Error {}
 /** How many bytes of text a form with these words may print over its script, or a session along instructions that lead
  * there: about that much for each byte of a script that tells places, and for each instruction. */
 const SCRIPT_PRINTS = 12, INSTRUCTION_PRINTS = 48;
-function roomFor(words, script, leads) {
-  if (leads || words[0] === "trace") return INSTRUCTION_PRINTS * (leads?.length ?? Number(words[4]));
+function roomFor(words, script) {
+  if (words[0] === "trace") return INSTRUCTION_PRINTS * Number(words[4]);
   return SCRIPT_PRINTS * (script?.length ?? 0);
 }
 
@@ -29,12 +29,12 @@ class Hand {
     });
   }
 
-  answer({ number, status, bytes, course, way, failed }) {
+  answer({ number, status, bytes, course, failed }) {
     const { done, fail } = this.waiting.get(number);
     this.waiting.delete(number);
     this.told();
     if (failed) fail(new Error(failed));
-    else done({ status, course, way, text: course || way ? "" : new TextDecoder("latin1").decode(bytes) });
+    else done({ status, course, text: course ? "" : new TextDecoder("latin1").decode(bytes) });
   }
 }
 
@@ -52,16 +52,15 @@ export class Simulator {
     this.hands = [new Hand(this, told), new Hand(this, told)];
   }
 
-  /** The status and the text of a command, whose words name the files 1, 2 and 3. More can be asked for: that the first
-   * bytes of the text are left out, `skipped` of them; or that the worker `reads` the course that a trace tells, or the
-   * way along a course, by its `leads`, in place of the text. */
+  /** The status and the text of a command, whose words name the files 1, 2 and 3. More can be asked for: that the worker
+   * `reads` the course that a trace tells, in place of the text. */
   ask(words, files, more = {}) {
-    return this.hands[0].ask({ words, files, ...more, room: roomFor(words, files[2], more.leads) });
+    return this.hands[0].ask({ words, files, ...more, room: roomFor(words, files[2]) });
   }
 
   /** The same, where nobody waits for it. */
   askAside(words, files, more = {}) {
-    return this.hands[1].ask({ words, files, ...more, room: roomFor(words, files[2], more.leads) });
+    return this.hands[1].ask({ words, files, ...more, room: roomFor(words, files[2]) });
   }
 
   /** Ends all that is under way. */

@@ -8,7 +8,7 @@ import sys
 FOLDER, MODULE, CHECKSUM = pathlib.Path(sys.argv[1]), pathlib.Path(sys.argv[2]), sys.argv[3]
 # In the order in which they name each other.
 PAGE = ["session.mjs", "course.mjs", "simulator.mjs", "board.mjs", "views.mjs", "page.mjs"]
-WORKER = ["command.mjs", "course.mjs", "way.mjs", "worker.mjs"]
+WORKER = ["command.mjs", "course.mjs", "worker.mjs"]
 
 
 def read(name):

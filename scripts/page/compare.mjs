@@ -3,18 +3,14 @@
 //
 // Each row of a TABLE, behind its first line, is a run: its last column, behind a tab, has the words of the program,
 // which name files in the table's folder. Without a table the runs are those below, in demo/. Each is done by the
-// program and by the module in page/i960.html, and both must print the same bytes and end with the same status. Then it
-// leads to turns by ways along runs, as the page does, which must print what `turn` alone prints. At the end it says how
-// much more time `gen 1 -` takes in the module, and it ends with 1 where a run differed. It is no part of the gate, and
-// stands for a proof that what is built for a page does what the proved program does.
+// program and by the module in page/i960.html, and both must print the same bytes and end with the same status. At the
+// end it says how much more time `gen 1 -` takes in the module, and it ends with 1 where a run differed. It is no part
+// of the gate, and stands for a proof that what is built for a page does what the proved program does.
 import { spawnSync } from "node:child_process";
 import { existsSync, readFileSync } from "node:fs";
 import { dirname, join, resolve } from "node:path";
 import { fileURLToPath } from "node:url";
 import { command } from "../../page/command.mjs";
-import { readCourse } from "../../page/course.mjs";
-import { leadAlong, leadTo } from "../../page/session.mjs";
-import { tellWay } from "../../page/way.mjs";
 
 const TOP = resolve(dirname(fileURLToPath(import.meta.url)), "../..");
 const FILES = { run: [1, 2], trace: [1, 2], debug: [1, 2, 4], asm: [1], asmelf: [1], dis: [1], tune: [1] };
@@ -51,32 +47,6 @@ function differs(program, module, words, folder) {
     ? `status ${reply.status} for ${native.status}, ${reply.bytes.length} bytes for ${native.stdout.length}` : undefined;
 }
 
-// Images with a schedule or none, along whose runs the page's ways are tried, with commands that pass few instructions.
-const WAYS = [
-  ["board.hex", "board.sch"], ["ticks.hex", "ticks.sch"], ["marks.hex", "marks.sch"], ["level.hex", "level.sch"],
-  ["fibonacci.hex"], ["flushed.hex"], ["unflushed.hex"],
-];
-const REACHES = [10, 60, 4096], WAY_LENGTH = 4000, PLACES = 40, PLACE = "raw\nheld\nregs\nmem 3000 64\nturn 1\nraw\n";
-
-/** How many turns were led to by a way and by `turn` alone, and at how many of them the two printed something else. */
-function alongWays(module, [image, plan], reach) {
-  const files = [image, plan].map(name => name && readFileSync(join(TOP, "demo", name))), schedule = plan ? "2" : "-";
-  const traced = command(module, ["trace", "1", schedule, "-", String(WAY_LENGTH), "0", "FFFFFFFF"], files);
-  const session = script => command(module, ["debug", "1", schedule, "-", "3"], [...files, script]);
-  const way = tellWay(readCourse(traced.bytes).leads, script => session(script).bytes, reach);
-  const last = (way.turns.at(-1) ?? 0) + 4, stride = Math.max(1, Math.floor(last / PLACES));
-  let tried = 0, wrong = 0;
-  for (let turn = 1; turn <= last; turn += stride) {
-    const { bytes, skipped, others, rest } = leadAlong(way, turn);
-    const plain = session(Buffer.from(leadTo({ turn }) + PLACE));
-    const { status, bytes: told } = session(Buffer.concat([bytes, Buffer.from(rest + PLACE)]));
-    const text = Buffer.concat([others, told.subarray(skipped)]);
-    tried++;
-    if (status !== plain.status || Buffer.compare(text, plain.bytes) !== 0) wrong++;
-  }
-  return { tried, wrong };
-}
-
 /** The processor time of a call in milliseconds. */
 function moduleTime(call) {
   const before = process.cpuUsage();
@@ -102,10 +72,6 @@ for (const [words, folder] of runs) {
   if (found) { wrong++; console.log(`${words}: ${found}`); }
 }
 console.log(`${runs.length} runs, ${wrong} differ`);
-const ways = WAYS.flatMap(files => REACHES.map(reach => alongWays(module, files, reach)));
-const [tried, other] = ["tried", "wrong"].map(field => ways.reduce((sum, found) => sum + found[field], 0));
-console.log(`${tried} turns along ways, ${other} differ`);
-wrong += other;
 // By turns, since other work on the machine makes both slower, and comes and goes.
 const pairs = Array.from({ length: 30 }, () => [moduleTime(() => command(module, ["gen", "1", "-"], [])), nativeTime(resolve(program))]);
 const [here, there] = [0, 1].map(which => Math.min(...pairs.map(pair => pair[which])));

@@ -1,4 +1,4 @@
-use Rattle.std.proofs.Common.{◌≡◌, ℕ, List, Option, None, Some, IsSome, IfSome}
+use Rattle.std.proofs.Common.{◌≡◌, ℕ, List, Option, None, Some, true, is_some, IsSome, IfSome}
 use Rattle.i9_model.specs.Run.{Given, Finish}
 use Rattle.i9_schedule.specs.Plan.{Plan}
 use Rattle.i9_course.specs.Course.{Item}
@@ -20,11 +20,11 @@ below_in_run : (before m : Machine) (u : ℕ) (answer : Option Turn) (was plan :
 below_in_run before m u (Some t) was plan spare old new next again =
     behind_in_run before m t was plan old new
     (λ g h stands follows. let p = (next g h stands follows).1 in comes_in_run g h t p.mid m plan old new p.comes)
-    (λ g h f stands. let a = again g h f stands in (a.1.0, a.1.1))
+    (λ g h f stands. let a = again g h f stands in (a.1, a.2))
 below_in_run before m u None was plan spare old new next again =
     behind_in_run before m On was plan old new
     (λ g h stands follows. let p = next g h stands follows in record { given = g; items = h; end = None; stands = p.stands; follows = p.follows })
-    (λ g h f stands. absurd (again g h f stands).0)
+    (λ g h f stands. let no : is_some {T = Turn} None ≡ true = (again g h f stands).0 in absurd (cc no))
 
 pub returns : goal.returns
 returns c =
