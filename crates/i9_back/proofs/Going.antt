@@ -1,8 +1,7 @@
 -- A machine that goes on from an earlier state to a later one.
 use Rattle.std.proofs.Common.{◌≡◌, ℕ, ◌+◌, ◌<◌, ◌≤◌, List, [], ◌∷◌, None, refl, sym, ap, ◌∙◌, subst, arith}
 use Rattle.i9_model.specs.declared.run.End.{End}
-use Rattle.i9_model.specs.State.{State}
-use Rattle.i9_model.specs.Run.{Given, Kind, Instruction, Faulted, Entered, Interrupted, Reached, Record, counts_of, state_after}
+use Rattle.i9_model.specs.Run.{Given, Record, state_after}
 use Rattle.i9_schedule.specs.Plan.{Plan}
 use Rattle.i9_course.specs.Course.{ahead, issue_of_next}
 use Rattle.i9_course.specs.LateRun.{steps, IsLatePast}
@@ -13,26 +12,11 @@ use Rattle.i9_machine.specs.declared.line.Turn.{Turn}
 use Rattle.i9_machine.specs.declared.line.Turn.TheVariants as answers
 use Rattle.i9_machine.specs.declared.machine.Machine.{Machine}
 use Rattle.i9_machine.specs.StandsFor.{StandsFor, Follows, IsUnderWay, Comes}
-use Rattle.i9_machine.specs.Step.{TellsRecord}
+use Rattle.i9_machine.specs.Progress.{progress}
+use Rattle.i9_machine.proofs.Told.{issued_counts, on_counts}
 use Rattle.i9_back.specs.Earlier.{EndsAt, IsEarlier, HasInstructions, issue_of}
 use Rattle.i9_back.specs.Stands.{StandsEarlier}
 use Rattle.i9_back.proofs.Earlier.{record_after, earlier_count, ended_whole}
-
--- what is told as an instruction is one
-pub issued_counts : (kind : Kind) (s : State) (t : Issued) → TellsRecord kind s (answers.Issued t) → counts_of kind ≡ 1
-issued_counts (Instruction i) s t h = refl
-issued_counts (Faulted inst fault) s t h = refl
-issued_counts (Entered e) s t h = absurd h
-issued_counts (Interrupted c e) s t h = absurd h
-issued_counts (Reached e u) s t h = absurd h
-
--- and nothing else is
-pub on_counts : (kind : Kind) (s : State) → TellsRecord kind s answers.On → counts_of kind ≡ 0
-on_counts (Instruction i) s h = absurd h
-on_counts (Faulted inst fault) s h = absurd h
-on_counts (Entered e) s h = refl
-on_counts (Interrupted c e) s h = refl
-on_counts (Reached e u) s h = refl
 
 -- a record issues at the turn of what lies ahead of it
 pub record_issues : (g : Given) (rs : List Record) (r : Record) → IsLatePast g (r ∷ rs) → issue_of g (r ∷ rs) ≡ (ahead g (steps rs)).turn
@@ -93,7 +77,7 @@ module _ (g : Given) where
   module _ (rs : List Record) (done to : ℕ) (was : Machine) (old_plan : Plan) (s : GoingAt g rs done to was old_plan)
       (before m : Machine) (plan : Plan) (old new : List Line) where
     -- an event or an entry
-    pub on_goes : done < to → (d : Comes g (steps rs) answers.On before m plan old new) → GoingAt g (d.done ∷ rs) done to m plan
+    pub on_goes : done < to → (d : Comes g (steps rs) answers.On (progress before old_plan old) (progress m plan new)) → GoingAt g (d.done ∷ rs) done to m plan
     on_goes below d =
         let none = on_counts d.done.kind d.done.before d.tells in
         let count = (record_after g rs d.done d.stands.past).1 in
@@ -107,7 +91,7 @@ module _ (g : Given) where
         }
 
     -- an instruction
-    pub issued_goes : done < to → (t : Issued) → (d : Comes g (steps rs) (answers.Issued t) before m plan old new) → GoingAt g (d.done ∷ rs) (done + 1) to m plan
+    pub issued_goes : done < to → (t : Issued) → (d : Comes g (steps rs) (answers.Issued t) (progress before old_plan old) (progress m plan new)) → GoingAt g (d.done ∷ rs) (done + 1) to m plan
     issued_goes below t d =
         let one = issued_counts d.done.kind d.done.before t d.tells in
         let count = (record_after g rs d.done d.stands.past).1 in
@@ -122,14 +106,14 @@ module _ (g : Given) where
         }
 
     -- no end comes before
-    pub no_end : done < to → HasInstructions g to → (f : End) → Comes g (steps rs) (answers.End f) before m plan old new → ⊥
+    pub no_end : done < to → HasInstructions g to → (f : End) → Comes g (steps rs) (answers.End f) (progress before old_plan old) (progress m plan new) → ⊥
     no_end below has f d =
         let reached = ended_whole g rs d.finish to s.stands.past d.is_end has in
         let so_far = s.count in
         omega (arith, below, reached, so_far)
 
     -- the events of the schedule stay
-    pub same_events : (answer : Turn) → Comes g (steps rs) answer before m plan old new → plan.events ≡ old_plan.events
+    pub same_events : (answer : Turn) → Comes g (steps rs) answer (progress before old_plan old) (progress m plan new) → plan.events ≡ old_plan.events
     same_events answers.On d = d.follows.events ∙ sym s.follows.events
     same_events (answers.Issued t) d = d.follows.events ∙ sym s.follows.events
     same_events (answers.End f) d = d.follows.events ∙ sym s.follows.events

@@ -15,9 +15,11 @@ use Rattle.i9_machine.specs.declared.line.Turn.TheVariants as answers
 use Rattle.i9_machine.specs.declared.machine.Machine.{Machine}
 use Rattle.i9_machine.specs.StandsFor.{StandsFor, Comes}
 use Rattle.i9_machine.specs.Step.{TellsRecord}
+use Rattle.i9_machine.specs.Progress.{progress}
+use Rattle.i9_machine.proofs.Told.{issued_counts, on_counts}
 use Rattle.i9_back.specs.Stands.{StandsEarlier, same_byte, changes, last_change, Watched, IsLastChange}
 use Rattle.i9_back.proofs.Earlier.{record_after}
-use Rattle.i9_back.proofs.Going.{issued_counts, on_counts, GoingAt, going_begins, earlier_there, on_goes, issued_goes}
+use Rattle.i9_back.proofs.Going.{GoingAt, going_begins, earlier_there, on_goes, issued_goes}
 
 -- ---- what a record changes
 
@@ -83,7 +85,7 @@ module _ (g : Given) (a : ℕ) where
   module _ (older : List Record) (done to : ℕ) (found : Option (ℕ × ℕ)) (byte : Option ℕ) (was : Machine) (old_plan : Plan)
       (w : Watching g older done to a found byte was old_plan) (before m : Machine) (plan : Plan) (old new : List Line) (below : done < to)
       (later : Option ℕ) (shows : ShowsByte g m a later) where
-    pub on_watched : Comes g (steps (w.newer ++ older)) answers.On before m plan old new → Watching g older done to a found later m plan
+    pub on_watched : Comes g (steps (w.newer ++ older)) answers.On (progress before old_plan old) (progress m plan new) → Watching g older done to a found later m plan
     on_watched d =
         let none = on_counts d.done.kind d.done.before d.tells in
         let at = on_goes g (w.newer ++ older) done to was old_plan w.going before m plan old new below d in
@@ -94,7 +96,7 @@ module _ (g : Given) (a : ℕ) where
           now = shows (d.done ∷ w.newer ++ older) at.stands;
         }
 
-    pub issued_watched : (t : Issued) → Comes g (steps (w.newer ++ older)) (answers.Issued t) before m plan old new
+    pub issued_watched : (t : Issued) → Comes g (steps (w.newer ++ older)) (answers.Issued t) (progress before old_plan old) (progress m plan new)
         → (change : Option (ℕ × ℕ)) → change ≡ cond (same_byte byte later) found (Some (done + 1, t.address))
         → Watching g older (done + 1) to a change later m plan
     issued_watched t d change told =

@@ -24,9 +24,9 @@ use Rattle.i9_lines.specs.declared.print.Printed.{Printed}
 use Rattle.i9_lines.specs.declared.print.Printed.TheVariants.{Done, Write, Memory}
 use Rattle.i9_debug.specs.declared.sessions.SessionEnd.{SessionEnd}
 use Rattle.i9_debug.specs.declared.sessions.SessionEnd.TheVariants as ends
-use Rattle.i9_lines.specs.Print.{Account, Prints, OnDone, IsCut, OnCut}
+use Rattle.i9_lines.specs.Print.{Account, Prints, OnDone, IsCut, OnCut, output}
 use Rattle.i9_debug.specs.Session.{Place, at, TurnsTo, turns_pass, turns_end, ComesTo, comes, none_comes, IsBack, Stays, UnlessOver, Runs, told, Answers, IsText, no_command, next_command, end_at}
-use Rattle.i9_debug.specs.Driven.{StandsAt, IsOf, IsPlace, IsDebugged, GoneBack, Drives, StopsAt, CutOnWay, CutInAnswer, on_way, in_told, CutInScript, in_command, printed_of, TellsEnd, RunsScript, output, target}
+use Rattle.i9_debug.specs.Driven.{StandsAt, IsOf, IsPlace, IsDebugged, GoneBack, Drives, StopsAt, CutOnWay, CutInAnswer, on_way, in_told, CutInScript, in_command, printed_of, TellsEnd, RunsScript, target}
 use Rattle.i9_lines.proofs.Prints.{prints_none, prints_refused, prints_then, prints_stop, prints_same, not_done, on_cut, of_cut, cut_whole}
 use Rattle.i9_lines.proofs.TextLines.{IsClosed, closed_join}
 use Rattle.i9_debug.proofs.ClosedTexts.{closed_runs, closed_answers, closed_script}

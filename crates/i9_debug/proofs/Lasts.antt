@@ -11,9 +11,11 @@ use Rattle.i9_machine.specs.declared.line.Issued.{Issued}
 use Rattle.i9_machine.specs.declared.line.Turn.TheVariants as answers
 use Rattle.i9_machine.specs.declared.machine.Machine.{Machine}
 use Rattle.i9_machine.specs.StandsFor.{Comes}
+use Rattle.i9_machine.specs.Progress.{progress}
+use Rattle.i9_machine.proofs.Told.{issued_counts, on_counts}
 use Rattle.i9_back.specs.Stands.{StandsEarlier}
 use Rattle.i9_back.specs.Trail.{FoundBetween}
-use Rattle.i9_back.proofs.Going.{issued_counts, on_counts, GoingAt, going_begins, earlier_there, going_there, on_goes, issued_goes}
+use Rattle.i9_back.proofs.Going.{GoingAt, going_begins, earlier_there, going_there, on_goes, issued_goes}
 use Rattle.i9_back.proofs.Trails.{found_joins, found_all}
 use Rattle.i9_debug.specs.Last.{IsLast, HeldLast, IsLastIn}
 
@@ -36,7 +38,7 @@ module _ (allows : View → Bool → Type 0) (g : Given) where
 
   module _ (older : List Record) (done to n : ℕ) (found : Option ℕ) (was : Machine) (old_plan : Plan) (s : Seeking older done to n found was old_plan)
       (before m : Machine) (plan : Plan) (old new : List Line) (below : done < to) where
-    pub on_seeks : Comes g (steps (s.newer ++ older)) answers.On before m plan old new → Seeking older done to n found m plan
+    pub on_seeks : Comes g (steps (s.newer ++ older)) answers.On (progress before old_plan old) (progress m plan new) → Seeking older done to n found m plan
     on_seeks d =
         let none = on_counts d.done.kind d.done.before d.tells in
         record {
@@ -46,7 +48,7 @@ module _ (allows : View → Bool → Type 0) (g : Given) where
         }
 
     -- an instruction is not below the n-th, or the stop does not hold behind it
-    pub issued_passes : (t : Issued) → (d : Comes g (steps (s.newer ++ older)) (answers.Issued t) before m plan old new)
+    pub issued_passes : (t : Issued) → (d : Comes g (steps (s.newer ++ older)) (answers.Issued t) (progress before old_plan old) (progress m plan new))
         → (d.done.after.count < n → allows (view_of d.done.after) false) → Seeking older (done + 1) to n found m plan
     issued_passes t d passed = record {
       newer = d.done ∷ s.newer;
@@ -55,7 +57,7 @@ module _ (allows : View → Bool → Type 0) (g : Given) where
     }
 
     -- the n-th is not asked
-    pub issued_whole : (t : Issued) → Comes g (steps (s.newer ++ older)) (answers.Issued t) before m plan old new → n ≤ done + 1
+    pub issued_whole : (t : Issued) → Comes g (steps (s.newer ++ older)) (answers.Issued t) (progress before old_plan old) (progress m plan new) → n ≤ done + 1
         → Seeking older (done + 1) to n found m plan
     issued_whole t d le =
         let at = issued_goes g (s.newer ++ older) done to was old_plan s.going before m plan old new below t d in
@@ -63,7 +65,7 @@ module _ (allows : View → Bool → Type 0) (g : Given) where
         issued_passes t d (λ lt. absurd (omega (arith, count, lt, le)))
 
     -- or it does
-    pub issued_holds : (t : Issued) → (d : Comes g (steps (s.newer ++ older)) (answers.Issued t) before m plan old new) → done + 1 < n
+    pub issued_holds : (t : Issued) → (d : Comes g (steps (s.newer ++ older)) (answers.Issued t) (progress before old_plan old) (progress m plan new)) → done + 1 < n
         → allows (view_of d.done.after) true → Seeking older (done + 1) to n (Some (done + 1)) m plan
     issued_holds t d lt held =
         let at = issued_goes g (s.newer ++ older) done to was old_plan s.going before m plan old new below t d in

@@ -15,14 +15,16 @@ use Rattle.i9_machine.specs.declared.line.Turn.{Turn}
 use Rattle.i9_machine.specs.declared.line.Turn.TheVariants as answers
 use Rattle.i9_machine.specs.declared.machine.Machine.{Machine}
 use Rattle.i9_machine.specs.StandsFor.{StandsFor, Follows, DoesNext, Comes}
+use Rattle.i9_machine.specs.Progress.{progress}
 use Rattle.i9_machine.specs.Turned.{steps_on}
+use Rattle.i9_machine.proofs.Told.{issued_counts, on_counts}
 use Rattle.i9_tracer.specs.Until.{IsPassed}
-use Rattle.i9_tracer.proofs.Untils.{Shows, issued_counts, on_counts}
+use Rattle.i9_tracer.proofs.Untils.{Shows}
 use Rattle.i9_lines.specs.declared.print.Printed.{Printed}
 use Rattle.i9_lines.specs.declared.print.Printed.TheVariants.{Done, Write, Memory}
-use Rattle.i9_lines.specs.Print.{Account, Prints, OnDone, line_text, IsCut, OnCut}
+use Rattle.i9_lines.specs.Print.{Account, Prints, OnDone, line_text, IsCut, OnCut, output}
 use Rattle.i9_debug.specs.Session.{Place, at, ended, turn_ahead, ending_lines, comes_to, NoneComesTo, ComesTo, comes, none_comes}
-use Rattle.i9_debug.specs.Driven.{StandsAt, Drives, StopsAt, AtMostOne, CutInRun, behind_step, behind_end, StopsBy, stops, never_stops, goes_on, output, target}
+use Rattle.i9_debug.specs.Driven.{StandsAt, Drives, StopsAt, AtMostOne, CutInRun, behind_step, behind_end, StopsBy, stops, never_stops, goes_on, target}
 use Rattle.i9_lines.proofs.Prints.{prints_none, prints_then, prints_stop, prints_same, prints_behind, not_done, on_cut, cut_whole}
 use Rattle.i9_lines.proofs.ClosedLines.{closed_text}
 use Rattle.i9_debug.proofs.Places.{steps_on-append, text-append, text-more, either, comes_after, address_leads}
@@ -58,7 +60,7 @@ module _ {K : Type 0} (k : Account K) (g : Given) (h : List Item) (allows : View
     behind answer p = prints_then k answer a b c front (flat_map line_text ls) (closed_text (lines_of inv.done)) inv.prints p
 
     -- the run goes on
-    does_seek : (turn : Turn) → (d : DoesNext g (steps_on inv.done h) turn mid next plan [] ls) → IsPassed allows d.done
+    does_seek : (turn : Turn) → (d : DoesNext g (steps_on inv.done h) turn (progress mid was []) (progress next plan ls)) → IsPassed allows d.done
         → Prints Done k b c (flat_map line_text ls) → Sought a c next plan
     does_seek turn d passed p = record {
       done = d.done ∷ inv.done;
@@ -68,17 +70,17 @@ module _ {K : Type 0} (k : Account K) (g : Given) (h : List Item) (allows : View
       prints = prints_same k Done a c _ _ (text-more inv.done d.done ls d.lines) (behind Done p);
     }
 
-    pub on_seeks : Comes g (steps_on inv.done h) answers.On mid next plan [] ls → Prints Done k b c (flat_map line_text ls) → Sought a c next plan
-    on_seeks d p = does_seek answers.On d (λ one. absurd (on_counts d.done.kind d.done.before d.tells one)) p
+    pub on_seeks : Comes g (steps_on inv.done h) answers.On (progress mid was []) (progress next plan ls) → Prints Done k b c (flat_map line_text ls) → Sought a c next plan
+    on_seeks d p = does_seek answers.On d (λ one. let none = on_counts d.done.kind d.done.before d.tells in absurd (omega (arith, none, one))) p
 
-    pub issued_seeks : (t : Issued) (view : View) → Comes g (steps_on inv.done h) (answers.Issued t) mid next plan [] ls
+    pub issued_seeks : (t : Issued) (view : View) → Comes g (steps_on inv.done h) (answers.Issued t) (progress mid was []) (progress next plan ls)
         → Prints Done k b c (flat_map line_text ls) → Shows g next view → allows view false → Sought a c next plan
     issued_seeks t view d p shows refused =
         let shown = shows (Step d.done ∷ steps_on inv.done h) None d.stands in
         does_seek (answers.Issued t) d (λ one. subst (λ (v : View). allows v false) shown refused) p
 
     -- the stop holds
-    pub issued_holds : (t : Issued) (view : View) → Comes g (steps_on inv.done h) (answers.Issued t) mid next plan [] ls
+    pub issued_holds : (t : Issued) (view : View) → Comes g (steps_on inv.done h) (answers.Issued t) (progress mid was []) (progress next plan ls)
         → Prints Done k b c (flat_map line_text ls) → Shows g next view → allows view true
         → Drives (StopsBy Done allows g h) (CutInRun g AtMostOne h) Done g (output k a c) (target next plan)
     issued_holds t view d p shows held =
@@ -121,7 +123,7 @@ module _ {K : Type 0} (k : Account K) (g : Given) (h : List Item) (allows : View
         }
 
     -- the end was reached
-    pub end_seeks : (answer : Printed) (e : End) → Comes g (steps_on inv.done h) (answers.End e) mid next plan [] ls
+    pub end_seeks : (answer : Printed) (e : End) → Comes g (steps_on inv.done h) (answers.End e) (progress mid was []) (progress next plan ls)
         → Prints answer k b c (flat_map line_text ls) → Drives (StopsBy answer allows g h) (CutInRun g AtMostOne h) answer g (output k a c) (target next plan)
     end_seeks answer e d p =
         let f = d.finish in
@@ -152,7 +154,7 @@ module _ {K : Type 0} (k : Account K) (g : Given) (h : List Item) (allows : View
     none-shown none = ap (flat_map line_text) none
 
     -- printing stopped in the lines of a step
-    pub step_cut : (answer : Printed) (turn : Turn) → IsCut answer → Comes g (steps_on inv.done h) turn mid next plan [] ls
+    pub step_cut : (answer : Printed) (turn : Turn) → IsCut answer → Comes g (steps_on inv.done h) turn (progress mid was []) (progress next plan ls)
         → Prints answer k b c (flat_map line_text ls) → Drives (StopsBy answer allows g h) (CutInRun g AtMostOne h) answer g (output k a c) (target next plan)
     step_cut answer answers.On cut d p =
         cut_by answer (d.done ∷ []) cut (omega arith) inv.passed d.stands d.follows (prints_same k answer b c _ _ (added-text ls (record_lines d.done) d.lines) p)
@@ -163,7 +165,7 @@ module _ {K : Type 0} (k : Account K) (g : Given) (h : List Item) (allows : View
         cut_by answer [] cut (omega arith) (older_passed inv.done inv.passed) d.stands d.follows (prints_same k answer b c _ _ (none-shown d.lines) p)
 
     -- memory was refused for a step
-    pub step_refused : Comes g (steps_on inv.done h) answers.Memory mid next plan [] ls
+    pub step_refused : Comes g (steps_on inv.done h) answers.Memory (progress mid was []) (progress next plan ls)
         → Prints Done k b c (flat_map line_text ls) → Drives (StopsBy Memory allows g h) (CutInRun g AtMostOne h) Memory g (output k a c) (target next plan)
     step_refused d p = step_cut Memory answers.Memory tt d (prints_behind k b c _ p)
 

@@ -13,14 +13,15 @@ use Rattle.i9_machine.specs.declared.line.Turn.{Turn}
 use Rattle.i9_machine.specs.declared.line.Turn.TheVariants as answers
 use Rattle.i9_machine.specs.declared.machine.Machine.{Machine}
 use Rattle.i9_machine.specs.StandsFor.{StandsFor, Follows, IsUnderWay, DoesNext, EndsRun, Comes, PassesTo, ProceedsUntil}
+use Rattle.i9_machine.specs.Progress.{progress}
 use Rattle.i9_machine.specs.Turned.{steps_on}
 use Rattle.i9_machine.proofs.Turned.{does_under_way}
 use Rattle.i9_machine.specs.declared.line.Issued.{Issued}
 use Rattle.i9_lines.specs.declared.print.Printed.{Printed}
 use Rattle.i9_lines.specs.declared.print.Printed.TheVariants.{Done, Memory}
-use Rattle.i9_lines.specs.Print.{Account, Prints, line_text, IsCut}
+use Rattle.i9_lines.specs.Print.{Account, Prints, line_text, IsCut, output}
 use Rattle.i9_debug.specs.Session.{Place, at, ended, turn_ahead, ending_lines, TurnsTo, turns_pass, turns_end}
-use Rattle.i9_debug.specs.Driven.{StandsAt, Drives, AtMostOne, CutInRun, behind_step, behind_end, output, target}
+use Rattle.i9_debug.specs.Driven.{StandsAt, Drives, AtMostOne, CutInRun, behind_step, behind_end, target}
 use Rattle.i9_lines.proofs.Prints.{prints_none, prints_then, prints_stop, prints_same, prints_behind, not_done, on_cut, cut_whole}
 use Rattle.i9_lines.proofs.TextLines.{closed_join}
 use Rattle.i9_lines.proofs.ClosedLines.{closed_text, added-text}
@@ -41,7 +42,7 @@ module _ {K : Type 0} (k : Account K) (g : Given) (h : List Item) (u : ℕ) wher
 
   -- nothing is left below the turn
   pub turned_whole : (a b : K) (before m : Machine) (was plan : Plan) (inv : Turned a b before was) (ls : List Line)
-      → PassesTo g (steps_on inv.done h) u before m plan [] ls
+      → PassesTo g (steps_on inv.done h) u (progress before was []) (progress m plan ls)
       → Drives (TurnsTo g h u) (CutInRun g AtMostOne h) Done g (output k a b) (target m plan)
   turned_whole a b before m was plan inv ls d =
       let low : before.turn < u = inv.low in
@@ -101,13 +102,13 @@ module _ {K : Type 0} (k : Account K) (g : Given) (h : List Item) (u : ℕ) wher
   }
 
   -- what one call did, by what it is known to have been told and to answer
-  as_told : (done : List Record) (before m : Machine) (plan : Plan) (spare : ℕ) (old new : List Line) (until : ℕ) (answer told : Option Turn)
-      → old ≡ [] → until ≡ u → answer ≡ told → ProceedsUntil g (steps_on done h) (Some until) answer before m plan spare old new
-      → ProceedsUntil g (steps_on done h) (Some u) told before m plan spare [] new
-  as_told done before m plan spare old new until answer told none is same p =
-      subst (λ (x : Option Turn). ProceedsUntil g (steps_on done h) (Some u) x before m plan spare [] new) same
-      (subst (λ (x : ℕ). ProceedsUntil g (steps_on done h) (Some x) answer before m plan spare [] new) is
-      (subst (λ (x : List Line). ProceedsUntil g (steps_on done h) (Some until) answer before m plan spare x new) none p))
+  as_told : (done : List Record) (before m : Machine) (was plan : Plan) (spare : ℕ) (old new : List Line) (until : ℕ) (answer told : Option Turn)
+      → old ≡ [] → until ≡ u → answer ≡ told → ProceedsUntil g (steps_on done h) (Some until) answer spare (progress before was old) (progress m plan new)
+      → ProceedsUntil g (steps_on done h) (Some u) told spare (progress before was []) (progress m plan new)
+  as_told done before m was plan spare old new until answer told none is same p =
+      subst (λ (x : Option Turn). ProceedsUntil g (steps_on done h) (Some u) x spare (progress before was []) (progress m plan new)) same
+      (subst (λ (x : ℕ). ProceedsUntil g (steps_on done h) (Some x) answer spare (progress before was []) (progress m plan new)) is
+      (subst (λ (x : List Line). ProceedsUntil g (steps_on done h) (Some until) answer spare (progress before was x) (progress m plan new)) none p))
 
   -- a step from a machine at the turn of what lies ahead, which is below the turn
   module _ (a b c : K) (before mid m : Machine) (was plan : Plan) (inv : Turned a b before was) (ls : List Line)
@@ -119,7 +120,7 @@ module _ {K : Type 0} (k : Account K) (g : Given) (h : List Item) (u : ℕ) wher
     low_as same = omega (arith, same, now, below)
 
     -- one more was done
-    pub does_turn : (turn : Turn) → DoesNext g (steps_on inv.done h) turn mid m plan [] ls → Prints Done k b c (flat_map line_text ls)
+    pub does_turn : (turn : Turn) → DoesNext g (steps_on inv.done h) turn (progress mid was []) (progress m plan ls) → Prints Done k b c (flat_map line_text ls)
         → Turned a c m plan
     does_turn turn d p = record {
       done = d.done ∷ inv.done;
@@ -130,17 +131,17 @@ module _ {K : Type 0} (k : Account K) (g : Given) (h : List Item) (u : ℕ) wher
           (prints_then k Done a b c front (flat_map line_text ls) (closed_text (lines_of inv.done)) inv.prints p);
     }
 
-    left_one : (turn : Turn) → DoesNext g (steps_on inv.done h) turn mid m plan [] ls → Left front (flat_map line_text ls) m plan
+    left_one : (turn : Turn) → DoesNext g (steps_on inv.done h) turn (progress mid was []) (progress m plan ls) → Left front (flat_map line_text ls) m plan
     left_one turn d =
         subst (λ (x : List ℕ). Left front x m plan) (sym (added-text ls (record_lines d.done) d.lines))
         (left_behind inv.done (d.done ∷ []) m plan d.stands d.follows (low_as d.turn) (omega arith))
 
-    left_memory : Comes g (steps_on inv.done h) answers.Memory mid m plan [] ls → Left front (flat_map line_text ls) m plan
+    left_memory : Comes g (steps_on inv.done h) answers.Memory (progress mid was []) (progress m plan ls) → Left front (flat_map line_text ls) m plan
     left_memory d =
         subst (λ (x : List ℕ). Left front x m plan) (sym (ap (flat_map line_text) d.lines))
         (left_behind inv.done [] m plan d.stands d.follows (low_as d.turn) (omega arith))
 
-    module _ (e : End) (d : EndsRun g (steps_on inv.done h) e mid m plan [] ls) where
+    module _ (e : End) (d : EndsRun g (steps_on inv.done h) e (progress mid was []) (progress m plan ls)) where
       abbrev place : Place
       place = ended (steps_on inv.done h) (turn_ahead g (steps_on inv.done h)) d.finish
 
@@ -178,20 +179,20 @@ module _ {K : Type 0} (k : Account K) (g : Given) (h : List Item) (u : ℕ) wher
         stopped = tt;
       }
 
-    step_left : (turn : Turn) → Comes g (steps_on inv.done h) turn mid m plan [] ls → Left front (flat_map line_text ls) m plan
+    step_left : (turn : Turn) → Comes g (steps_on inv.done h) turn (progress mid was []) (progress m plan ls) → Left front (flat_map line_text ls) m plan
     step_left answers.On d = left_one answers.On d
     step_left (answers.Issued t) d = left_one (answers.Issued t) d
     step_left (answers.End e) d = left_end e d
     step_left answers.Memory d = left_memory d
 
     -- printing stopped in the lines of a step
-    pub turn_cut : (answer : Printed) (turn : Turn) → IsCut answer → Comes g (steps_on inv.done h) turn mid m plan [] ls
+    pub turn_cut : (answer : Printed) (turn : Turn) → IsCut answer → Comes g (steps_on inv.done h) turn (progress mid was []) (progress m plan ls)
         → Prints answer k b c (flat_map line_text ls)
         → Drives (TurnsTo g h u) (CutInRun g AtMostOne h) answer g (output k a c) (target m plan)
     turn_cut answer turn cut d p = left_cut answer front (flat_map line_text ls) a b c m plan cut inv.prints p (step_left turn d)
 
     -- memory was refused for a step
-    pub turn_refused : Comes g (steps_on inv.done h) answers.Memory mid m plan [] ls → Prints Done k b c (flat_map line_text ls)
+    pub turn_refused : Comes g (steps_on inv.done h) answers.Memory (progress mid was []) (progress m plan ls) → Prints Done k b c (flat_map line_text ls)
         → Drives (TurnsTo g h u) (CutInRun g AtMostOne h) Memory g (output k a c) (target m plan)
     turn_refused d p = turn_cut Memory answers.Memory tt d (prints_behind k b c _ p)
 
@@ -199,9 +200,9 @@ module _ {K : Type 0} (k : Account K) (g : Given) (h : List Item) (u : ℕ) wher
 
   module _ (a b : K) (before m : Machine) (was plan : Plan) (inv : Turned a b before was) (spare until : ℕ) (old ls : List Line)
       (answer : Option Turn) (none : old ≡ []) (is : until ≡ u)
-      (goes : ProceedsUntil g (steps_on inv.done h) (Some until) answer before m plan spare old ls) where
-    told : (t : Option Turn) → answer ≡ t → ProceedsUntil g (steps_on inv.done h) (Some u) t before m plan spare [] ls
-    told t same = as_told inv.done before m plan spare old ls until answer t none is same goes
+      (goes : ProceedsUntil g (steps_on inv.done h) (Some until) answer spare (progress before was old) (progress m plan ls)) where
+    told : (t : Option Turn) → answer ≡ t → ProceedsUntil g (steps_on inv.done h) (Some u) t spare (progress before was []) (progress m plan ls)
+    told t same = as_told inv.done before m was plan spare old ls until answer t none is same goes
 
     pub none_left : answer ≡ None → Drives (TurnsTo g h u) (CutInRun g AtMostOne h) Done g (output k a b) (target m plan)
     none_left same = turned_whole a b before m was plan inv ls (told None same)
@@ -236,13 +237,13 @@ module _ {K : Type 0} (k : Account K) (g : Given) (h : List Item) (u : ℕ) wher
 
 -- ---- the machine stays under way
 
-module _ (g : Given) (h : List Item) (until : Option ℕ) (answer : Option Turn) (turn : Turn) (before m : Machine) (plan : Plan) (spare : ℕ)
-    (old new : List Line) (same : answer ≡ Some turn) (goes : ProceedsUntil g h until answer before m plan spare old new) where
-  came : (t : Turn) → turn ≡ t → ProceedsUntil g h until (Some t) before m plan spare old new
-  came t e = subst (λ (x : Option Turn). ProceedsUntil g h until x before m plan spare old new) (same ∙ ap Some e) goes
+module _ (g : Given) (h : List Item) (until : Option ℕ) (answer : Option Turn) (turn : Turn) (before m : Machine) (was plan : Plan) (spare : ℕ)
+    (old new : List Line) (same : answer ≡ Some turn) (goes : ProceedsUntil g h until answer spare (progress before was old) (progress m plan new)) where
+  came : (t : Turn) → turn ≡ t → ProceedsUntil g h until (Some t) spare (progress before was old) (progress m plan new)
+  came t e = subst (λ (x : Option Turn). ProceedsUntil g h until x spare (progress before was old) (progress m plan new)) (same ∙ ap Some e) goes
 
   pub on_under_way : turn ≡ answers.On → IsUnderWay m plan
-  on_under_way e = does_under_way g h answers.On _ m plan _ _ (came answers.On e).1.comes
+  on_under_way e = does_under_way g h answers.On _ (progress m plan new) (came answers.On e).1.comes
 
   pub issued_under_way : (i : Issued) → turn ≡ answers.Issued i → IsUnderWay m plan
-  issued_under_way i e = does_under_way g h (answers.Issued i) _ m plan _ _ (came (answers.Issued i) e).1.comes
+  issued_under_way i e = does_under_way g h (answers.Issued i) _ (progress m plan new) (came (answers.Issued i) e).1.comes

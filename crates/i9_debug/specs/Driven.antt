@@ -25,7 +25,7 @@ use Rattle.i9_lines.specs.declared.print.Printed.{Printed}
 use Rattle.i9_lines.specs.declared.print.Printed.TheVariants as printed
 use Rattle.i9_debug.specs.declared.sessions.SessionEnd.{SessionEnd}
 use Rattle.i9_debug.specs.declared.sessions.SessionEnd.TheVariants as ends
-use Rattle.i9_lines.specs.Print.{Account, Prints, OnDone, IsCut, OnCut}
+use Rattle.i9_lines.specs.Print.{Account, Output, Prints, OnDone, IsCut, OnCut}
 use Rattle.i9_debug.specs.Session.{Place, at, ended, turn_ahead, EndsBehind, ending_lines, UnlessOver, IsBack, Runs}
 use Rattle.i9_debug.specs.Session.{told, IsText, end_at}
 
@@ -82,15 +82,6 @@ change_for (commands.Who a) rs = last_change a rs
 change_for c rs = None
 
 -- ---- printing
-
--- what was written to: what the members of a sink's type say, and the sink before and after
-pub record Output (K : Type 0) : Type 1 where
-  pub account : Account K
-  pub old : K
-  pub new : K
-
-abbrev pub output : {K : Type 0} → Account K → K → K → Output K
-output k old new = record { account = k; old = old; new = new }
 
 -- A text was printed whole, and then a front of another one, and both lead to the place at which printing stopped.
 pub record StopsAt {K : Type 0} (cut : List ℕ → List ℕ → Place → Type 0) (answer : Printed) (k : Account K)

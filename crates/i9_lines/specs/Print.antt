@@ -26,6 +26,15 @@ abbrev pub account : {K : Type 0} → (K → Option (List ℕ)) → (K → ℕ) 
 account told faults writes sure pieces = record
     { told = told; faults = faults; writes = writes; sure = sure; pieces = pieces }
 
+-- what was written to: what the members of a sink's type say, and the sink before and after
+pub record Output (K : Type 0) : Type 1 where
+  pub account : Account K
+  pub old : K
+  pub new : K
+
+abbrev pub output : {K : Type 0} → Account K → K → K → Output K
+output k old new = record { account = k; old = old; new = new }
+
 -- ---- lines
 
 -- a byte in front of the first line, or as a line of its own where there is none

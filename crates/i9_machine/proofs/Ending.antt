@@ -34,6 +34,7 @@ use Rattle.std.specs.List.{slice_get}
 use Rattle.i9_model.specs.declared.event.Event.{Event}
 use Rattle.i9_model.specs.declared.event.Timed.{Timed}
 use Rattle.i9_machine.specs.Doing.{next_event, plan_behind_event}
+use Rattle.i9_machine.specs.Progress.{Progress}
 use Rattle.std.specs.Prelude.{is_some}
 use Rattle.std.proofs.lemmas.Option.{slice_get_within}
 use Rattle.i9_machine.proofs.Unmoved.{stays_at_end, next_stays}
@@ -76,76 +77,76 @@ plan_ends plan f reaches is =
     one_last None = refl
     one_last (Some e) = refl
 
-pub finish_steps : (before : Machine) (e : Finish) (spare : ℕ) (answer : Turn) (m : Machine) (was plan : Plan) (old new : List Line) → next_for before was ≡ Ends e
-    → Finishes before e spare answer m was plan old new → Steps before answer m was plan old new
-finish_steps before e spare (turns.End f) m was plan old new is d = record { finish = e; answers = d.0; is_end = is; finished = d.1 }
-finish_steps before e spare turns.Memory m was plan old new is d = record {
+pub finish_steps : (before : Progress) (e : Finish) (spare : ℕ) (answer : Turn) (after : Progress) → next_for before.machine before.plan ≡ Ends e
+    → Finishes before e spare answer after → Steps before answer after
+finish_steps before e spare (turns.End f) after is d = record { finish = e; answers = d.0; is_end = is; finished = d.1 }
+finish_steps before e spare turns.Memory after is d = record {
   same = d.same;
   ended = d.ended;
   kept = d.kept;
   lines = d.lines;
   needed = subst NeedsRoom (sym is) tt;
 }
-finish_steps before e spare turns.On m was plan old new is d = absurd d
-finish_steps before e spare (turns.Issued t) m was plan old new is d = absurd d
+finish_steps before e spare turns.On after is d = absurd d
+finish_steps before e spare (turns.Issued t) after is d = absurd d
 
-pub finish_lacks : (before : Machine) (e : Finish) (spare : ℕ) (answer : Turn) (m : Machine) (was plan : Plan) (old new : List Line) → next_for before was ≡ Ends e
-    → Finishes before e spare answer m was plan old new → answer ≡ turns.Memory → HasRoom before spare (next_for before was) → ⊥
-finish_lacks before e spare turns.Memory m was plan old new is d refused room =
-    let some : length (journal_lines 0 e.event) + 2 ≤ spare = subst (HasRoom before spare) is room in
-    let long = end_long (state_of before.processor) e in
-    let lacks : spare < length (end_lines (state_of before.processor) e) = d.lacking in
+pub finish_lacks : (before : Progress) (e : Finish) (spare : ℕ) (answer : Turn) (after : Progress) → next_for before.machine before.plan ≡ Ends e
+    → Finishes before e spare answer after → answer ≡ turns.Memory → HasRoom before.machine spare (next_for before.machine before.plan) → ⊥
+finish_lacks before e spare turns.Memory after is d refused room =
+    let some : length (journal_lines 0 e.event) + 2 ≤ spare = subst (HasRoom before.machine spare) is room in
+    let long = end_long (state_of before.machine.processor) e in
+    let lacks : spare < length (end_lines (state_of before.machine.processor) e) = d.lacking in
     omega (arith, some, long, lacks)
-finish_lacks before e spare turns.On m was plan old new is d refused room = d
-finish_lacks before e spare (turns.Issued t) m was plan old new is d refused room = d
-finish_lacks before e spare (turns.End f) m was plan old new is d refused room = absurd (cc refused)
+finish_lacks before e spare turns.On after is d refused room = d
+finish_lacks before e spare (turns.Issued t) after is d refused room = d
+finish_lacks before e spare (turns.End f) after is d refused room = absurd (cc refused)
 
 -- and it is lacking still
-pub finish_still_lacks : (before : Machine) (e : Finish) (spare : ℕ) (answer : Turn) (m : Machine) (was plan : Plan) (old new : List Line) → next_for before was ≡ Ends e
-    → Finishes before e spare answer m was plan old new → answer ≡ turns.Memory → HasRoom m spare (next_for m plan) → ⊥
-finish_still_lacks before e spare turns.Memory m was plan old new is d refused room =
-    let ends = ap (next_for m) d.kept ∙ next_stays before m was d.same ∙ is in
-    let some : HasRoom m spare (Ends e) = subst (HasRoom m spare) ends room in
-    finish_lacks before e spare turns.Memory m was plan old new is d refused (subst (HasRoom before spare) (sym is) some)
-finish_still_lacks before e spare turns.On m was plan old new is d refused room = d
-finish_still_lacks before e spare (turns.Issued t) m was plan old new is d refused room = d
-finish_still_lacks before e spare (turns.End f) m was plan old new is d refused room = absurd (cc refused)
+pub finish_still_lacks : (before : Progress) (e : Finish) (spare : ℕ) (answer : Turn) (after : Progress) → next_for before.machine before.plan ≡ Ends e
+    → Finishes before e spare answer after → answer ≡ turns.Memory → HasRoom after.machine spare (next_for after.machine after.plan) → ⊥
+finish_still_lacks before e spare turns.Memory after is d refused room =
+    let ends = ap (next_for after.machine) d.kept ∙ next_stays before.machine after.machine before.plan d.same ∙ is in
+    let some : HasRoom after.machine spare (Ends e) = subst (HasRoom after.machine spare) ends room in
+    finish_lacks before e spare turns.Memory after is d refused (subst (HasRoom before.machine spare) (sym is) some)
+finish_still_lacks before e spare turns.On after is d refused room = d
+finish_still_lacks before e spare (turns.Issued t) after is d refused room = d
+finish_still_lacks before e spare (turns.End f) after is d refused room = absurd (cc refused)
 
-pub finish_fewer : (before : Machine) (e : Finish) (spare : ℕ) (answer : Turn) (m : Machine) (was plan : Plan) (old new : List Line) (left now : ℕ)
-    → Finishes before e spare answer m was plan old new → LeavesFewer answer left now
-finish_fewer before e spare (turns.End f) m was plan old new left now d = tt
-finish_fewer before e spare turns.Memory m was plan old new left now d = tt
-finish_fewer before e spare turns.On m was plan old new left now d = absurd d
-finish_fewer before e spare (turns.Issued t) m was plan old new left now d = absurd d
+pub finish_fewer : (before : Progress) (e : Finish) (spare : ℕ) (answer : Turn) (after : Progress) (left now : ℕ)
+    → Finishes before e spare answer after → LeavesFewer answer left now
+finish_fewer before e spare (turns.End f) after left now d = tt
+finish_fewer before e spare turns.Memory after left now d = tt
+finish_fewer before e spare turns.On after left now d = absurd d
+finish_fewer before e spare (turns.Issued t) after left now d = absurd d
 
-pub finish_issues : (before : Machine) (e : Finish) (spare : ℕ) (answer : Turn) (m : Machine) (was plan : Plan) (old new : List Line)
-    → Finishes before e spare answer m was plan old new → Issues before answer m was
-finish_issues before e spare (turns.End f) m was plan old new d = tt
-finish_issues before e spare turns.Memory m was plan old new d = tt
-finish_issues before e spare turns.On m was plan old new d = absurd d
-finish_issues before e spare (turns.Issued t) m was plan old new d = absurd d
+pub finish_issues : (before : Progress) (e : Finish) (spare : ℕ) (answer : Turn) (after : Progress)
+    → Finishes before e spare answer after → Issues before.machine answer after.machine before.plan
+finish_issues before e spare (turns.End f) after d = tt
+finish_issues before e spare turns.Memory after d = tt
+finish_issues before e spare turns.On after d = absurd d
+finish_issues before e spare (turns.Issued t) after d = absurd d
 
 -- an end that is answered from a machine that is the same
-pub like_finishes : (before mid : Machine) (e : Finish) (spare : ℕ) (answer : Turn) (m : Machine) (was plan : Plan) (old new : List Line) → IsLike before mid
-    → Finishes mid e spare answer m was plan old new → Finishes before e spare answer m was plan old new
-like_finishes before mid e spare (turns.End f) m was plan old new l d = (
+pub like_finishes : (before : Progress) (mid : Machine) (e : Finish) (spare : ℕ) (answer : Turn) (after : Progress) → IsLike before.machine mid
+    → Finishes (record before { machine = mid }) e spare answer after → Finishes before e spare answer after
+like_finishes before mid e spare (turns.End f) after l d = (
   d.0,
   record {
-    same = like_same before mid m l d.1.same;
+    same = like_same before.machine mid after.machine l d.1.same;
     ended = d.1.ended;
     behind = d.1.behind;
-    lines = d.1.lines ∙ ap (λ (p : Processor). map shown_of old ++ end_lines (state_of p) e) l.processor;
+    lines = d.1.lines ∙ ap (λ (p : Processor). map shown_of before.lines ++ end_lines (state_of p) e) l.processor;
   },
 )
-like_finishes before mid e spare turns.Memory m was plan old new l d = record {
-  same = like_same before mid m l d.same;
+like_finishes before mid e spare turns.Memory after l d = record {
+  same = like_same before.machine mid after.machine l d.same;
   ended = d.ended;
   kept = d.kept;
   lines = d.lines;
   lacking = subst (λ (p : Processor). spare < length (end_lines (state_of p) e)) l.processor d.lacking;
 }
-like_finishes before mid e spare turns.On m was plan old new l d = absurd d
-like_finishes before mid e spare (turns.Issued t) m was plan old new l d = absurd d
+like_finishes before mid e spare turns.On after l d = absurd d
+like_finishes before mid e spare (turns.Issued t) after l d = absurd d
 
 -- ---- an imprecise fault
 
@@ -192,47 +193,47 @@ late_next : (m : Machine) (plan : Plan) (f : Fault) → m.due ≡ dues.Entry f
     → next_for m plan ≡ next_by_entry (state_of m.processor) (entry_in (state_of m.processor) f)
 late_next m plan f is = ap (λ (d : Due). next_in m.length d (event_for m plan) (state_of m.processor)) is
 
-pub finish_overtakes : (before : Machine) (a spare : ℕ) (answer : Turn) (m : Machine) (was plan : Plan) (old new : List Line) → late_due before ≡ Some a
-    → Finishes before (finish (Imprecise a)) spare answer m was plan old new → Overtakes a before answer m was plan old new
-finish_overtakes before a spare (turns.End f) m was plan old new due d = record {
+pub finish_overtakes : (before : Progress) (a spare : ℕ) (answer : Turn) (after : Progress) → late_due before.machine ≡ Some a
+    → Finishes before (finish (Imprecise a)) spare answer after → Overtakes a before answer after
+finish_overtakes before a spare (turns.End f) after due d = record {
   is_end = sym d.0;
   same = d.1.same;
   ended = d.1.ended ∙ ap (λ (x : End). Some x) d.0;
-  kept = d.1.behind ∙ stays_at_end was (Imprecise a);
-  lines = d.1.lines ∙ ap (λ (x : End). map shown_of old ++ end_lines (state_of before.processor) (finish x)) d.0;
+  kept = d.1.behind ∙ stays_at_end before.plan (Imprecise a);
+  lines = d.1.lines ∙ ap (λ (x : End). map shown_of before.lines ++ end_lines (state_of before.machine.processor) (finish x)) d.0;
 }
-finish_overtakes before a spare turns.Memory m was plan old new due d =
-    let is = late_is_due before a due in
+finish_overtakes before a spare turns.Memory after due d =
+    let is = late_is_due before.machine a due in
     record {
       same = d.same;
       ended = d.ended;
       kept = d.kept;
       lines = d.lines;
-      needed = subst NeedsRoom (sym (late_next before was is.0 is.1)) (entry_needs (state_of before.processor) (entry_in (state_of before.processor) is.0));
+      needed = subst NeedsRoom (sym (late_next before.machine before.plan is.0 is.1)) (entry_needs (state_of before.machine.processor) (entry_in (state_of before.machine.processor) is.0));
     }
-finish_overtakes before a spare turns.On m was plan old new due d = absurd d
-finish_overtakes before a spare (turns.Issued t) m was plan old new due d = absurd d
+finish_overtakes before a spare turns.On after due d = absurd d
+finish_overtakes before a spare (turns.Issued t) after due d = absurd d
 
 -- there is no room for its line, whatever else there is room for
-late_lacks : (before k : Machine) (a spare : ℕ) (m : Machine) (was plan : Plan) (old new : List Line) → late_due before ≡ Some a
-    → Unfinished before (finish (Imprecise a)) spare m was plan old new → HasRoom k spare (next_for before was) → ⊥
-late_lacks before k a spare m was plan old new due d room =
-    let is = late_is_due before a due in
+late_lacks : (before : Progress) (k : Machine) (a spare : ℕ) (after : Progress) → late_due before.machine ≡ Some a
+    → Unfinished before (finish (Imprecise a)) spare after → HasRoom k spare (next_for before.machine before.plan) → ⊥
+late_lacks before k a spare after due d room =
+    let is = late_is_due before.machine a due in
     let lacks : spare < 1 = d.lacking in
-    let one = entry_room k spare (state_of before.processor) (entry_in (state_of before.processor) is.0) (subst (HasRoom k spare) (late_next before was is.0 is.1) room) in
+    let one = entry_room k spare (state_of before.machine.processor) (entry_in (state_of before.machine.processor) is.0) (subst (HasRoom k spare) (late_next before.machine before.plan is.0 is.1) room) in
     omega (arith, one, lacks)
 
-pub finish_lacks_late : (before : Machine) (a spare : ℕ) (answer : Turn) (m : Machine) (was plan : Plan) (old new : List Line) → late_due before ≡ Some a
-    → Finishes before (finish (Imprecise a)) spare answer m was plan old new → answer ≡ turns.Memory → HasRoom before spare (next_for before was) → ⊥
-finish_lacks_late before a spare turns.Memory m was plan old new due d refused room = late_lacks before before a spare m was plan old new due d room
-finish_lacks_late before a spare turns.On m was plan old new due d refused room = d
-finish_lacks_late before a spare (turns.Issued t) m was plan old new due d refused room = d
-finish_lacks_late before a spare (turns.End f) m was plan old new due d refused room = absurd (cc refused)
+pub finish_lacks_late : (before : Progress) (a spare : ℕ) (answer : Turn) (after : Progress) → late_due before.machine ≡ Some a
+    → Finishes before (finish (Imprecise a)) spare answer after → answer ≡ turns.Memory → HasRoom before.machine spare (next_for before.machine before.plan) → ⊥
+finish_lacks_late before a spare turns.Memory after due d refused room = late_lacks before before.machine a spare after due d room
+finish_lacks_late before a spare turns.On after due d refused room = d
+finish_lacks_late before a spare (turns.Issued t) after due d refused room = d
+finish_lacks_late before a spare (turns.End f) after due d refused room = absurd (cc refused)
 
-pub finish_still_lacks_late : (before : Machine) (a spare : ℕ) (answer : Turn) (m : Machine) (was plan : Plan) (old new : List Line) → late_due before ≡ Some a
-    → Finishes before (finish (Imprecise a)) spare answer m was plan old new → answer ≡ turns.Memory → HasRoom m spare (next_for m plan) → ⊥
-finish_still_lacks_late before a spare turns.Memory m was plan old new due d refused room =
-    late_lacks before m a spare m was plan old new due d (subst (HasRoom m spare) (ap (next_for m) d.kept ∙ next_stays before m was d.same) room)
-finish_still_lacks_late before a spare turns.On m was plan old new due d refused room = d
-finish_still_lacks_late before a spare (turns.Issued t) m was plan old new due d refused room = d
-finish_still_lacks_late before a spare (turns.End f) m was plan old new due d refused room = absurd (cc refused)
+pub finish_still_lacks_late : (before : Progress) (a spare : ℕ) (answer : Turn) (after : Progress) → late_due before.machine ≡ Some a
+    → Finishes before (finish (Imprecise a)) spare answer after → answer ≡ turns.Memory → HasRoom after.machine spare (next_for after.machine after.plan) → ⊥
+finish_still_lacks_late before a spare turns.Memory after due d refused room =
+    late_lacks before after.machine a spare after due d (subst (HasRoom after.machine spare) (ap (next_for after.machine) d.kept ∙ next_stays before.machine after.machine before.plan d.same) room)
+finish_still_lacks_late before a spare turns.On after due d refused room = d
+finish_still_lacks_late before a spare (turns.Issued t) after due d refused room = d
+finish_still_lacks_late before a spare (turns.End f) after due d refused room = absurd (cc refused)

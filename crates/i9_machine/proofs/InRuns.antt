@@ -10,10 +10,11 @@ use Rattle.i9_machine.specs.declared.machine.Machine.{Machine}
 use Rattle.i9_machine.specs.InRun.{IsInRun}
 use Rattle.i9_machine.specs.StandsFor.{StandsFor, Follows, FollowsUntil, DoesNext, Comes, Advances, AnswersAgain}
 use Rattle.i9_machine.specs.Turned.{steps_on, Turns}
+use Rattle.i9_machine.specs.Progress.{Progress}
 
-does_in_run : (g : Given) (h : List Item) (answer : Turn) (before m : Machine) (plan : Plan) (old new : List Line)
-    → DoesNext g h answer before m plan old new → IsInRun m plan
-does_in_run g h answer before m plan old new d = record {
+does_in_run : (g : Given) (h : List Item) (answer : Turn) (before after : Progress)
+    → DoesNext g h answer before after → IsInRun after.machine after.plan
+does_in_run g h answer before after d = record {
   given = g;
   items = Step d.done ∷ h;
   end = None;
@@ -22,34 +23,34 @@ does_in_run g h answer before m plan old new d = record {
 }
 
 -- what came next was done
-pub comes_in_run : (g : Given) (h : List Item) (answer : Turn) (before m : Machine) (plan : Plan) (old new : List Line)
-    → Comes g h answer before m plan old new → IsInRun m plan
-comes_in_run g h turns.On before m plan old new d = does_in_run g h turns.On before m plan old new d
-comes_in_run g h (turns.Issued t) before m plan old new d = does_in_run g h (turns.Issued t) before m plan old new d
-comes_in_run g h (turns.End e) before m plan old new d =
+pub comes_in_run : (g : Given) (h : List Item) (answer : Turn) (before after : Progress)
+    → Comes g h answer before after → IsInRun after.machine after.plan
+comes_in_run g h turns.On before after d = does_in_run g h turns.On before after d
+comes_in_run g h (turns.Issued t) before after d = does_in_run g h (turns.Issued t) before after d
+comes_in_run g h (turns.End e) before after d =
     record { given = g; items = h; end = Some d.finish; stands = d.stands; follows = tt }
-comes_in_run g h turns.Memory before m plan old new d =
+comes_in_run g h turns.Memory before after d =
     record { given = g; items = h; end = None; stands = d.stands; follows = d.follows }
 
 -- or the turn moved
-pub advances_in_run : (g : Given) (h : List Item) (answer : Turn) (before m : Machine) (plan : Plan) (old new : List Line)
-    → Advances g h answer before m plan old new → IsInRun m plan
-advances_in_run g h turns.On before m plan old new (inl w) =
+pub advances_in_run : (g : Given) (h : List Item) (answer : Turn) (before after : Progress)
+    → Advances g h answer before after → IsInRun after.machine after.plan
+advances_in_run g h turns.On before after (inl w) =
     record { given = g; items = h; end = None; stands = w.stands; follows = w.follows }
-advances_in_run g h turns.On before m plan old new (inr d) = comes_in_run g h turns.On before m plan old new d
-advances_in_run g h (turns.Issued t) before m plan old new d = comes_in_run g h (turns.Issued t) before m plan old new d
-advances_in_run g h (turns.End e) before m plan old new d = comes_in_run g h (turns.End e) before m plan old new d
-advances_in_run g h turns.Memory before m plan old new d = comes_in_run g h turns.Memory before m plan old new d
+advances_in_run g h turns.On before after (inr d) = comes_in_run g h turns.On before after d
+advances_in_run g h (turns.Issued t) before after d = comes_in_run g h (turns.Issued t) before after d
+advances_in_run g h (turns.End e) before after d = comes_in_run g h (turns.End e) before after d
+advances_in_run g h turns.Memory before after d = comes_in_run g h turns.Memory before after d
 
 -- a whole turn
-pub turns_in_run : (g : Given) (h : List Item) (answer : Turn) (before m : Machine) (plan : Plan) (old new : List Line)
-    → Turns g h answer before m plan old new → IsInRun m plan
-turns_in_run g h turns.On before m plan old new d =
+pub turns_in_run : (g : Given) (h : List Item) (answer : Turn) (before after : Progress)
+    → Turns g h answer before after → IsInRun after.machine after.plan
+turns_in_run g h turns.On before after d =
     record { given = g; items = steps_on d.done h; end = None; stands = d.stands; follows = d.follows }
-turns_in_run g h (turns.Issued t) before m plan old new d = absurd d
-turns_in_run g h (turns.End e) before m plan old new d =
+turns_in_run g h (turns.Issued t) before after d = absurd d
+turns_in_run g h (turns.End e) before after d =
     record { given = g; items = steps_on d.done h; end = Some d.finish; stands = d.stands; follows = tt }
-turns_in_run g h turns.Memory before m plan old new d =
+turns_in_run g h turns.Memory before after d =
     record { given = g; items = steps_on d.since.done h; end = None; stands = d.since.stands; follows = d.since.follows }
 
 -- whether an end was answered before or none

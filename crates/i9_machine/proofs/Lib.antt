@@ -12,6 +12,7 @@ pub mod Ending
 pub mod Stepping
 pub mod Showing
 pub mod Settling
+pub mod Told
 pub mod Turned
 pub mod Levels
 pub mod Timely

@@ -30,6 +30,7 @@ use Rattle.i9_machine.specs.declared.step.Coming.{Coming}
 use Rattle.i9_machine.specs.declared.step.Coming.TheVariants.{Waiting, Overtaking, Running, Faulting}
 use Rattle.i9_machine.specs.Coming.{Overtaken, Overtakes, Came, ArrivesAt, overtaken_by}
 use Rattle.i9_machine.specs.StandsFor.{StandsFor, Follows, DoesNext, EndsRun, IsRefused, Comes, Advances, left_after, FollowsTo}
+use Rattle.i9_machine.specs.Progress.{Progress}
 use Rattle.i9_machine.proofs.Performing.{like_stands}
 use Rattle.i9_machine.proofs.Issuing.{same_need, waits_for_none, issued_lands, issued_shaded, left_less, issued_paced}
 use Rattle.i9_model.specs.declared.event.Event.{Event}
@@ -113,34 +114,34 @@ follows_next g h was plan r q follows same behind = record {
 one_record : (r q : Record) → Does r ≡ Does q → r ≡ q
 one_record r q e = cc
 
-did : (g : Given) (h : List Item) (before : Machine) (answer : Turn) (m : Machine) (was plan : Plan) (old new : List Line) → StandsFor g h None before → Follows g h was → (ahead g h).imprecise ≡ None → (ahead g h).turn ≤ before.turn → Did before answer m was plan old new → IssuesNext before m was → DoesNext g h answer before m plan old new
-did g h before answer m was plan old new stands follows precise now d i =
+did : (g : Given) (h : List Item) (before : Progress) (answer : Turn) (after : Progress) → StandsFor g h None before.machine → Follows g h before.plan → (ahead g h).imprecise ≡ None → (ahead g h).turn ≤ before.machine.turn → Did before answer after → IssuesNext before.machine after.machine before.plan → DoesNext g h answer before after
+did g h before answer after stands follows precise now d i =
     let q = d.done in
     let need_now = i.need in
-    let one = one_record (record_of i.kind (state_of before.processor)) q (sym i.is_next ∙ d.is_next) in
-    let is_need_now : need_now ≡ need_of (size_of before.processor) (cache_of before.processor) (state_of before.processor) q.kind =
-    i.is_need ∙ ap (λ (x : Record). need_of (size_of before.processor) (cache_of before.processor) (state_of before.processor) x.kind) one in
-    let issued_now : IsIssued before need_now (action_done q) m = subst (λ (x : Record). IsIssued before need_now (action_done x) m) one i.issued in
+    let one = one_record (record_of i.kind (state_of before.machine.processor)) q (sym i.is_next ∙ d.is_next) in
+    let is_need_now : need_now ≡ need_of (size_of before.machine.processor) (cache_of before.machine.processor) (state_of before.machine.processor) q.kind =
+    i.is_need ∙ ap (λ (x : Record). need_of (size_of before.machine.processor) (cache_of before.machine.processor) (state_of before.machine.processor) x.kind) one in
+    let issued_now : IsIssued before.machine need_now (action_done q) after.machine = subst (λ (x : Record). IsIssued before.machine need_now (action_done x) after.machine) one i.issued in
     let rs = records_of h in
-    let found = does_alike (comes_next g h) (next_for before was) q (beside g h before was stands follows) d.is_next in
+    let found = does_alike (comes_next g h) (next_for before.machine before.plan) q (beside g h before.machine before.plan stands follows) d.is_next in
     let r = found.0 in
     let same = found.2 in
-    let after = alike_trans r.after q.after (state_of m.processor) same.after d.state in
-    let free = next_free before.length before.due (event_for before was) (state_of before.processor) q d.is_next in
+    let alike = alike_trans r.after q.after (state_of after.machine.processor) same.after d.state in
+    let free = next_free before.machine.length before.machine.due (event_for before.machine before.plan) (state_of before.machine.processor) q d.is_next in
     let run = next_free g.length (due_after rs) (event_ahead g h) (state_after g rs) r found.1 in
-    let cache = cache_next g h before m r q stands same run (ap (λ (u : State). u.memory.mcon) after.rest) d.cache in
-    let need = same_need g h before r q need_now stands same (ap (λ (x : Record). x.before) run.0) (ap (λ (x : Record). x.before) free.0) is_need_now in
-    let lands = issued_lands g h before m r q need_now stands found.1 same precise now need issued_now after cache in
-    let count : (state_of before.processor).count ≡ (state_after g rs).count = ap (λ (u : State). u.count) stands.state.rest in
-    let below : (state_of before.processor).count ≤ before.length = before.below in
-    let length : before.length ≡ g.length = stands.length in
+    let cache = cache_next g h before.machine after.machine r q stands same run (ap (λ (u : State). u.memory.mcon) alike.rest) d.cache in
+    let need = same_need g h before.machine r q need_now stands same (ap (λ (x : Record). x.before) run.0) (ap (λ (x : Record). x.before) free.0) is_need_now in
+    let lands = issued_lands g h before.machine after.machine r q need_now stands found.1 same precise now need issued_now alike cache in
+    let count : (state_of before.machine.processor).count ≡ (state_after g rs).count = ap (λ (u : State). u.count) stands.state.rest in
+    let below : (state_of before.machine.processor).count ≤ before.machine.length = before.machine.below in
+    let length : before.machine.length ≡ g.length = stands.length in
     let less = left_less g h r (omega (arith, count, below, length)) found.1 in
-    let none = ap (λ (n : Need). n.not_before) is_need_now ∙ waits_for_none (size_of before.processor) (cache_of before.processor) (state_of before.processor) q.kind in
-    let wait : m.wait ≡ before.wait = issued_now.wait in
-    let early : before.wait ≤ (ahead g h).turn = stands.early in
-    let turn : m.turn ≡ before.turn = issued_now.turn in
-    let in_time : m.turn ≤ (ahead g (Step r ∷ h)).turn = lands.in_time in
-    let in_time_was : before.turn ≤ (ahead g h).turn = stands.lands.in_time in
+    let none = ap (λ (n : Need). n.not_before) is_need_now ∙ waits_for_none (size_of before.machine.processor) (cache_of before.machine.processor) (state_of before.machine.processor) q.kind in
+    let wait : after.machine.wait ≡ before.machine.wait = issued_now.wait in
+    let early : before.machine.wait ≤ (ahead g h).turn = stands.early in
+    let turn : after.machine.turn ≡ before.machine.turn = issued_now.turn in
+    let in_time : after.machine.turn ≤ (ahead g (Step r ∷ h)).turn = lands.in_time in
+    let in_time_was : before.machine.turn ≤ (ahead g h).turn = stands.lands.in_time in
     record {
       done = r;
       is_next = found.1;
@@ -148,21 +149,21 @@ did g h before answer m was plan old new stands follows precise now d i =
       turn = turn;
       stands = record {
         past = (stands.past, precise, found.1);
-        state = after;
-        size = size_next g h before m r q stands same free d.size;
+        state = alike;
+        size = size_next g h before.machine after.machine r q stands same free d.size;
         cache = cache;
         lands = lands;
-        shaded = issued_shaded g h before m r q need_now stands found.1 same precise now need issued_now after cache;
+        shaded = issued_shaded g h before.machine after.machine r q need_now stands found.1 same precise now need issued_now alike cache;
         early = omega (arith, wait, early, turn, now, in_time);
-        paced = issued_paced before m need_now (action_done q) (left_after g rs) (left_after g (r ∷ rs)) issued_now none less stands.paced;
+        paced = issued_paced before.machine after.machine need_now (action_done q) (left_after g rs) (left_after g (r ∷ rs)) issued_now none less stands.paced;
         due = d.due ∙ due_alike r q same;
         length = d.length ∙ stands.length;
         sets = d.sets ∙ stands.sets;
         ended = d.ended;
         over = tt;
       };
-      follows = follows_next g h was plan r q follows same d.behind;
-      lines = d.lines ∙ ap (λ (ls : List Shown). map shown_of old ++ ls) (lines_alike r q same);
+      follows = follows_next g h before.plan after.plan r q follows same d.behind;
+      lines = d.lines ∙ ap (λ (ls : List Shown). map shown_of before.lines ++ ls) (lines_alike r q same);
       tells = tells_alike r.kind r.before q.before answer same.before same.words (subst (λ (k : Kind). TellsRecord k q.before answer) same.kind d.tells);
     }
 
@@ -185,9 +186,9 @@ follows_end g h before was plan f stands follows behind = record {
     last_long k n (Some e) = refl
 
 -- what has ended the run stands for it
-over_run : (g : Given) (h : List Item) (before : Machine) (f : Finish) (e : End) (m : Machine) (was plan : Plan) (old new : List Line) → StandsFor g h None before → Follows g h was
-    → end_ahead g h ≡ Some f → f.end ≡ e → (ahead g h).turn ≡ before.turn → Finished before f m was plan old new → EndsRun g h e before m plan old new
-over_run g h before f e m was plan old new stands follows is_end answers now d =
+over_run : (g : Given) (h : List Item) (before : Progress) (f : Finish) (e : End) (after : Progress) → StandsFor g h None before.machine → Follows g h before.plan
+    → end_ahead g h ≡ Some f → f.end ≡ e → (ahead g h).turn ≡ before.machine.turn → Finished before f after → EndsRun g h e before after
+over_run g h before f e after stands follows is_end answers now d =
     let s = state_after g (records_of h) in
     record {
       finish = f;
@@ -195,28 +196,28 @@ over_run g h before f e m was plan old new stands follows is_end answers now d =
       is_end = is_end;
       now = now;
       turn = d.same.unmoved.turn;
-      stands = same_stands g h before m (Some f) d.same d.ended is_end stands;
-      follows = follows_end g h before was plan f stands follows d.behind;
-      lines = d.lines ∙ ap (λ (ls : List Shown). map shown_of old ++ ls) (end_alike s (state_of before.processor) f stands.state);
+      stands = same_stands g h before.machine after.machine (Some f) d.same d.ended is_end stands;
+      follows = follows_end g h before.machine before.plan after.plan f stands follows d.behind;
+      lines = d.lines ∙ ap (λ (ls : List Shown). map shown_of before.lines ++ ls) (end_alike s (state_of before.machine.processor) f stands.state);
     }
 
 -- an imprecise fault has ended it
-overtaken_run : (g : Given) (h : List Item) (a : ℕ) (before : Machine) (e : End) (m : Machine) (was plan : Plan) (old new : List Line) → StandsFor g h None before → Follows g h was
-    → (ahead g h).imprecise ≡ Some a → (ahead g h).turn ≤ before.turn → Overtaken a before e m was plan old new → EndsRun g h e before m plan old new
-overtaken_run g h a before e m was plan old new stands follows late now d =
-    let in_time : before.turn ≤ (ahead g h).turn = stands.lands.in_time in
+overtaken_run : (g : Given) (h : List Item) (a : ℕ) (before : Progress) (e : End) (after : Progress) → StandsFor g h None before.machine → Follows g h before.plan
+    → (ahead g h).imprecise ≡ Some a → (ahead g h).turn ≤ before.machine.turn → Overtaken a before e after → EndsRun g h e before after
+overtaken_run g h a before e after stands follows late now d =
+    let in_time : before.machine.turn ≤ (ahead g h).turn = stands.lands.in_time in
     let is_end : end_ahead g h ≡ Some (finish e) =
     ap (λ (o : Option ℕ). finish_by o (comes_next g h)) late ∙ ap (λ (x : End). Some (finish x)) (sym d.is_end) in
-    over_run g h before (finish e) e m was plan old new stands follows is_end refl (omega (arith, now, in_time))
-    (record { same = d.same; ended = d.ended; behind = d.kept ∙ sym (stays_at_end was e); lines = d.lines })
+    over_run g h before (finish e) e after stands follows is_end refl (omega (arith, now, in_time))
+    (record { same = d.same; ended = d.ended; behind = d.kept ∙ sym (stays_at_end before.plan e); lines = d.lines })
 
-ended_run : (g : Given) (h : List Item) (before : Machine) (e : End) (m : Machine) (was plan : Plan) (old new : List Line) → StandsFor g h None before → Follows g h was → (ahead g h).imprecise ≡ None → (ahead g h).turn ≤ before.turn → Ended before e m was plan old new → EndsRun g h e before m plan old new
-ended_run g h before e m was plan old new stands follows precise now d =
-    let in_time : before.turn ≤ (ahead g h).turn = stands.lands.in_time in
-    let next_end = ends_alike (comes_next g h) (next_for before was) d.finish (beside g h before was stands follows) d.is_end in
+ended_run : (g : Given) (h : List Item) (before : Progress) (e : End) (after : Progress) → StandsFor g h None before.machine → Follows g h before.plan → (ahead g h).imprecise ≡ None → (ahead g h).turn ≤ before.machine.turn → Ended before e after → EndsRun g h e before after
+ended_run g h before e after stands follows precise now d =
+    let in_time : before.machine.turn ≤ (ahead g h).turn = stands.lands.in_time in
+    let next_end = ends_alike (comes_next g h) (next_for before.machine before.plan) d.finish (beside g h before.machine before.plan stands follows) d.is_end in
     let is_end : end_ahead g h ≡ Some d.finish =
     ap (λ (o : Option ℕ). finish_by o (comes_next g h)) precise ∙ ap ended_by next_end in
-    over_run g h before d.finish e m was plan old new stands follows is_end d.answers (omega (arith, now, in_time)) d.finished
+    over_run g h before d.finish e after stands follows is_end d.answers (omega (arith, now, in_time)) d.finished
 
 abbrev needs_by : List Shown → Action → Type 0
 needs_by ls a = (nat_lt 0 (length ls) || (has_writes a || is_restart a.control)) ≡ true
@@ -228,14 +229,14 @@ needs_alike (Does r) (Ends g) alike needs = absurd alike
 needs_alike (Does r) (Does q) alike needs =
     subst (needs_by (record_lines r)) (done_alike r q alike) (subst (λ (ls : List Shown). needs_by ls (action_done q)) (lines_alike r q alike) needs)
 
-refused : (g : Given) (h : List Item) (before : Machine) (m : Machine) (was plan : Plan) (old new : List Line) → StandsFor g h None before → Follows g h was → (ahead g h).turn ≤ before.turn → Refused before m was plan old new → IsRefused g h before m plan old new
-refused g h before m was plan old new stands follows now d = record {
-  now = (let in_time : before.turn ≤ (ahead g h).turn = stands.lands.in_time in omega (arith, now, in_time));
+refused : (g : Given) (h : List Item) (before : Progress) (after : Progress) → StandsFor g h None before.machine → Follows g h before.plan → (ahead g h).turn ≤ before.machine.turn → Refused before after → IsRefused g h before after
+refused g h before after stands follows now d = record {
+  now = (let in_time : before.machine.turn ≤ (ahead g h).turn = stands.lands.in_time in omega (arith, now, in_time));
   turn = d.same.unmoved.turn;
-  stands = same_stands g h before m None d.same d.ended tt stands;
+  stands = same_stands g h before.machine after.machine None d.same d.ended tt stands;
   follows = subst (Follows g h) (sym d.kept) follows;
   lines = d.lines;
-  needed = needs_alike (comes_next g h) (next_for before was) (beside g h before was stands follows) d.needed;
+  needed = needs_alike (comes_next g h) (next_for before.machine before.plan) (beside g h before.machine before.plan stands follows) d.needed;
 }
 
 -- room for what comes next in the run is room for what comes next for the machine
@@ -260,27 +261,27 @@ kept_room before m spare (Does r) keeps room = record { lines = room.lines; effe
 -- ---- what came next
 
 -- what a step did, whose turn has come
-did_comes : (g : Given) (h : List Item) (before : Machine) (answer : Turn) (m : Machine) (was plan : Plan) (old new : List Line) → StandsFor g h None before → Follows g h was → (ahead g h).imprecise ≡ None → (ahead g h).turn ≤ before.turn → Steps before answer m was plan old new × Issues before answer m was → Comes g h answer before m plan old new
-did_comes g h before turns.On m was plan old new stands follows precise now d = did g h before turns.On m was plan old new stands follows precise now d.0 d.1
-did_comes g h before (turns.Issued t) m was plan old new stands follows precise now d = did g h before (turns.Issued t) m was plan old new stands follows precise now d.0 d.1
-did_comes g h before (turns.End e) m was plan old new stands follows precise now d = ended_run g h before e m was plan old new stands follows precise now d.0
-did_comes g h before turns.Memory m was plan old new stands follows precise now d = refused g h before m was plan old new stands follows now d.0
+did_comes : (g : Given) (h : List Item) (before : Progress) (answer : Turn) (after : Progress) → StandsFor g h None before.machine → Follows g h before.plan → (ahead g h).imprecise ≡ None → (ahead g h).turn ≤ before.machine.turn → Steps before answer after × Issues before.machine answer after.machine before.plan → Comes g h answer before after
+did_comes g h before turns.On after stands follows precise now d = did g h before turns.On after stands follows precise now d.0 d.1
+did_comes g h before (turns.Issued t) after stands follows precise now d = did g h before (turns.Issued t) after stands follows precise now d.0 d.1
+did_comes g h before (turns.End e) after stands follows precise now d = ended_run g h before e after stands follows precise now d.0
+did_comes g h before turns.Memory after stands follows precise now d = refused g h before after stands follows now d.0
 
-overtakes_comes : (g : Given) (h : List Item) (a : ℕ) (before : Machine) (answer : Turn) (m : Machine) (was plan : Plan) (old new : List Line) → StandsFor g h None before → Follows g h was → (ahead g h).imprecise ≡ Some a → (ahead g h).turn ≤ before.turn → Overtakes a before answer m was plan old new → Comes g h answer before m plan old new
-overtakes_comes g h a before turns.On m was plan old new stands follows late now d = absurd d
-overtakes_comes g h a before (turns.Issued t) m was plan old new stands follows late now d = absurd d
-overtakes_comes g h a before (turns.End e) m was plan old new stands follows late now d = overtaken_run g h a before e m was plan old new stands follows late now d
-overtakes_comes g h a before turns.Memory m was plan old new stands follows late now d = refused g h before m was plan old new stands follows now d
+overtakes_comes : (g : Given) (h : List Item) (a : ℕ) (before : Progress) (answer : Turn) (after : Progress) → StandsFor g h None before.machine → Follows g h before.plan → (ahead g h).imprecise ≡ Some a → (ahead g h).turn ≤ before.machine.turn → Overtakes a before answer after → Comes g h answer before after
+overtakes_comes g h a before turns.On after stands follows late now d = absurd d
+overtakes_comes g h a before (turns.Issued t) after stands follows late now d = absurd d
+overtakes_comes g h a before (turns.End e) after stands follows late now d = overtaken_run g h a before e after stands follows late now d
+overtakes_comes g h a before turns.Memory after stands follows late now d = refused g h before after stands follows now d
 
-pub came_comes : (g : Given) (h : List Item) (coming : Coming) (before : Machine) (answer : Turn) (m : Machine) (was plan : Plan) (old new : List Line) → StandsFor g h None before → Follows g h was → (ahead g h).imprecise ≡ overtaken_by coming → (ahead g h).turn ≤ before.turn → Came coming before answer m was plan old new → Comes g h answer before m plan old new
-came_comes g h (Waiting read) before answer m was plan old new stands follows fault now d = did_comes g h before answer m was plan old new stands follows fault now d
-came_comes g h (Overtaking a) before answer m was plan old new stands follows fault now d = overtakes_comes g h a before answer m was plan old new stands follows fault now d
-came_comes g h Running before answer m was plan old new stands follows fault now d = did_comes g h before answer m was plan old new stands follows fault now d
-came_comes g h (Faulting number) before answer m was plan old new stands follows fault now d = did_comes g h before answer m was plan old new stands follows fault now d
+pub came_comes : (g : Given) (h : List Item) (coming : Coming) (before : Progress) (answer : Turn) (after : Progress) → StandsFor g h None before.machine → Follows g h before.plan → (ahead g h).imprecise ≡ overtaken_by coming → (ahead g h).turn ≤ before.machine.turn → Came coming before answer after → Comes g h answer before after
+came_comes g h (Waiting read) before answer after stands follows fault now d = did_comes g h before answer after stands follows fault now d
+came_comes g h (Overtaking a) before answer after stands follows fault now d = overtakes_comes g h a before answer after stands follows fault now d
+came_comes g h Running before answer after stands follows fault now d = did_comes g h before answer after stands follows fault now d
+came_comes g h (Faulting number) before answer after stands follows fault now d = did_comes g h before answer after stands follows fault now d
 
 -- it is said of its turn alone from which machine it came
-does_from : (g : Given) (h : List Item) (answer : Turn) (before mid m : Machine) (plan : Plan) (old new : List Line) → mid.turn ≡ before.turn → DoesNext g h answer mid m plan old new → DoesNext g h answer before m plan old new
-does_from g h answer before mid m plan old new same d = record {
+does_from : (g : Given) (h : List Item) (answer : Turn) (before : Progress) (mid : Machine) (after : Progress) → mid.turn ≡ before.machine.turn → DoesNext g h answer (record before { machine = mid }) after → DoesNext g h answer before after
+does_from g h answer before mid after same d = record {
   done = d.done;
   is_next = d.is_next;
   now = d.now ∙ same;
@@ -291,10 +292,10 @@ does_from g h answer before mid m plan old new same d = record {
   tells = d.tells;
 }
 
-comes_from : (g : Given) (h : List Item) (answer : Turn) (before mid m : Machine) (plan : Plan) (old new : List Line) → mid.turn ≡ before.turn → Comes g h answer mid m plan old new → Comes g h answer before m plan old new
-comes_from g h turns.On before mid m plan old new same d = does_from g h turns.On before mid m plan old new same d
-comes_from g h (turns.Issued t) before mid m plan old new same d = does_from g h (turns.Issued t) before mid m plan old new same d
-comes_from g h (turns.End e) before mid m plan old new same d = record {
+comes_from : (g : Given) (h : List Item) (answer : Turn) (before : Progress) (mid : Machine) (after : Progress) → mid.turn ≡ before.machine.turn → Comes g h answer (record before { machine = mid }) after → Comes g h answer before after
+comes_from g h turns.On before mid after same d = does_from g h turns.On before mid after same d
+comes_from g h (turns.Issued t) before mid after same d = does_from g h (turns.Issued t) before mid after same d
+comes_from g h (turns.End e) before mid after same d = record {
   finish = d.finish;
   answers = d.answers;
   is_end = d.is_end;
@@ -304,7 +305,7 @@ comes_from g h (turns.End e) before mid m plan old new same d = record {
   follows = d.follows;
   lines = d.lines;
 }
-comes_from g h turns.Memory before mid m plan old new same d = record {
+comes_from g h turns.Memory before mid after same d = record {
   now = d.now ∙ same;
   turn = d.turn ∙ same;
   stands = d.stands;
@@ -313,17 +314,17 @@ comes_from g h turns.Memory before mid m plan old new same d = record {
   needed = d.needed;
 }
 
-comes_advances : (g : Given) (h : List Item) (answer : Turn) (before m : Machine) (plan : Plan) (old new : List Line) → Comes g h answer before m plan old new → Advances g h answer before m plan old new
-comes_advances g h turns.On before m plan old new d = inr d
-comes_advances g h (turns.Issued t) before m plan old new d = d
-comes_advances g h (turns.End e) before m plan old new d = d
-comes_advances g h turns.Memory before m plan old new d = d
+comes_advances : (g : Given) (h : List Item) (answer : Turn) (before after : Progress) → Comes g h answer before after → Advances g h answer before after
+comes_advances g h turns.On before after d = inr d
+comes_advances g h (turns.Issued t) before after d = d
+comes_advances g h (turns.End e) before after d = d
+comes_advances g h turns.Memory before after d = d
 
 -- what came next from a machine that is the same but for what is planned
-pub came_advances : (g : Given) (h : List Item) (t : ℕ) (coming : Coming) (before mid : Machine) (answer : Turn) (m : Machine) (was plan : Plan) (old new : List Line) → StandsFor g h None before → Follows g h was → IsLike before mid → t ≤ mid.turn → ArrivesAt g h before t coming → Came coming mid answer m was plan old new → Advances g h answer before m plan old new
-came_advances g h t coming before mid answer m was plan old new stands follows like come arrives d =
-    let turn : (ahead g h).turn ≡ max before.turn t = arrives.turn in
-    let same : mid.turn ≡ before.turn = like.turn in
-    comes_advances g h answer before m plan old new
-    (comes_from g h answer before mid m plan old new same
-    (came_comes g h coming mid answer m was plan old new (like_stands g h before mid like stands) follows arrives.imprecise (omega (arith, turn, same, come)) d))
+pub came_advances : (g : Given) (h : List Item) (t : ℕ) (coming : Coming) (before : Progress) (mid : Machine) (answer : Turn) (after : Progress) → StandsFor g h None before.machine → Follows g h before.plan → IsLike before.machine mid → t ≤ mid.turn → ArrivesAt g h before.machine t coming → Came coming (record before { machine = mid }) answer after → Advances g h answer before after
+came_advances g h t coming before mid answer after stands follows like come arrives d =
+    let turn : (ahead g h).turn ≡ max before.machine.turn t = arrives.turn in
+    let same : mid.turn ≡ before.machine.turn = like.turn in
+    comes_advances g h answer before after
+    (comes_from g h answer before mid after same
+    (came_comes g h coming (record before { machine = mid }) answer after (like_stands g h before.machine mid like stands) follows arrives.imprecise (omega (arith, turn, same, come)) d))

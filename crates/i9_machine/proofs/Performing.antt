@@ -43,9 +43,10 @@ use Rattle.i9_machine.specs.declared.machine.Machine.{Machine}
 use Rattle.i9_machine.specs.declared.step.Step.{Step}
 use Rattle.i9_machine.specs.Overtaking.{HasPace}
 use Rattle.i9_machine.specs.Issuing.{kernel_of, IsPaced, IsPlaced, IsIssued, IsUnmoved, IsLike, IsMoved, CanActPlaced}
-use Rattle.i9_machine.specs.Step.{TellsRecord, NeedsRoom, HasRoom, IsStepIn, IsStepWhere, IsStep, IsPlannedIn, IsPlanned, IsSame, Did, Steps, IssuesNext, Issues, event_for, next_for, records_left, steps_left}
+use Rattle.i9_machine.specs.Step.{TellsRecord, NeedsRoom, HasRoom, Situation, situation, IsStepIn, IsStepWhere, IsStep, IsPlannedIn, IsPlanned, IsSame, Did, Steps, IssuesNext, Issues, event_for, next_for, records_left, steps_left}
 use Rattle.i9_machine.specs.StandsFor.{StandsFor, HasCome, LeavesFewer}
 use Rattle.i9_machine.specs.Line.{shown_of}
+use Rattle.i9_machine.specs.Progress.{Progress}
 use Rattle.i9_machine.proofs.Stepping.{move_fewer, step_where}
 use Rattle.i9_machine.proofs.Turning.{same_left, paced_turn}
 use Rattle.i9_machine.proofs.Issuing.{same_need, clear_need, placed_done}
@@ -216,17 +217,17 @@ like_issues before mid m (turns.Issued t) plan l i = like_issues_next before mid
 like_issues before mid m (turns.End e) plan l i = tt
 like_issues before mid m turns.Memory plan l i = tt
 
-like_did : (before mid m : Machine) (answer : Turn) (was plan : Plan) (old new : List Line) → IsLike before mid → Did mid answer m was plan old new
-    → Did before answer m was plan old new
-like_did before mid m answer was plan old new l d = record {
+like_did : (before : Progress) (mid : Machine) (after : Progress) (answer : Turn) → IsLike before.machine mid → Did (record before { machine = mid }) answer after
+    → Did before answer after
+like_did before mid after answer l d = record {
   done = d.done;
-  is_next = sym (like_next before mid was l) ∙ d.is_next;
+  is_next = sym (like_next before.machine mid before.plan l) ∙ d.is_next;
   state = d.state;
-  cache = d.cache ∙ ap (λ (p : Processor). cache_through p (action_done d.done) m.processor) l.processor;
+  cache = d.cache ∙ ap (λ (p : Processor). cache_through p (action_done d.done) after.machine.processor) l.processor;
   size =
       d.size
       ∙ ap (λ (n : Option ℕ). size_through n mid.processor (action_done d.done)) l.sets
-      ∙ ap (λ (p : Processor). size_through before.sets p (action_done d.done)) l.processor;
+      ∙ ap (λ (p : Processor). size_through before.machine.sets p (action_done d.done)) l.processor;
   due = d.due;
   length = d.length ∙ l.length;
   sets = d.sets ∙ l.sets;
@@ -258,37 +259,40 @@ like_same before mid m l s = record {
 }
 
 -- and what is done from it is done
-pub like_steps : (before mid m : Machine) (answer : Turn) (was plan : Plan) (old new : List Line) → IsLike before mid → Steps mid answer m was plan old new
-    → Steps before answer m was plan old new
-like_steps before mid m turns.On was plan old new l d = like_did before mid m turns.On was plan old new l d
-like_steps before mid m (turns.Issued t) was plan old new l d = like_did before mid m (turns.Issued t) was plan old new l d
-like_steps before mid m (turns.End e) was plan old new l d = record {
+pub like_steps : (before : Progress) (mid : Machine) (after : Progress) (answer : Turn) → IsLike before.machine mid → Steps (record before { machine = mid }) answer after
+    → Steps before answer after
+like_steps before mid after turns.On l d = like_did before mid after turns.On l d
+like_steps before mid after (turns.Issued t) l d = like_did before mid after (turns.Issued t) l d
+like_steps before mid after (turns.End e) l d = record {
   finish = d.finish;
   answers = d.answers;
-  is_end = sym (like_next before mid was l) ∙ d.is_end;
+  is_end = sym (like_next before.machine mid before.plan l) ∙ d.is_end;
   finished = record {
-    same = like_same before mid m l d.finished.same;
+    same = like_same before.machine mid after.machine l d.finished.same;
     ended = d.finished.ended;
     behind = d.finished.behind;
-    lines = d.finished.lines ∙ ap (λ (p : Processor). map shown_of old ++ end_lines (state_of p) d.finish) l.processor;
+    lines = d.finished.lines ∙ ap (λ (p : Processor). map shown_of before.lines ++ end_lines (state_of p) d.finish) l.processor;
   };
 }
-like_steps before mid m turns.Memory was plan old new l d = record {
-  same = like_same before mid m l d.same;
+like_steps before mid after turns.Memory l d = record {
+  same = like_same before.machine mid after.machine l d.same;
   ended = d.ended;
   kept = d.kept;
   lines = d.lines;
-  needed = subst NeedsRoom (like_next before mid was l) d.needed;
+  needed = subst NeedsRoom (like_next before.machine mid before.plan l) d.needed;
 }
 
 -- what comes next
+like_situation : (before mid : Machine) → IsLike before mid → situation mid ≡ situation before
+like_situation before mid l =
+    ap (λ (p : Processor). record { length = mid.length; due = mid.due; state = state_of p; size = size_of p; cache = cache_of p }) l.processor
+    ∙ ap (λ (n : ℕ). record (situation before) { length = n; due = mid.due }) l.length
+    ∙ ap (λ (d : Due). record (situation before) { due = d }) l.due
+
 pub like_step : (before mid : Machine) (plan : Plan) (step : Step) (need : Need) (e : Effect) → IsLike before mid → IsStep before plan step need e → IsStep mid plan step need e
 like_step before mid plan step need e l is =
-    let o = event_for before plan in
-    subst (λ (x : Option Event). IsStepIn mid.length mid.due (state_of mid.processor) (size_of mid.processor) (cache_of mid.processor) x plan step need e) (sym (like_event before mid plan l))
-    (subst (λ (n : ℕ). IsStepIn n mid.due (state_of mid.processor) (size_of mid.processor) (cache_of mid.processor) o plan step need e) (sym l.length)
-    (subst (λ (d : Due). IsStepIn before.length d (state_of mid.processor) (size_of mid.processor) (cache_of mid.processor) o plan step need e) (sym l.due)
-    (subst (λ (p : Processor). IsStepIn before.length before.due (state_of p) (size_of p) (cache_of p) o plan step need e) (sym l.processor) is)))
+    subst (λ (x : Option Event). IsStepIn (situation mid) x plan step need e) (sym (like_event before mid plan l))
+    (subst (λ (s : Situation). IsStepIn s (event_for before plan) plan step need e) (sym (like_situation before mid l)) is)
 
 -- a step that is planned comes next of the machine that has it
 pub like_planned : (before mid : Machine) (plan : Plan) (step : Step) → IsLike before mid → IsPlannedIn before plan step mid → IsPlanned mid plan step

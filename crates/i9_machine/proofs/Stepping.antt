@@ -38,6 +38,7 @@ use Rattle.i9_machine.specs.declared.machine.Machine.{Machine}
 use Rattle.i9_machine.specs.Step.{TellsRecord, NeedsRoom, IsStep, IsStepWhere, HasRoomToDo, HasRoom, turn_at, event_for, next_where, next_for, event_of, plan_behind, records_left, steps_left, Did, Steps}
 use Rattle.i9_machine.specs.StandsFor.{LeavesFewer}
 use Rattle.i9_machine.specs.Opening.{IsFreeToIssue}
+use Rattle.i9_machine.specs.Progress.{Progress}
 use Rattle.i9_course.specs.Course.{instruction_ahead}
 
 no_end : (k : Kind) (s : State) (e : End) → TellsRecord k s (turns.End e) → ⊥
@@ -54,11 +55,11 @@ no_memory (Entered x) s t = t
 no_memory (Interrupted c x) s t = t
 no_memory (Reached x u) s t = t
 
-pub did_steps : (before : Machine) (answer : Turn) (m : Machine) (was plan : Plan) (old new : List Line) (s : State) (k : Kind) → TellsRecord k s answer → Did before answer m was plan old new → Steps before answer m was plan old new
-did_steps before turns.On m was plan old new s k t d = d
-did_steps before (turns.Issued i) m was plan old new s k t d = d
-did_steps before (turns.End e) m was plan old new s k t d = absurd (no_end k s e t)
-did_steps before turns.Memory m was plan old new s k t d = absurd (no_memory k s t)
+pub did_steps : (before : Progress) (answer : Turn) (after : Progress) (s : State) (k : Kind) → TellsRecord k s answer → Did before answer after → Steps before answer after
+did_steps before turns.On after s k t d = d
+did_steps before (turns.Issued i) after s k t d = d
+did_steps before (turns.End e) after s k t d = absurd (no_end k s e t)
+did_steps before turns.Memory after s k t d = absurd (no_memory k s t)
 
 pub fewer_by : (answer : Turn) (s : State) (k : Kind) (before now : ℕ) → TellsRecord k s answer → now < before → LeavesFewer answer before now
 fewer_by turns.On s k before now t h = h

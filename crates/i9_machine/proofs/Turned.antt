@@ -15,7 +15,6 @@ use Rattle.i9_model.specs.Run.{Given, Next, state_after, Finish}
 use Rattle.i9_model.specs.State.{State, boot}
 use Rattle.i9_model.specs.Turns.{last_issue}
 use Rattle.i9_turns.proofs.LateRegisters.{cell-busy}
-use Rattle.i9_schedule.specs.Plan.{Plan}
 use Rattle.i9_course.specs.Course.{Item, Step, records_of, course, comes_next}
 use Rattle.i9_regs.proofs.Shown.{landed_busy}
 use Rattle.i9_processor.specs.State.{cells_of, bytes_of}
@@ -30,6 +29,7 @@ use Rattle.i9_machine.specs.declared.line.Turn.TheVariants as answers
 use Rattle.i9_machine.specs.declared.machine.Machine.{Machine}
 use Rattle.i9_machine.specs.Issuing.{kernel_of, IsQuiet}
 use Rattle.i9_machine.specs.Line.{AddsLines, shown_of}
+use Rattle.i9_machine.specs.Progress.{Progress}
 use Rattle.i9_machine.specs.Raw.{raw_at, IsFlushed, IsLevel}
 use Rattle.i9_machine.specs.StandsFor.{StandsFor, Follows, IsUnderWay, MovesOn, DoesNext, EndsRun, IsRefused, Advances}
 use Rattle.i9_machine.specs.NewPages.{AddsNextOnly, AddsRecordsOnly, with_next}
@@ -38,58 +38,59 @@ use Rattle.i9_machine.specs.Turned.{steps_on, Since, TurnsOn, EndsTurn, StopsTur
 
 -- ---- lines
 
-more_lines : (old mid new : List Line) (xs ys : List Shown) → AddsLines old mid xs → AddsLines mid new ys → AddsLines old new (xs ++ ys)
+pub more_lines : (old mid new : List Line) (xs ys : List Shown) → AddsLines old mid xs → AddsLines mid new ys → AddsLines old new (xs ++ ys)
 more_lines old mid new xs ys first then =
     then ∙ ap (λ (ls : List Shown). ls ++ ys) first ∙ append_assoc (map shown_of old) xs ys
 
-same_lines : (old mid new : List Line) (xs : List Shown) → AddsLines old mid xs → new ≡ mid → AddsLines old new xs
+pub same_lines : (old mid new : List Line) (xs : List Shown) → AddsLines old mid xs → new ≡ mid → AddsLines old new xs
 same_lines old mid new xs first same = ap (map shown_of) same ∙ first
 
 -- ---- steps
 
 -- records were done since a machine, and a page that is new is one of them
-abbrev pub SinceOnly : Given → List Item → Machine → Machine → Plan → List Line → List Line → Type 0
-SinceOnly g h before m plan old new = (since : Since g h before m plan old new) × AddsRecordsOnly before m since.done
+abbrev pub SinceOnly : Given → List Item → Progress → Progress → Type 0
+SinceOnly g h before after = (since : Since g h before after) × AddsRecordsOnly before.machine after.machine since.done
 
-pub none_done : (g : Given) (h : List Item) (m : Machine) (plan : Plan) (lines : List Line) → StandsFor g h None m → Follows g h plan
-    → SinceOnly g h m m plan lines lines
-none_done g h m plan lines stands follows = (
+pub none_done : (g : Given) (h : List Item) (at : Progress) → StandsFor g h None at.machine → Follows g h at.plan → SinceOnly g h at at
+none_done g h at stands follows = (
   record {
     done = [];
     turn = refl;
     stands = stands;
     follows = follows;
-    lines = sym (append-nil (map shown_of lines));
+    lines = sym (append-nil (map shown_of at.lines));
   },
-  no_records m,
+  no_records at.machine,
 )
 
-module _ (g : Given) (h : List Item) (before m : Machine) (was : Plan) (old mid : List Line)
-    (held : SinceOnly g h before m was old mid) (next : Machine) (plan : Plan) (new : List Line)
-    (only : AddsNextOnly m next (comes_next g (steps_on held.0.done h))) where
-  abbrev since : Since g h before m was old mid
+module _ (g : Given) (h : List Item) (before mid : Progress) (held : SinceOnly g h before mid) (after : Progress)
+    (only : AddsNextOnly mid.machine after.machine (comes_next g (steps_on held.0.done h))) where
+  abbrev since : Since g h before mid
   since = held.0
 
-  pages : AddsRecordsOnly before next (with_next (comes_next g (steps_on since.done h)) since.done)
-  pages = more_pages before m next since.done (comes_next g (steps_on since.done h)) held.1 only
+  abbrev items : List Item
+  items = steps_on since.done h
+
+  pages : AddsRecordsOnly before.machine after.machine (with_next (comes_next g items) since.done)
+  pages = more_pages before.machine mid.machine after.machine since.done (comes_next g items) held.1 only
 
   -- one more
-  pub does_since : (answer : Turn) → DoesNext g (steps_on since.done h) answer m next plan mid new → SinceOnly g h before next plan old new
+  pub does_since : (answer : Turn) → DoesNext g items answer mid after → SinceOnly g h before after
   does_since answer d = (
     record {
       done = d.done ∷ since.done;
       turn = d.turn ∙ since.turn;
       stands = d.stands;
       follows = d.follows;
-      lines = more_lines old mid new (lines_of since.done) (record_lines d.done) since.lines d.lines;
+      lines = more_lines before.lines mid.lines after.lines (lines_of since.done) (record_lines d.done) since.lines d.lines;
     },
-    subst (λ (n : Next). AddsRecordsOnly before next (with_next n since.done)) d.is_next pages,
+    subst (λ (n : Next). AddsRecordsOnly before.machine after.machine (with_next n since.done)) d.is_next pages,
   )
 
   -- the turn moves
-  pub turns_since : MovesOn g (steps_on since.done h) m next plan mid new → TurnsOn g h before next plan old new
+  pub turns_since : MovesOn g items mid after → TurnsOn g h before after
   turns_since d =
-      let turn : next.turn ≡ m.turn + 1 = d.turn in
+      let turn : after.machine.turn ≡ mid.machine.turn + 1 = d.turn in
       let begun = since.stands.lands.begun in
       record {
         done = since.done;
@@ -98,12 +99,12 @@ module _ (g : Given) (h : List Item) (before m : Machine) (was : Plan) (old mid 
         later = d.stands.lands.in_time;
         stands = d.stands;
         follows = d.follows;
-        lines = same_lines old mid new (lines_of since.done) since.lines d.lines;
+        lines = same_lines before.lines mid.lines after.lines (lines_of since.done) since.lines d.lines;
         pages = pages;
       }
 
   -- the run ends
-  pub ends_since : (e : End) → EndsRun g (steps_on since.done h) e m next plan mid new → EndsTurn g h e before next plan old new
+  pub ends_since : (e : End) → EndsRun g items e mid after → EndsTurn g h e before after
   ends_since e d = record {
     done = since.done;
     finish = d.finish;
@@ -113,45 +114,44 @@ module _ (g : Given) (h : List Item) (before m : Machine) (was : Plan) (old mid 
     now = d.now ∙ since.turn;
     stands = d.stands;
     follows = d.follows;
-    lines = more_lines old mid new (lines_of since.done) (end_lines (state_after g (records_of (steps_on since.done h))) d.finish) since.lines d.lines;
+    lines = more_lines before.lines mid.lines after.lines (lines_of since.done) (end_lines (state_after g (records_of items)) d.finish) since.lines d.lines;
     pages = pages;
   }
 
   -- memory is refused
-  pub stops_since : IsRefused g (steps_on since.done h) m next plan mid new → StopsTurn g h before next plan old new
+  pub stops_since : IsRefused g items mid after → StopsTurn g h before after
   stops_since d = record {
     since = record {
       done = since.done;
       turn = d.turn ∙ since.turn;
       stands = d.stands;
       follows = d.follows;
-      lines = same_lines old mid new (lines_of since.done) since.lines d.lines;
+      lines = same_lines before.lines mid.lines after.lines (lines_of since.done) since.lines d.lines;
     };
     needed = d.needed;
     pages = pages;
   }
 
   -- where the turn has risen it moved, and else an event or an entry was done
-  pub risen_since : Advances g (steps_on since.done h) answers.On m next plan mid new → (next.turn ≡ before.turn → ⊥) → TurnsOn g h before next plan old new
+  pub risen_since : Advances g items answers.On mid after → (after.machine.turn ≡ before.machine.turn → ⊥) → TurnsOn g h before after
   risen_since (inl moves) risen = turns_since moves
   risen_since (inr does) risen = absurd (risen (does.turn ∙ since.turn))
 
-  pub still_since : Advances g (steps_on since.done h) answers.On m next plan mid new → next.turn ≡ before.turn → SinceOnly g h before next plan old new
+  pub still_since : Advances g items answers.On mid after → after.machine.turn ≡ before.machine.turn → SinceOnly g h before after
   still_since (inl moves) still =
-      let turn : next.turn ≡ m.turn + 1 = moves.turn in
-      let was_turn : m.turn ≡ before.turn = since.turn in
+      let turn : after.machine.turn ≡ mid.machine.turn + 1 = moves.turn in
+      let was_turn : mid.machine.turn ≡ before.machine.turn = since.turn in
       absurd (omega (arith, turn, was_turn, still))
   still_since (inr does) still = does_since answers.On does
 
 -- a machine is still under way
-pub does_under_way : (g : Given) (h : List Item) (answer : Turn) (m next : Machine) (plan : Plan) (old new : List Line)
-    → DoesNext g h answer m next plan old new → IsUnderWay next plan
-does_under_way g h answer m next plan old new d = record { given = g; items = Step d.done ∷ h; stands = d.stands; follows = d.follows }
+pub does_under_way : (g : Given) (h : List Item) (answer : Turn) (before after : Progress) → DoesNext g h answer before after
+    → IsUnderWay after.machine after.plan
+does_under_way g h answer before after d = record { given = g; items = Step d.done ∷ h; stands = d.stands; follows = d.follows }
 
-pub still_under_way : (g : Given) (h : List Item) (m next : Machine) (plan : Plan) (old new : List Line)
-    → Advances g h answers.On m next plan old new → IsUnderWay next plan
-still_under_way g h m next plan old new (inl moves) = record { given = g; items = h; stands = moves.stands; follows = moves.follows }
-still_under_way g h m next plan old new (inr does) = does_under_way g h answers.On m next plan old new does
+pub still_under_way : (g : Given) (h : List Item) (before after : Progress) → Advances g h answers.On before after → IsUnderWay after.machine after.plan
+still_under_way g h before after (inl moves) = record { given = g; items = h; stands = moves.stands; follows = moves.follows }
+still_under_way g h before after (inr does) = does_under_way g h answers.On before after does
 
 -- ---- the raw state
 

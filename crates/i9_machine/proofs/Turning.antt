@@ -37,6 +37,7 @@ use Rattle.i9_machine.specs.Opening.{IsFreeToIssue, NextWaits}
 use Rattle.i9_machine.proofs.Stepping.{goes_by_itself}
 use Rattle.i9_turns.proofs.TurnPending.{stands-pending_turn}
 use Rattle.i9_machine.specs.Overtaking.{HasPace}
+use Rattle.i9_machine.specs.Progress.{progress}
 use Rattle.i9_course.proofs.Checks.{checked_waits}
 use Rattle.i9_course.proofs.Landed.{done_landed}
 use Rattle.i9_course.proofs.Barriers.{next_barrier}
@@ -131,7 +132,7 @@ moved_stands g h t before m wait stands later within bound i =
 -- by one
 pub moved : (g : Given) (h : List Item) (before m : Machine) (plan : Plan) (lines : List Line) (wait : ℕ)
     → StandsFor g h None before → Follows g h plan → before.turn < wait → wait ≤ (ahead g h).turn
-    → IsMoved (record before { wait = wait }) m → MovesOn g h before m plan lines lines
+    → IsMoved (record before { wait = wait }) m → MovesOn g h (progress before plan lines) (progress m plan lines)
 moved g h before m plan lines wait stands follows later bound i = record {
   early = omega (arith, later, bound);
   turn = i.turn;

@@ -17,7 +17,6 @@ use Rattle.i9_plan.specs.Kept.{inst_in, words_in}
 use Rattle.i9_plan.specs.Planned.{TellsWords, IsRead, AreRequestsInRow}
 use Rattle.i9_processor.specs.Effect.{IsEffect}
 use Rattle.i9_processor.specs.State.{state_of, cache_of, size_of}
-use Rattle.i9_machine.specs.declared.line.Line.{Line}
 use Rattle.i9_machine.specs.declared.line.Turn.{Turn}
 use Rattle.i9_machine.specs.declared.line.Turn.TheVariants as turns
 use Rattle.i9_machine.specs.declared.machine.Machine.{Machine}
@@ -27,6 +26,7 @@ use Rattle.i9_machine.specs.Issuing.{most_turns, IsEndTurn}
 use Rattle.i9_machine.specs.Line.{AddsLines}
 use Rattle.i9_machine.specs.Opening.{IsFreeToIssue, HasNeed}
 use Rattle.i9_machine.specs.Overtaking.{late_due}
+use Rattle.i9_machine.specs.Progress.{Progress}
 use Rattle.i9_machine.specs.Step.{event_for, next_where, IsSame, Refused, Steps, Issues}
 use Rattle.i9_machine.specs.StandsFor.{StandsFor, Follows}
 
@@ -110,21 +110,20 @@ pub record IsNextInstruction (m : Machine) (coming : Coming) : Type 0 where
 -- ---- what it has done
 
 -- the last record is an arithmetic fault at this address that an instruction overtook, which ended the run
-pub record Overtaken (a : ℕ) (before : Machine) (e : End) (m : Machine) (was plan : Plan)
-    (old new : List Line) : Type 0 where
+pub record Overtaken (a : ℕ) (before : Progress) (e : End) (after : Progress) : Type 0 where
   pub is_end : e ≡ Imprecise a
-  pub same : IsSame before m
-  pub ended : m.ended ≡ Some e
-  pub kept : plan ≡ was
-  pub lines : AddsLines old new (end_lines (state_of before.processor) (finish e))
+  pub same : IsSame before.machine after.machine
+  pub ended : after.machine.ended ≡ Some e
+  pub kept : after.plan ≡ before.plan
+  pub lines : AddsLines before.lines after.lines (end_lines (state_of before.machine.processor) (finish e))
 
 -- or there was no room for its line
-abbrev pub Overtakes : ℕ → Machine → Turn → Machine → Plan → Plan → List Line → List Line → Type 0
-Overtakes a before (turns.End e) m was plan old new = Overtaken a before e m was plan old new
-Overtakes a before turns.Memory m was plan old new = Refused before m was plan old new
-Overtakes a before _ m was plan old new = ⊥
+abbrev pub Overtakes : ℕ → Progress → Turn → Progress → Type 0
+Overtakes a before (turns.End e) after = Overtaken a before e after
+Overtakes a before turns.Memory after = Refused before after
+Overtakes a before _ after = ⊥
 
 -- what came next was done
-abbrev pub Came : Coming → Machine → Turn → Machine → Plan → Plan → List Line → List Line → Type 0
-Came (Overtaking a) before answer m was plan old new = Overtakes a before answer m was plan old new
-Came _ before answer m was plan old new = Steps before answer m was plan old new × Issues before answer m was
+abbrev pub Came : Coming → Progress → Turn → Progress → Type 0
+Came (Overtaking a) before answer after = Overtakes a before answer after
+Came _ before answer after = Steps before answer after × Issues before.machine answer after.machine before.plan

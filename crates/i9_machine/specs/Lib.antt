@@ -1,4 +1,5 @@
 pub mod Line
+pub mod Progress
 pub mod Issue
 pub mod Issuing
 pub mod Step

@@ -22,6 +22,7 @@ use Rattle.i9_machine.specs.declared.line.Turn.TheVariants as turns
 use Rattle.i9_machine.specs.declared.machine.Machine.{Machine}
 use Rattle.i9_machine.specs.Issuing.{kernel_of, IsPaced}
 use Rattle.i9_machine.specs.Line.{AddsLines}
+use Rattle.i9_machine.specs.Progress.{Progress}
 use Rattle.i9_machine.specs.Step.{TellsRecord, NeedsRoom, HasRoom}
 use Rattle.std.specs.Option.{option_map}
 
@@ -104,87 +105,81 @@ pub record HasCome (m : Machine) (plan : Plan) : Type 0 where
   pub now : (ahead given items).turn ≤ m.turn
 
 -- the turn moves by one, and is not above that of what lies ahead
-pub record MovesOn (g : Given) (h : List Item) (before m : Machine) (plan : Plan) (old new : List Line) : Type 0 where
-  pub early : before.turn < (ahead g h).turn
-  pub turn : m.turn ≡ before.turn + 1
-  pub stands : StandsFor g h None m
-  pub follows : Follows g h plan
-  pub lines : new ≡ old
+pub record MovesOn (g : Given) (h : List Item) (before after : Progress) : Type 0 where
+  pub early : before.machine.turn < (ahead g h).turn
+  pub turn : after.machine.turn ≡ before.machine.turn + 1
+  pub stands : StandsFor g h None after.machine
+  pub follows : Follows g h after.plan
+  pub lines : after.lines ≡ before.lines
 
 -- the next record was done, whose turn has come, and its lines were appended
-pub record DoesNext (g : Given) (h : List Item) (answer : Turn) (before m : Machine) (plan : Plan)
-    (old new : List Line) : Type 0 where
+pub record DoesNext (g : Given) (h : List Item) (answer : Turn) (before after : Progress) : Type 0 where
   pub done : Record
   pub is_next : comes_next g h ≡ Does done
-  pub now : (ahead g h).turn ≡ before.turn
-  pub turn : m.turn ≡ before.turn
-  pub stands : StandsFor g (Step done ∷ h) None m
-  pub follows : Follows g (Step done ∷ h) plan
-  pub lines : AddsLines old new (record_lines done)
+  pub now : (ahead g h).turn ≡ before.machine.turn
+  pub turn : after.machine.turn ≡ before.machine.turn
+  pub stands : StandsFor g (Step done ∷ h) None after.machine
+  pub follows : Follows g (Step done ∷ h) after.plan
+  pub lines : AddsLines before.lines after.lines (record_lines done)
   pub tells : TellsRecord done.kind done.before answer
 
 -- the end was answered, of the run or at an imprecise fault, whose turn has come, and its lines were appended, behind
 -- that of an event that was reached with it
-pub record EndsRun (g : Given) (h : List Item) (e : End) (before m : Machine) (plan : Plan)
-    (old new : List Line) : Type 0 where
+pub record EndsRun (g : Given) (h : List Item) (e : End) (before after : Progress) : Type 0 where
   pub finish : Finish
   pub answers : finish.end ≡ e
   pub is_end : end_ahead g h ≡ Some finish
-  pub now : (ahead g h).turn ≡ before.turn
-  pub turn : m.turn ≡ before.turn
-  pub stands : StandsFor g h (Some finish) m
-  pub follows : FollowsTo g h finish plan
-  pub lines : AddsLines old new (end_lines (state_after g (records_of h)) finish)
+  pub now : (ahead g h).turn ≡ before.machine.turn
+  pub turn : after.machine.turn ≡ before.machine.turn
+  pub stands : StandsFor g h (Some finish) after.machine
+  pub follows : FollowsTo g h finish after.plan
+  pub lines : AddsLines before.lines after.lines (end_lines (state_after g (records_of h)) finish)
 
 -- memory was refused, when the turn of what lies ahead had come, and nothing has changed
-pub record IsRefused (g : Given) (h : List Item) (before m : Machine) (plan : Plan) (old new : List Line) : Type 0 where
-  pub now : (ahead g h).turn ≡ before.turn
-  pub turn : m.turn ≡ before.turn
-  pub stands : StandsFor g h None m
-  pub follows : Follows g h plan
-  pub lines : new ≡ old
+pub record IsRefused (g : Given) (h : List Item) (before after : Progress) : Type 0 where
+  pub now : (ahead g h).turn ≡ before.machine.turn
+  pub turn : after.machine.turn ≡ before.machine.turn
+  pub stands : StandsFor g h None after.machine
+  pub follows : Follows g h after.plan
+  pub lines : after.lines ≡ before.lines
   pub needed : NeedsRoom (comes_next g h)
 
 -- what comes next was done, or the end was answered, by the answer of a step
-abbrev pub Comes : Given → List Item → Turn → Machine → Machine → Plan → List Line → List Line → Type 0
-Comes g h turns.On before m plan old new = DoesNext g h turns.On before m plan old new
-Comes g h (turns.Issued t) before m plan old new = DoesNext g h (turns.Issued t) before m plan old new
-Comes g h (turns.End e) before m plan old new = EndsRun g h e before m plan old new
-Comes g h turns.Memory before m plan old new = IsRefused g h before m plan old new
+abbrev pub Comes : Given → List Item → Turn → Progress → Progress → Type 0
+Comes g h turns.On before after = DoesNext g h turns.On before after
+Comes g h (turns.Issued t) before after = DoesNext g h (turns.Issued t) before after
+Comes g h (turns.End e) before after = EndsRun g h e before after
+Comes g h turns.Memory before after = IsRefused g h before after
 
 -- what a step does, by its answer: the turn may move in place of it
-abbrev pub Advances : Given → List Item → Turn → Machine → Machine → Plan → List Line → List Line → Type 0
-Advances g h turns.On before m plan old new =
-    MovesOn g h before m plan old new ⊎ Comes g h turns.On before m plan old new
-Advances g h answer before m plan old new = Comes g h answer before m plan old new
+abbrev pub Advances : Given → List Item → Turn → Progress → Progress → Type 0
+Advances g h turns.On before after = MovesOn g h before after ⊎ Comes g h turns.On before after
+Advances g h answer before after = Comes g h answer before after
 
 -- The turn moved to the one at which something comes, where the machine was below it, and then that was done. Memory is
 -- refused only where room was lacking before, with this many lines to spare.
-pub record Proceeds (g : Given) (h : List Item) (answer : Turn) (before m : Machine) (plan : Plan) (spare : ℕ)
-    (old new : List Line) : Type 0 where
+pub record Proceeds (g : Given) (h : List Item) (answer : Turn) (spare : ℕ) (before after : Progress) : Type 0 where
   pub mid : Machine
   pub now : (ahead g h).turn ≡ mid.turn
   pub stands : StandsFor g h None mid
-  pub comes : Comes g h answer mid m plan old new
-  pub lacking : answer ≡ turns.Memory → HasRoom before spare (comes_next g h) → ⊥
+  pub comes : Comes g h answer (record before { machine = mid }) after
+  pub lacking : answer ≡ turns.Memory → HasRoom before.machine spare (comes_next g h) → ⊥
 
 -- Nothing comes below a turn, which the machine's became, unless that was above it; and nothing was done.
-pub record PassesTo (g : Given) (h : List Item) (until : ℕ) (before m : Machine) (plan : Plan)
-    (old new : List Line) : Type 0 where
+pub record PassesTo (g : Given) (h : List Item) (until : ℕ) (before after : Progress) : Type 0 where
   pub later : until ≤ (ahead g h).turn
-  pub turn : m.turn ≡ max before.turn until
-  pub stands : StandsFor g h None m
-  pub follows : Follows g h plan
-  pub lines : new ≡ old
+  pub turn : after.machine.turn ≡ max before.machine.turn until
+  pub stands : StandsFor g h None after.machine
+  pub follows : Follows g h after.plan
+  pub lines : after.lines ≡ before.lines
 
 -- What comes next was done, and comes below a turn where one is given; or there was no answer, and nothing comes below
 -- that.
-abbrev pub ProceedsUntil : Given → List Item → Option ℕ → Option Turn → Machine → Machine → Plan → ℕ → List Line
-    → List Line → Type 0
-ProceedsUntil g h until (Some answer) before m plan spare old new =
-    IfSome until (λ u. (ahead g h).turn < u) × Proceeds g h answer before m plan spare old new
-ProceedsUntil g h (Some u) None before m plan spare old new = PassesTo g h u before m plan old new
-ProceedsUntil g h None None before m plan spare old new = ⊥
+abbrev pub ProceedsUntil : Given → List Item → Option ℕ → Option Turn → ℕ → Progress → Progress → Type 0
+ProceedsUntil g h until (Some answer) spare before after =
+    IfSome until (λ u. (ahead g h).turn < u) × Proceeds g h answer spare before after
+ProceedsUntil g h (Some u) None spare before after = PassesTo g h u before after
+ProceedsUntil g h None None spare before after = ⊥
 
 -- the end is answered again, and nothing has changed
 pub record AnswersAgain (f : Finish) (answer : Turn) (before m : Machine) (old new : List Line) : Type 0 where

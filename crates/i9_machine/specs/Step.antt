@@ -18,7 +18,6 @@ use Rattle.i9_processor.specs.declared.effect.Effect.{Effect}
 use Rattle.i9_processor.specs.Effect.{IsEffect, HasRoomFor, cache_through, size_through, has_writes, is_restart}
 use Rattle.i9_processor.specs.State.{state_of, cache_of, size_of}
 use Rattle.i9_model.specs.declared.run.End.{End}
-use Rattle.i9_machine.specs.declared.line.Line.{Line}
 use Rattle.i9_machine.specs.declared.line.Turn.{Turn}
 use Rattle.i9_machine.specs.declared.line.Turn.TheVariants as turns
 use Rattle.i9_machine.specs.declared.machine.Machine.{Machine}
@@ -32,6 +31,7 @@ use Rattle.i9_course.specs.Course.{instruction_ahead}
 use Rattle.i9_plan.specs.Planned.{IsInRow}
 use Rattle.i9_machine.specs.Issuing.{most_turns, IsIssued, IsUnmoved}
 use Rattle.i9_machine.specs.Line.{AddsLines}
+use Rattle.i9_machine.specs.Progress.{Progress}
 use Rattle.i9_machine.specs.declared.step.Ending.{Ending}
 use Rattle.i9_machine.specs.declared.step.Ending.TheVariants as endings
 use Rattle.i9_model.specs.declared.run.End.TheVariants.{Hazard}
@@ -104,29 +104,46 @@ HasRoom m spare (Does r) = HasRoomToDo m spare r
 
 -- ---- what a step is to do
 
+-- what decides a step: the length of the run, what is due, the state, the number of sets, and the frames in them and the
+-- memory behind
+pub record Situation : Type 0 where
+  pub length : ℕ
+  pub due : Due
+  pub state : State
+  pub size : ℕ
+  pub cache : Cache
+
+-- that of a machine
+abbrev pub situation : Machine → Situation
+situation m = record {
+  length = m.length;
+  due = m.due;
+  state = state_of m.processor;
+  size = size_of m.processor;
+  cache = cache_of m.processor;
+}
+
 -- What comes next, where this event stands or none, is a record of this effect, drained point and count, which reaches
 -- the next event of a schedule or none, makes this due, is answered so, and needs this. The bytes of a request stand in
--- a row. It is said of the length, what is due, the state, the number of sets, and the frames in them and the memory
--- behind.
-pub record IsStepIn (limit : ℕ) (due_now : Due) (s : State) (size : ℕ) (cache : Cache) (stands : Option Event)
-    (plan : Plan) (step : Step) (need : Need) (e : Effect) : Type 0 where
+-- a row.
+pub record IsStepIn (at : Situation) (stands : Option Event) (plan : Plan) (step : Step) (need : Need) (e : Effect)
+    : Type 0 where
   pub kind : Kind
-  pub is_next : next_in limit due_now stands s ≡ Does (record_of kind s)
-  pub effect : IsEffect s (action_by_kind kind s) e
+  pub is_next : next_in at.length at.due stands at.state ≡ Does (record_of kind at.state)
+  pub effect : IsEffect at.state (action_by_kind kind at.state) e
   pub point : step.point ≡ point_of kind
   pub counts : step.counts ≡ counts_of kind
-  pub due : step.due ≡ due_by kind s
+  pub due : step.due ≡ due_by kind at.state
   pub reaches : step.reaches ≡ is_some (event_of kind)
   pub event : event_in plan step ≡ event_of kind
-  pub tells : TellsRecord kind s step.answer
-  pub is_need : need ≡ need_of size cache s kind
+  pub tells : TellsRecord kind at.state step.answer
+  pub is_need : need ≡ need_of at.size at.cache at.state kind
   pub cost : need.cost ≤ most_turns
   pub row : need.request ≡ true → IsInRow e
 
 -- the same of a machine
 abbrev pub IsStepWhere : Machine → Option Event → Plan → Step → Need → Effect → Type 0
-IsStepWhere m stands plan step need e =
-    IsStepIn m.length m.due (state_of m.processor) (size_of m.processor) (cache_of m.processor) stands plan step need e
+IsStepWhere m stands plan step need e = IsStepIn (situation m) stands plan step need e
 
 -- where the event of the schedule stands, whose time has come
 abbrev pub IsStep : Machine → Plan → Step → Need → Effect → Type 0
@@ -165,18 +182,21 @@ IsNext m plan (Err f) mid = next_for m plan ≡ Ends (finish_in plan f)
 abbrev pub plan_behind : Plan → Record → Plan
 plan_behind plan r = record plan { place = plan.place + length (reached_by r.kind r.before) }
 
-pub record Did (before : Machine) (answer : Turn) (m : Machine) (was plan : Plan) (old new : List Line) : Type 0 where
+-- a record was done
+pub record Did (before : Progress) (answer : Turn) (after : Progress) : Type 0 where
   pub done : Record
-  pub is_next : next_for before was ≡ Does done
-  pub state : AreAlike done.after (state_of m.processor)
-  pub cache : cache_of m.processor ≡ cache_through before.processor (action_done done) m.processor
-  pub size : size_of m.processor ≡ size_through before.sets before.processor (action_done done)
-  pub due : m.due ≡ due_by done.kind done.before
-  pub length : m.length ≡ before.length
-  pub sets : m.sets ≡ before.sets
-  pub ended : m.ended ≡ None
-  pub behind : plan ≡ plan_behind was done
-  pub lines : AddsLines old new (record_lines done)
+  pub is_next : next_for before.machine before.plan ≡ Does done
+  pub state : AreAlike done.after (state_of after.machine.processor)
+  pub cache : cache_of after.machine.processor
+      ≡ cache_through before.machine.processor (action_done done) after.machine.processor
+  pub size : size_of after.machine.processor
+      ≡ size_through before.machine.sets before.machine.processor (action_done done)
+  pub due : after.machine.due ≡ due_by done.kind done.before
+  pub length : after.machine.length ≡ before.machine.length
+  pub sets : after.machine.sets ≡ before.machine.sets
+  pub ended : after.machine.ended ≡ None
+  pub behind : after.plan ≡ plan_behind before.plan done
+  pub lines : AddsLines before.lines after.lines (record_lines done)
   pub tells : TellsRecord done.kind done.before answer
 
 -- the same machine, but for the room that it has
@@ -194,46 +214,47 @@ abbrev pub plan_at_end : Plan → Finish → Plan
 plan_at_end plan f = record plan { place = plan.place + length (reached_last 0 f.event) }
 
 -- an end was answered, or there was no room for its lines
-pub record Finished (before : Machine) (f : Finish) (m : Machine) (was plan : Plan) (old new : List Line) : Type 0 where
-  pub same : IsSame before m
-  pub ended : m.ended ≡ Some f.end
-  pub behind : plan ≡ plan_at_end was f
-  pub lines : AddsLines old new (end_lines (state_of before.processor) f)
+pub record Finished (before : Progress) (f : Finish) (after : Progress) : Type 0 where
+  pub same : IsSame before.machine after.machine
+  pub ended : after.machine.ended ≡ Some f.end
+  pub behind : after.plan ≡ plan_at_end before.plan f
+  pub lines : AddsLines before.lines after.lines (end_lines (state_of before.machine.processor) f)
 
-pub record Unfinished (before : Machine) (f : Finish) (spare : ℕ) (m : Machine) (was plan : Plan)
-    (old new : List Line) : Type 0 where
-  pub same : IsSame before m
-  pub ended : m.ended ≡ None
-  pub kept : plan ≡ was
-  pub lines : new ≡ old
-  pub lacking : spare < length (end_lines (state_of before.processor) f)
+pub record Unfinished (before : Progress) (f : Finish) (spare : ℕ) (after : Progress) : Type 0 where
+  pub same : IsSame before.machine after.machine
+  pub ended : after.machine.ended ≡ None
+  pub kept : after.plan ≡ before.plan
+  pub lines : after.lines ≡ before.lines
+  pub lacking : spare < length (end_lines (state_of before.machine.processor) f)
 
 -- with this many lines to spare
-abbrev pub Finishes : Machine → Finish → ℕ → Turn → Machine → Plan → Plan → List Line → List Line → Type 0
-Finishes before f spare (turns.End e) m was plan old new = (f.end ≡ e) × Finished before f m was plan old new
-Finishes before f spare turns.Memory m was plan old new = Unfinished before f spare m was plan old new
-Finishes before f spare turns.On m was plan old new = ⊥
-Finishes before f spare (turns.Issued t) m was plan old new = ⊥
+abbrev pub Finishes : Progress → Finish → ℕ → Turn → Progress → Type 0
+Finishes before f spare (turns.End e) after = (f.end ≡ e) × Finished before f after
+Finishes before f spare turns.Memory after = Unfinished before f spare after
+Finishes before f spare turns.On after = ⊥
+Finishes before f spare (turns.Issued t) after = ⊥
 
 -- the end that comes next was answered
-pub record Ended (before : Machine) (e : End) (m : Machine) (was plan : Plan) (old new : List Line) : Type 0 where
+pub record Ended (before : Progress) (e : End) (after : Progress) : Type 0 where
   pub finish : Finish
   pub answers : finish.end ≡ e
-  pub is_end : next_for before was ≡ Ends finish
-  pub finished : Finished before finish m was plan old new
+  pub is_end : next_for before.machine before.plan ≡ Ends finish
+  pub finished : Finished before finish after
 
-pub record Refused (before : Machine) (m : Machine) (was plan : Plan) (old new : List Line) : Type 0 where
-  pub same : IsSame before m
-  pub ended : m.ended ≡ None
-  pub kept : plan ≡ was
-  pub lines : new ≡ old
-  pub needed : NeedsRoom (next_for before was)
+-- memory was refused for what comes next
+pub record Refused (before after : Progress) : Type 0 where
+  pub same : IsSame before.machine after.machine
+  pub ended : after.machine.ended ≡ None
+  pub kept : after.plan ≡ before.plan
+  pub lines : after.lines ≡ before.lines
+  pub needed : NeedsRoom (next_for before.machine before.plan)
 
-abbrev pub Steps : Machine → Turn → Machine → Plan → Plan → List Line → List Line → Type 0
-Steps before turns.On m was plan old new = Did before turns.On m was plan old new
-Steps before (turns.Issued t) m was plan old new = Did before (turns.Issued t) m was plan old new
-Steps before (turns.End e) m was plan old new = Ended before e m was plan old new
-Steps before turns.Memory m was plan old new = Refused before m was plan old new
+-- one of these, by the answer of a step
+abbrev pub Steps : Progress → Turn → Progress → Type 0
+Steps before turns.On after = Did before turns.On after
+Steps before (turns.Issued t) after = Did before (turns.Issued t) after
+Steps before (turns.End e) after = Ended before e after
+Steps before turns.Memory after = Refused before after
 
 -- ---- how it issued
 

@@ -77,6 +77,7 @@ impl Machine {
     ghost use Rattle.i9_machine.specs.StandsFor.{LeavesFewer, IsUnderWay, HasCome};
     ghost use Rattle.i9_machine.specs.Issuing.{KeepsPlanned, IsMovedTo, IsPassedTo, IsMoved, IsSettled, IsQuiet};
     ghost use Rattle.i9_machine.specs.NewPages.{AddsNextOnly};
+    ghost use Rattle.i9_machine.specs.Progress.{progress};
     ghost use Rattle.i9_machine.specs.Doing.{PlansLight};
     ghost use Rattle.i9_machine.specs.Opening.{IsTimely};
     ghost use Rattle.i9_machine.specs.Raw.{IsLevel};
@@ -253,7 +254,8 @@ impl Machine {
         requires drained { IsDrained self.old.processor }
         requires timely { IsTimely self.old plan.old }
         requires read { read ≡ true → HasRead self.old }
-        ensures steps { Steps self.old result self.new plan.old plan.new out.old.items out.new.items }
+        ensures steps { Steps (progress self.old plan.old out.old.items) result
+            (progress self.new plan.new out.new.items) }
         ensures issues { Issues self.old result self.new plan.old }
         ensures lacking { result ≡ Turn.Memory
             → HasRoom self.old (vec_capacity out.old - vec_len out.old) (next_for self.old plan.old) → ⊥ }
@@ -285,7 +287,8 @@ impl Machine {
         requires come { HasCome self.old plan.old }
         requires ahead { IsAhead self.old plan.old issue
             (Faulted (Some (inst_in self.old.decodes)) (fault_at (state_of self.old.processor) number)) }
-        ensures steps { Steps self.old result self.new plan.old plan.new out.old.items out.new.items }
+        ensures steps { Steps (progress self.old plan.old out.old.items) result
+            (progress self.new plan.new out.new.items) }
         ensures issues { Issues self.old result self.new plan.old }
         ensures lacking { result ≡ Turn.Memory
             → HasRoom self.old (vec_capacity out.old - vec_len out.old) (next_for self.old plan.old) → ⊥ }
@@ -312,7 +315,8 @@ impl Machine {
         requires running { self.old.ended ≡ None }
         requires come { HasCome self.old plan.old }
         requires runs { RunsAhead self.old plan.old issue }
-        ensures steps { Steps self.old result self.new plan.old plan.new out.old.items out.new.items }
+        ensures steps { Steps (progress self.old plan.old out.old.items) result
+            (progress self.new plan.new out.new.items) }
         ensures issues { Issues self.old result self.new plan.old }
         ensures lacking { result ≡ Turn.Memory
             → HasRoom self.old (vec_capacity out.old - vec_len out.old) (next_for self.old plan.old) → ⊥ }
@@ -332,7 +336,8 @@ impl Machine {
         requires running { self.old.ended ≡ None }
         requires come { HasCome self.old plan.old }
         requires runs { RunsAhead self.old plan.old issue }
-        ensures steps { Steps self.old result self.new plan.old plan.new out.old.items out.new.items }
+        ensures steps { Steps (progress self.old plan.old out.old.items) result
+            (progress self.new plan.new out.new.items) }
         ensures issues { Issues self.old result self.new plan.old }
         ensures lacking { result ≡ Turn.Memory
             → HasRoom self.old (vec_capacity out.old - vec_len out.old) (next_for self.old plan.old) → ⊥ }
@@ -361,7 +366,8 @@ impl Machine {
         requires arrived { HasArrived self.old plan.old coming }
         requires turn { turn ≤ self.old.turn }
         requires ready { IsReadyFor self.old plan.old turn coming }
-        ensures came { Came coming self.old result self.new plan.old plan.new out.old.items out.new.items }
+        ensures came { Came coming (progress self.old plan.old out.old.items) result
+            (progress self.new plan.new out.new.items) }
         ensures lacking { result ≡ Turn.Memory
             → HasRoom self.old (vec_capacity out.old - vec_len out.old) (next_for self.old plan.old) → ⊥ }
         ensures still_lacking { result ≡ Turn.Memory
@@ -393,7 +399,8 @@ impl Machine {
     pub fn advance(&mut self, plan: &mut Schedule, out: &mut Vec<Line>) -> Turn
         requires stands { self.old.ended ≡ None → IsUnderWay self.old plan.old }
         ensures next { (g : Given) (h : List Item) → StandsFor g h None self.old → Follows g h plan.old
-            → Advances g h result self.old self.new plan.new out.old.items out.new.items }
+            → Advances g h result (progress self.old plan.old out.old.items)
+            (progress self.new plan.new out.new.items) }
         ensures again { (g : Given) (h : List Item) (f : Finish) → StandsFor g h (Some f) self.old
             → AnswersAgain f result self.old self.new out.old.items out.new.items × (plan.new ≡ plan.old) }
         ensures lacking { (g : Given) (h : List Item) → StandsFor g h None self.old → Follows g h plan.old
@@ -429,8 +436,8 @@ impl Machine {
     pub fn proceed(&mut self, plan: &mut Schedule, out: &mut Vec<Line>) -> Turn
         requires stands { self.old.ended ≡ None → IsUnderWay self.old plan.old }
         ensures next { (g : Given) (h : List Item) → StandsFor g h None self.old → Follows g h plan.old
-            → Proceeds g h result self.old self.new plan.new
-            (vec_capacity out.old - vec_len out.old) out.old.items out.new.items }
+            → Proceeds g h result (vec_capacity out.old - vec_len out.old)
+            (progress self.old plan.old out.old.items) (progress self.new plan.new out.new.items) }
         ensures again { (g : Given) (h : List Item) (f : Finish) → StandsFor g h (Some f) self.old
             → AnswersAgain f result self.old self.new out.old.items out.new.items × (plan.new ≡ plan.old) }
         ensures only { (g : Given) (h : List Item) → StandsFor g h None self.old → Follows g h plan.old
@@ -458,8 +465,8 @@ impl Machine {
     ) -> Option<Turn>
         requires stands { self.old.ended ≡ None → IsUnderWay self.old plan.old }
         ensures next { (g : Given) (h : List Item) → StandsFor g h None self.old → Follows g h plan.old
-            → ProceedsUntil g h (Some until) result self.old self.new plan.new
-            (vec_capacity out.old - vec_len out.old) out.old.items out.new.items }
+            → ProceedsUntil g h (Some until) result (vec_capacity out.old - vec_len out.old)
+            (progress self.old plan.old out.old.items) (progress self.new plan.new out.new.items) }
         ensures again { (g : Given) (h : List Item) (f : Finish) → StandsFor g h (Some f) self.old
             → IsSome result × IfSome result (λ t. AnswersAgain f t self.old self.new out.old.items out.new.items)
             × (plan.new ≡ plan.old) }
@@ -486,8 +493,8 @@ impl Machine {
         requires running { self.old.ended ≡ None }
         requires stands { IsUnderWay self.old plan.old }
         ensures next { (g : Given) (h : List Item) → StandsFor g h None self.old → Follows g h plan.old
-            → ProceedsUntil g h until result self.old self.new plan.new
-            (vec_capacity out.old - vec_len out.old) out.old.items out.new.items }
+            → ProceedsUntil g h until result (vec_capacity out.old - vec_len out.old)
+            (progress self.old plan.old out.old.items) (progress self.new plan.new out.new.items) }
         ensures only { (g : Given) (h : List Item) → StandsFor g h None self.old → Follows g h plan.old
             → AddsNextOnly self.old self.new (comes_next g h) }
         ensures fewer { IfSome result

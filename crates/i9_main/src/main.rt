@@ -12,9 +12,9 @@ ghost use Rattle.std.specs.Prelude.{◌≡◌, ◌≢◌, ◌<◌, IfOk, IfErr, 
 ghost use Rattle.std.specs.IoError.{error_kind};
 ghost use Rattle.std.specs.Process.{exit_status};
 ghost use Rattle.std.specs.Vec.Iter.{into_iter_items};
-ghost use Rattle.i9_lines.specs.Print.{account};
+ghost use Rattle.i9_lines.specs.Print.{account, output};
 ghost use Rattle.i9_main.specs.Program.{EndsWith};
-ghost use Rattle.i9_tool.specs.Fetches.{shelf};
+ghost use Rattle.i9_tool.specs.Fetches.{shelf, stock};
 
 use i9_outside::{Files, Sink};
 use i9_system::{RealFiles, RealSink};
@@ -76,10 +76,9 @@ fn answer<F: Files, K: Sink>(
     files: &mut F,
     out: &mut K,
 ) -> ExitCode
-    ensures given { IfOk words (λ w. EndsWith
-        (shelf F.told F.faults F.fetches F.sure) (account K.told K.faults K.writes K.sure K.pieces) w.items
-        (exit_status result)
-        files.old files.new out.old out.new) }
+    ensures given { IfOk words (λ w. EndsWith w.items (exit_status result)
+        (stock (shelf F.told F.faults F.fetches F.sure) files.old files.new)
+        (output (account K.told K.faults K.writes K.sure K.pieces) out.old out.new)) }
     ensures memory { IfErr words (λ e. error_kind e ≡ ErrorKind.OutOfMemory → exit_status result ≡ 7) }
     ensures system { IfErr words (λ e. error_kind e ≢ ErrorKind.OutOfMemory → exit_status result ≡ 8) }
     ensures untouched { OnErr words ((files.new ≡ files.old) × (out.new ≡ out.old)) }

@@ -30,9 +30,9 @@ use Rattle.i9_outside.specs.Traits.{IsFile}
 use Rattle.i9_lines.specs.declared.print.Printed.{Printed}
 use Rattle.i9_debug.specs.declared.sessions.SessionEnd.{SessionEnd}
 use Rattle.i9_lines.specs.Lines.{generated_line}
-use Rattle.i9_lines.specs.Print.{Account, Prints}
+use Rattle.i9_lines.specs.Print.{Account, Prints, output}
 use Rattle.i9_debug.specs.Session.{at, end_at}
-use Rattle.i9_debug.specs.Driven.{RunsScript, printed_of as session_printed, output, target}
+use Rattle.i9_debug.specs.Driven.{RunsScript, printed_of as session_printed, target}
 use Rattle.i9_lines.proofs.Prints.{prints_same}
 use Rattle.i9_debug.proofs.Commands.{start_place, script_leads}
 use Rattle.i9_machine.specs.declared.machine.Machine.{Machine}
@@ -222,7 +222,7 @@ module _ {K : Type 0} (k : Account K) where
 
   -- an image ran
   pub image_runs : (sets : Option ℕ) (limit : ℕ) (traced : Option Range) (pairs : List (ℕ × ℕ)) (plan : Contents) (ran : Ran) (code : ℕ) (a b : K)
-      → (r : RunsHeaded ran plan.version traced (given pairs plan.events limit sets) k a b) → code ≡ code_for (printed_of ran) (end_code r.finish.end)
+      → (r : RunsHeaded ran plan.version traced (given pairs plan.events limit sets) (output k a b)) → code ≡ code_for (printed_of ran) (end_code r.finish.end)
       → Answers (RunGives sets limit traced pairs plan) code k a b
   image_runs sets limit traced pairs plan ran code a b r e =
       answers_with (RunGives sets limit traced pairs plan) (printed_of ran) (end_code r.finish.end) code _ a b (known_finish r.finish.end) (runs r.records r.finish r.run) r.prints e

@@ -21,15 +21,17 @@ use Rattle.i9_schedule.specs.Plan.{Plan}
 use Rattle.i9_machine.specs.Issue.{TellsIssue}
 use Rattle.i9_machine.specs.Step.{TellsRecord}
 use Rattle.i9_machine.specs.StandsFor.{StandsFor, Follows, IsUnderWay, DoesNext, Comes}
+use Rattle.i9_machine.specs.Progress.{progress}
 use Rattle.i9_lines.specs.declared.print.Printed.{Printed}
 use Rattle.i9_lines.specs.declared.print.Printed.TheVariants.{Done}
 use Rattle.i9_tool.specs.declared.run.Ran.{Ran}
 use Rattle.i9_tool.specs.declared.run.Ran.TheVariants as ran
-use Rattle.i9_lines.specs.Print.{Account, Prints, line_text}
+use Rattle.i9_lines.specs.Print.{Account, Prints, line_text, output}
 use Rattle.i9_tool.specs.declared.words.Range.{Range}
 use Rattle.i9_tool.specs.Traced.{is_within, line_where, issued_words, issued_line, traced_line, traced_lines, traced_text}
 use Rattle.i9_tool.specs.Run.{RunsAs, Runs, RunsHeaded, TracedBy, traced_none, traced_next, IsCut, StopsWith, at_end, before_end, TracesBy, behind_step, behind_end, DrivesBy, AllowsTurn, TellsEnd, turn_text, step_text, printed_of}
 use Rattle.i9_debug.specs.Session.{at, ended}
+use Rattle.i9_debug.specs.Driven.{target}
 use Rattle.i9_lines.proofs.TextLines.{IsClosed, closed_none, closed_line}
 use Rattle.i9_lines.proofs.Prints.{prints_none, prints_then, prints_stop, prints_behind, prints_same, prints_refused, on_cut}
 use Rattle.i9_lines.proofs.ClosedLines.{lines-text}
@@ -91,10 +93,10 @@ module _ (allows : ℕ → Bool → Type 0) where
   allowed_on answer (Interrupted c e) s h one = absurd (omega (arith, one))
   allowed_on answer (Reached e u) s h one = absurd (omega (arith, one))
 
-  module _ (g : Given) (rs : List Record) (before : Machine) where
+  module _ (g : Given) (rs : List Record) (before : Machine) (was : Plan) where
     -- the text of a step is that of its record
     step_done : (answer : Bool) (turn : Turn) (m : Machine) (plan : Plan) (ls : List Line)
-        → (d : DoesNext g (steps rs) turn before m plan [] ls)
+        → (d : DoesNext g (steps rs) turn (progress before was []) (progress m plan ls))
         → turn_text answer turn ≡ traced_line (λ a. answer) d.done
         → traced_line (λ a. answer) d.done ++ text_of (record_lines d.done) ≡ step_text answer turn ls
     step_done answer turn m plan ls d told =
@@ -102,7 +104,7 @@ module _ (allows : ℕ → Bool → Type 0) where
         ap (λ (t : List ℕ). t ++ text_of (record_lines d.done)) (sym told) ∙ ap (λ (t : List ℕ). turn_text answer turn ++ t) lines
 
     issued_traced : (text : List ℕ) (answer : Bool) (t : Issued) (m : Machine) (plan : Plan) (ls : List Line)
-        → (d : DoesNext g (steps rs) (turns.Issued t) before m plan [] ls)
+        → (d : DoesNext g (steps rs) (turns.Issued t) (progress before was []) (progress m plan ls))
         → TracedBy allows rs text → allows t.address answer
         → TracedBy allows (d.done ∷ rs) (text ++ step_text answer (turns.Issued t) ls)
     issued_traced text answer t m plan ls d traced allowed =
@@ -111,7 +113,7 @@ module _ (allows : ℕ → Bool → Type 0) where
         (traced_next rs text d.done answer traced (λ one. allowed_issued answer d.done.kind d.done.before t d.tells allowed))
 
     on_traced : (text : List ℕ) (answer : Bool) (m : Machine) (plan : Plan) (ls : List Line)
-        → (d : DoesNext g (steps rs) turns.On before m plan [] ls)
+        → (d : DoesNext g (steps rs) turns.On (progress before was []) (progress m plan ls))
         → TracedBy allows rs text
         → TracedBy allows (d.done ∷ rs) (text ++ step_text answer turns.On ls)
     on_traced text answer m plan ls d traced =
@@ -121,13 +123,13 @@ module _ (allows : ℕ → Bool → Type 0) where
 
     -- the text of the end's step
     end_text : (answer : Bool) (e : End) (m : Machine) (plan : Plan) (ls : List Line)
-        → (a : Comes g (steps rs) (turns.End e) before m plan [] ls)
+        → (a : Comes g (steps rs) (turns.End e) (progress before was []) (progress m plan ls))
         → step_text answer (turns.End e) ls ≡ text_of (end_lines (state_after g rs) a.finish)
     end_text answer e m plan ls a =
         lines-text ls ∙ ap text_of a.lines ∙ ap (λ (qs : List Record). text_of (end_lines (state_after g qs) a.finish)) (records_of-steps rs)
 
     -- the end lies ahead
-    ends : (e : End) (m : Machine) (plan : Plan) (ls : List Line) → (a : Comes g (steps rs) (turns.End e) before m plan [] ls)
+    ends : (e : End) (m : Machine) (plan : Plan) (ls : List Line) → (a : Comes g (steps rs) (turns.End e) (progress before was []) (progress m plan ls))
         → finish_after g rs ≡ Some a.finish
     ends e m plan ls a = a.is_end
 
@@ -138,7 +140,7 @@ module _ (allows : ℕ → Bool → Type 0) where
     -- printing stopped behind a record
     behind_record : (answer : Ran) (rs : List Record) (text : List ℕ) (a b : K) → IsCut answer → IsLatePast g rs
         → TracedBy allows rs text → Printing (printed_of answer) a b text
-        → TracesBy answer allows g k a b
+        → TracesBy answer allows g (output k a b)
     behind_record answer rs text a b cut past traced p = record {
       records = rs;
       past = past;
@@ -150,7 +152,7 @@ module _ (allows : ℕ → Bool → Type 0) where
     }
 
     -- memory was refused before the first step
-    pub nothing_yet : (a : K) → TracesBy ran.Memory allows g k a a
+    pub nothing_yet : (a : K) → TracesBy ran.Memory allows g (output k a a)
     nothing_yet a = record { records = []; past = tt; text = []; traced = traced_none; rest = []; stops = before_end ran.Memory tt; prints = prints_refused k a _ }
 
     -- Records were done from the start of the run, and their text was printed.
@@ -174,31 +176,31 @@ module _ (allows : ℕ → Bool → Type 0) where
       behind answer x p = prints_then k answer a b c inv.text x (closed_by allows inv.done inv.text inv.traced) inv.prints p
 
       -- a step was done
-      pub on_done : Comes g (steps rs) turns.On before m plan [] ls → Printing Done b c (step_text passes turns.On ls) → Traced a c m plan
+      pub on_done : Comes g (steps rs) turns.On (progress before was []) (progress m plan ls) → Printing Done b c (step_text passes turns.On ls) → Traced a c m plan
       on_done d p = record {
         done = d.done ∷ rs;
         stands = d.stands;
         follows = d.follows;
         text = inv.text ++ step_text passes turns.On ls;
-        traced = on_traced g rs before inv.text passes m plan ls d inv.traced;
+        traced = on_traced g rs before was inv.text passes m plan ls d inv.traced;
         prints = behind Done _ p;
       }
 
-      pub issued_done : (t : Issued) → Comes g (steps rs) (turns.Issued t) before m plan [] ls → allows t.address passes
+      pub issued_done : (t : Issued) → Comes g (steps rs) (turns.Issued t) (progress before was []) (progress m plan ls) → allows t.address passes
           → Printing Done b c (step_text passes (turns.Issued t) ls) → Traced a c m plan
       issued_done t d allowed p = record {
         done = d.done ∷ rs;
         stands = d.stands;
         follows = d.follows;
         text = inv.text ++ step_text passes (turns.Issued t) ls;
-        traced = issued_traced g rs before inv.text passes t m plan ls d inv.traced allowed;
+        traced = issued_traced g rs before was inv.text passes t m plan ls d inv.traced allowed;
         prints = behind Done _ p;
       }
 
       -- printing stopped in the text of a record more, or none
       cut_by : (answer : Ran) (last : List Record) (x : List ℕ) → IsCut answer → length last ≤ 1
           → StandsFor g (steps (last ++ rs)) None m → Follows g (steps (last ++ rs)) plan
-          → TracedBy allows (last ++ rs) (inv.text ++ x) → Printing (printed_of answer) b c x → DrivesBy answer allows g k a c m plan
+          → TracedBy allows (last ++ rs) (inv.text ++ x) → Printing (printed_of answer) b c x → DrivesBy answer allows g (output k a c) (target m plan)
       cut_by answer last x cut few stands follows traced p = record {
         traces = behind_record answer (last ++ rs) (inv.text ++ x) a c cut stands.past traced (behind (printed_of answer) x p);
         place = at (steps (last ++ rs)) m.turn;
@@ -214,12 +216,12 @@ module _ (allows : ℕ → Bool → Type 0) where
       }
 
       -- the end was reached
-      pub at_the_end : (answer : Ran) (e : End) → (d : Comes g (steps rs) (turns.End e) before m plan [] ls) → TellsEnd answer d.finish
-          → Printing (printed_of answer) b c (step_text passes (turns.End e) ls) → DrivesBy answer allows g k a c m plan
+      pub at_the_end : (answer : Ran) (e : End) → (d : Comes g (steps rs) (turns.End e) (progress before was []) (progress m plan ls)) → TellsEnd answer d.finish
+          → Printing (printed_of answer) b c (step_text passes (turns.End e) ls) → DrivesBy answer allows g (output k a c) (target m plan)
       at_the_end answer e d tells p =
           let last = text_of (end_lines (state_after g rs) d.finish) in
           let said : Printing (printed_of answer) b c last =
-          prints_same k (printed_of answer) b c _ _ (end_text g rs before passes e m plan ls d) p in
+          prints_same k (printed_of answer) b c _ _ (end_text g rs before was passes e m plan ls d) p in
           record {
             traces = record {
               records = rs;
@@ -227,7 +229,7 @@ module _ (allows : ℕ → Bool → Type 0) where
               text = inv.text;
               traced = inv.traced;
               rest = last;
-              stops = at_end answer d.finish (ends g rs before e m plan ls d) tells;
+              stops = at_end answer d.finish (ends g rs before was e m plan ls d) tells;
               prints = behind (printed_of answer) last said;
             };
             place = ended (steps rs) m.turn d.finish;
@@ -243,13 +245,13 @@ module _ (allows : ℕ → Bool → Type 0) where
           }
 
       -- printing stopped in the text of a step
-      pub in_step : (answer : Ran) (turn : Turn) → IsCut answer → Comes g (steps rs) turn before m plan [] ls
-          → AllowsTurn allows turn passes → Printing (printed_of answer) b c (step_text passes turn ls) → DrivesBy answer allows g k a c m plan
+      pub in_step : (answer : Ran) (turn : Turn) → IsCut answer → Comes g (steps rs) turn (progress before was []) (progress m plan ls)
+          → AllowsTurn allows turn passes → Printing (printed_of answer) b c (step_text passes turn ls) → DrivesBy answer allows g (output k a c) (target m plan)
       in_step answer turns.On cut d allowed p =
-          cut_by answer (d.done ∷ []) _ cut (omega arith) d.stands d.follows (on_traced g rs before inv.text passes m plan ls d inv.traced) p
+          cut_by answer (d.done ∷ []) _ cut (omega arith) d.stands d.follows (on_traced g rs before was inv.text passes m plan ls d inv.traced) p
       in_step answer (turns.Issued t) cut d allowed p =
           cut_by answer (d.done ∷ []) _ cut (omega arith) d.stands d.follows
-          (issued_traced g rs before inv.text passes t m plan ls d inv.traced allowed) p
+          (issued_traced g rs before was inv.text passes t m plan ls d inv.traced allowed) p
       in_step answer (turns.End e) cut d allowed p = at_the_end answer e d (tells_cut answer d.finish cut) p
       in_step answer turns.Memory cut d allowed p =
           let none : step_text passes turns.Memory ls ≡ [] = ap (flat_map line_text) d.lines in
@@ -258,8 +260,8 @@ module _ (allows : ℕ → Bool → Type 0) where
           (prints_same k (printed_of answer) b c _ _ none p)
 
       -- memory was refused for a step
-      pub ran_refused : Comes g (steps rs) turns.Memory before m plan [] ls → Printing Done b c (step_text passes turns.Memory ls)
-          → DrivesBy ran.Memory allows g k a c m plan
+      pub ran_refused : Comes g (steps rs) turns.Memory (progress before was []) (progress m plan ls) → Printing Done b c (step_text passes turns.Memory ls)
+          → DrivesBy ran.Memory allows g (output k a c) (target m plan)
       ran_refused d p = in_step ran.Memory turns.Memory tt d tt (prints_behind k b c _ p)
 
 -- ---- a relation that allows one answer at each address
@@ -292,7 +294,7 @@ module _ (allows : ℕ → Bool → Type 0) (passes : ℕ → Bool) (agree : Ans
   module _ {K : Type 0} (k : Account K) (g : Given) where
     -- the text that was printed goes on to that of a whole run
     whole_run : (answer : Ran) (rs : List Record) (text rest : List ℕ) (a b : K) → IsLatePast g rs → text ≡ traced_lines passes rs → StopsWith g rs answer rest
-        → Prints (printed_of answer) k a b (text ++ rest) → RunsAs (traced_text passes) answer g k a b
+        → Prints (printed_of answer) k a b (text ++ rest) → RunsAs (traced_text passes) answer g (output k a b)
     whole_run answer rs text rest a b past same (at_end _ e ends tells) p = record {
       records = rs;
       finish = e;
@@ -315,13 +317,13 @@ module _ (allows : ℕ → Bool → Type 0) (passes : ℕ → Bool) (agree : Ans
           tells = tells_cut answer on.1 cut;
         }
 
-    whole : (answer : Ran) (a b : K) → TracesBy answer allows g k a b → RunsAs (traced_text passes) answer g k a b
+    whole : (answer : Ran) (a b : K) → TracesBy answer allows g (output k a b) → RunsAs (traced_text passes) answer g (output k a b)
     whole answer a b h = whole_run answer h.records h.text h.rest a b h.past (same_lines h.records h.text h.traced) h.stops h.prints
 
 -- the addresses of a range pass
 pub runs_ranged : (allows : ℕ → Bool → Type 0) {K : Type 0} (k : Account K) (g : Given) (answer : Ran) (traced : Option Range) (range : Range) (a b : K) → traced ≡ Some range
-    → TracesBy answer allows g k a b → AnswersAs allows (is_within range) → Runs answer traced g k a b
-runs_ranged allows k g answer traced range a b e traces agree = subst (λ (o : Option Range). Runs answer o g k a b) (sym e) (whole allows (is_within range) agree k g answer a b traces)
+    → TracesBy answer allows g (output k a b) → AnswersAs allows (is_within range) → Runs answer traced g (output k a b)
+runs_ranged allows k g answer traced range a b e traces agree = subst (λ (o : Option Range). Runs answer o g (output k a b)) (sym e) (whole allows (is_within range) agree k g answer a b traces)
 
 -- ---- nothing is traced
 
@@ -341,10 +343,10 @@ untraced_text g rs f =
     ap (λ (t : List ℕ). t ++ text_of (end_lines (state_after g rs) f)) (none_traced rs) ∙ sym (text_of-append (lines_of rs) (end_lines (state_after g rs) f))
 
 pub runs_unranged : (allows : ℕ → Bool → Type 0) {K : Type 0} (k : Account K) (g : Given) (answer : Ran) (traced : Option Range) (a b : K) → traced ≡ None
-    → TracesBy answer allows g k a b → AnswersAs allows (λ a. false) → Runs answer traced g k a b
+    → TracesBy answer allows g (output k a b) → AnswersAs allows (λ a. false) → Runs answer traced g (output k a b)
 runs_unranged allows k g answer traced a b e traces agree =
     let h = whole allows (λ a. false) agree k g answer a b traces in
-    subst (λ (o : Option Range). Runs answer o g k a b) (sym e)
+    subst (λ (o : Option Range). Runs answer o g (output k a b)) (sym e)
     (record { records = h.records; finish = h.finish; run = h.run; prints = prints_same k (printed_of answer) a b _ _ (untraced_text g h.records h.finish) h.prints; tells = h.tells })
 
 -- ---- behind the line of the version of the schedule
@@ -357,7 +359,7 @@ closed_heading version = elim (cases_Bool (version == levels_version)) [
 ]
 
 pub headed : {K : Type 0} (k : Account K) (g : Given) (answer : Ran) (said version : ℕ) (traced : Option Range) (a b c : K) → said ≡ version
-    → Prints Done k a b (heading_text said) → Runs answer traced g k b c → RunsHeaded answer version traced g k a c
+    → Prints Done k a b (heading_text said) → Runs answer traced g (output k b c) → RunsHeaded answer version traced g (output k a c)
 headed k g answer said version traced a b c same first r = record {
   records = r.records;
   finish = r.finish;
@@ -368,7 +370,7 @@ headed k g answer said version traced a b c same first r = record {
 
 -- the line was not printed, and so nothing of the run
 pub headed_cut : {K : Type 0} (k : Account K) (g : Given) (answer : Ran) (said version : ℕ) (traced : Option Range) (a b : K) → IsCut answer → said ≡ version
-    → Prints (printed_of answer) k a b (heading_text said) → RunsHeaded answer version traced g k a b
+    → Prints (printed_of answer) k a b (heading_text said) → RunsHeaded answer version traced g (output k a b)
 headed_cut k g answer said version traced a b cut same p =
     let on = late_goes_on g [] tt in
     let first = prints_same k (printed_of answer) a b _ _ (ap heading_text same) p in

@@ -17,6 +17,15 @@ abbrev pub shelf : {F : Type 0} → (F → List ℕ → Option (List ℕ)) → (
     → Shelf F
 shelf told faults fetches sure = record { told = told; faults = faults; fetches = fetches; sure = sure }
 
+-- what was fetched from: what the members of a type of files say, and the files before and after
+pub record Stock (F : Type 0) : Type 1 where
+  pub shelf : Shelf F
+  pub old : F
+  pub new : F
+
+abbrev pub stock : {F : Type 0} → Shelf F → F → F → Stock F
+stock shelf old new = record { shelf = shelf; old = old; new = new }
+
 -- the count of a name rose from one state of the files to another
 abbrev pub rose_in : {F : Type 0} → (F → List ℕ → ℕ) → F → F → List ℕ → Type 0
 rose_in faults old new name = Rose (faults old name) (faults new name)

@@ -6,8 +6,6 @@ use Rattle.i9_course.specs.LateRun.{steps, IsLatePast, IsLateRun, finish_after}
 use Rattle.i9_machine.specs.declared.line.Line.{Line}
 use Rattle.i9_machine.specs.declared.line.Turn.{Turn}
 use Rattle.i9_machine.specs.declared.line.Turn.TheVariants as turns
-use Rattle.i9_machine.specs.declared.machine.Machine.{Machine}
-use Rattle.i9_schedule.specs.Plan.{Plan}
 use Rattle.i9_tool.specs.declared.words.Range.{Range}
 use Rattle.i9_tool.specs.Traced.{line_where, traced_line, printed_text, headed_text}
 use Rattle.i9_lines.specs.declared.print.Printed.{Printed}
@@ -15,9 +13,9 @@ use Rattle.i9_lines.specs.declared.print.Printed.TheVariants as printed
 use Rattle.i9_tool.specs.declared.run.Counted.{Counted}
 use Rattle.i9_tool.specs.declared.run.Ran.{Ran}
 use Rattle.i9_tool.specs.declared.run.Ran.TheVariants as ran
-use Rattle.i9_lines.specs.Print.{Account, Prints, line_text, OnCut}
+use Rattle.i9_lines.specs.Print.{Output, Prints, line_text, OnCut}
 use Rattle.i9_debug.specs.Session.{Place, at, ended}
-use Rattle.i9_debug.specs.Driven.{StandsAt, StopsAt}
+use Rattle.i9_debug.specs.Driven.{StandsAt, StopsAt, Target}
 
 -- how the printing of the run's text ended
 abbrev pub printed_of : Ran → Printed
@@ -32,21 +30,21 @@ TellsEnd ran.Write f = Unit {0}
 TellsEnd ran.Memory f = Unit {0}
 
 -- A text of the run of what is given, whose results land late, was printed on a sink of this type, or a front of it.
-pub record RunsAs {K : Type 0} (text : Given → List Record → Finish → List ℕ) (answer : Ran) (g : Given) (k : Account K)
-    (old new : K) : Type 0 where
+pub record RunsAs {K : Type 0} (text : Given → List Record → Finish → List ℕ) (answer : Ran) (g : Given)
+    (out : Output K) : Type 0 where
   pub records : List Record
   pub finish : Finish
   pub run : IsLateRun g records finish
-  pub prints : Prints (printed_of answer) k old new (text g records finish)
+  pub prints : Prints (printed_of answer) out.account out.old out.new (text g records finish)
   pub tells : TellsEnd answer finish
 
 -- the text of a run of which a range is traced, or nothing
-abbrev pub Runs : {K : Type 0} → Ran → Option Range → Given → Account K → K → K → Type 0
-Runs answer traced g k old new = RunsAs (printed_text traced) answer g k old new
+abbrev pub Runs : {K : Type 0} → Ran → Option Range → Given → Output K → Type 0
+Runs answer traced g out = RunsAs (printed_text traced) answer g out
 
 -- the same behind the line of the version of its schedule
-abbrev pub RunsHeaded : {K : Type 0} → Ran → ℕ → Option Range → Given → Account K → K → K → Type 0
-RunsHeaded answer version traced g k old new = RunsAs (headed_text version traced) answer g k old new
+abbrev pub RunsHeaded : {K : Type 0} → Ran → ℕ → Option Range → Given → Output K → Type 0
+RunsHeaded answer version traced g out = RunsAs (headed_text version traced) answer g out
 
 -- ---- the same under a relation of answers, those that it allows at an address
 
@@ -71,15 +69,15 @@ pub data StopsWith (g : Given) (rs : List Record) : Ran → List ℕ → Type 0 
 
 -- The text of the first records of the run of what is given was printed on a sink of this type, or a front of it; where
 -- all was printed, they are all, and the end is behind them.
-pub record TracesBy {K : Type 0} (answer : Ran) (allows : ℕ → Bool → Type 0) (g : Given) (k : Account K)
-    (old new : K) : Type 0 where
+pub record TracesBy {K : Type 0} (answer : Ran) (allows : ℕ → Bool → Type 0) (g : Given) (out : Output K)
+    : Type 0 where
   pub records : List Record
   pub past : IsLatePast g records
   pub text : List ℕ
   pub traced : TracedBy allows records text
   pub rest : List ℕ
   pub stops : StopsWith g records answer rest
-  pub prints : Prints (printed_of answer) k old new (text ++ rest)
+  pub prints : Prints (printed_of answer) out.account out.old out.new (text ++ rest)
 
 -- A traced run was cut: the text of the records before is whole, and behind them one more was done at most, or the end
 -- came.
@@ -91,12 +89,13 @@ pub data CutInTrace (allows : ℕ → Bool → Type 0) (g : Given) : List ℕ �
 
 -- The same of a machine, which stands behind what was done. Where printing stopped, that is the place of the cut: all
 -- is printed as it comes.
-pub record DrivesBy {K : Type 0} (answer : Ran) (allows : ℕ → Bool → Type 0) (g : Given) (k : Account K) (old new : K)
-    (m : Machine) (plan : Plan) : Type 0 where
-  pub traces : TracesBy answer allows g k old new
+pub record DrivesBy {K : Type 0} (answer : Ran) (allows : ℕ → Bool → Type 0) (g : Given) (out : Output K)
+    (driven : Target) : Type 0 where
+  pub traces : TracesBy answer allows g out
   pub place : Place
-  pub stands : StandsAt g place m plan
-  pub stopped : OnCut (printed_of answer) (StopsAt (CutInTrace allows g) (printed_of answer) k old new place)
+  pub stands : StandsAt g place driven.machine driven.plan
+  pub stopped : OnCut (printed_of answer)
+      (StopsAt (CutInTrace allows g) (printed_of answer) out.account out.old out.new place)
 
 -- an answer is allowed at the address of a step's instruction
 abbrev pub AllowsTurn : (ℕ → Bool → Type 0) → Turn → Bool → Type 0
@@ -118,10 +117,10 @@ step_text answer turn lines = turn_text answer turn ++ flat_map line_text lines
 
 -- The text of a step was printed, where an answer that is allowed says whether it has the line of an instruction.
 pub record PrintsBy {K : Type 0} (answer : Printed) (allows : ℕ → Bool → Type 0) (turn : Turn) (text : Bool → List ℕ)
-    (k : Account K) (old new : K) : Type 0 where
+    (out : Output K) : Type 0 where
   pub passes : Bool
   pub allowed : AllowsTurn allows turn passes
-  pub prints : Prints answer k old new (text passes)
+  pub prints : Prints answer out.account out.old out.new (text passes)
 
 -- The run of what is given, whose results land late, comes to so many instructions and so many events, and to this end.
 pub record Counts (counted : Counted) (g : Given) : Type 0 where

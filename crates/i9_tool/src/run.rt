@@ -6,7 +6,8 @@ ghost use Rattle.i9_model.specs.Image.{pairs_of};
 ghost use Rattle.i9_model.specs.ScheduleText.{IsPlan};
 ghost use Rattle.i9_machine.specs.StandsFor.{StandsFor, Follows, IsUnderWay};
 ghost use Rattle.i9_tracer.specs.Closures.{TakesEachAddress};
-ghost use Rattle.i9_lines.specs.Print.{account};
+ghost use Rattle.i9_debug.specs.Driven.{target};
+ghost use Rattle.i9_lines.specs.Print.{account, output};
 ghost use Rattle.i9_tool.specs.Run.{Counts, DrivesBy, PrintsBy, Runs, RunsHeaded, TracesBy, step_text, turn_text};
 ghost use Rattle.i9_tool.specs.Words.{AreFew};
 
@@ -39,7 +40,7 @@ fn print_turn<K: Sink, F: Fn(u32) -> bool + AddressTest>(
     out: &mut K,
 ) -> Printed
     ensures { PrintsBy result (F.AddressTest.allows f.now) turn.now (λ passes. turn_text passes turn.now)
-        (account K.told K.faults K.writes K.sure K.pieces) out.old out.new }
+        (output (account K.told K.faults K.writes K.sure K.pieces) out.old out.new) }
 {
     let Turn::Issued(issued) = turn else {
         return Printed::Done;
@@ -60,7 +61,7 @@ fn print_step<K: Sink, F: Fn(u32) -> bool + AddressTest>(
     out: &mut K,
 ) -> Printed
     ensures { PrintsBy result (F.AddressTest.allows f.now) turn.now (λ passes. step_text passes turn.now lines.now)
-        (account K.told K.faults K.writes K.sure K.pieces) out.old out.new }
+        (output (account K.told K.faults K.writes K.sure K.pieces) out.old out.new) }
 {
     match print_turn(alloc, f, turn, out) {
         Printed::Done => print_lines(alloc, lines, out),
@@ -81,7 +82,7 @@ fn run_machine<K: Sink, F: Fn(u32) -> bool + AddressTest>(
     requires stands { IsUnderWay m.old plan.old }
     ensures { (g : Given) → StandsFor g [] None m.old → Follows g [] plan.old
         → DrivesBy result (F.AddressTest.allows f.now) g
-        (account K.told K.faults K.writes K.sure K.pieces) out.old out.new m.new plan.new }
+        (output (account K.told K.faults K.writes K.sure K.pieces) out.old out.new) (target m.new plan.new) }
 {
     let mut lines = Vec::new(alloc);
     loop {
@@ -117,7 +118,7 @@ fn run_filtered<K: Sink, F: Fn(u32) -> bool + AddressTest>(
     requires few { AreFew sets }
     requires short { limit ≤ MAX_LENGTH }
     ensures { TracesBy result (F.AddressTest.allows f.now) (given (pairs_of image.now) plan.old.events limit sets)
-        (account K.told K.faults K.writes K.sure K.pieces) out.old out.new }
+        (output (account K.told K.faults K.writes K.sure K.pieces) out.old out.new) }
 {
     match Machine::new(alloc, image, sets, limit) {
         Ok(mut machine) => run_machine(alloc, &mut machine, plan, f, out),
@@ -141,7 +142,7 @@ fn run_with<K: Sink, F: Fn(u32) -> bool + AddressTest>(
     requires short { limit ≤ MAX_LENGTH }
     requires takes { TakesEachAddress (F.AddressTest.can_test f) }
     ensures { TracesBy result (F.AddressTest.allows f) (given (pairs_of image.now) plan.old.events limit sets)
-        (account K.told K.faults K.writes K.sure K.pieces) out.old out.new }
+        (output (account K.told K.faults K.writes K.sure K.pieces) out.old out.new) }
 {
     run_filtered(alloc, image, plan, sets, limit, &Filter::new(f), out)
 }
@@ -163,7 +164,7 @@ fn run<K: Sink>(
     requires few { AreFew sets }
     requires short { limit ≤ MAX_LENGTH }
     ensures { Runs result traced (given (pairs_of image.now) plan.old.events limit sets)
-        (account K.told K.faults K.writes K.sure K.pieces) out.old out.new }
+        (output (account K.told K.faults K.writes K.sure K.pieces) out.old out.new) }
 {
     match traced {
         None => {
@@ -196,7 +197,7 @@ pub(crate) fn run_headed<K: Sink>(
     requires few { AreFew sets }
     requires short { limit ≤ MAX_LENGTH }
     ensures { RunsHeaded result plan.old.version traced (given (pairs_of image.now) plan.old.events limit sets)
-        (account K.told K.faults K.writes K.sure K.pieces) out.old out.new }
+        (output (account K.told K.faults K.writes K.sure K.pieces) out.old out.new) }
 {
     match print_heading(plan.version(), out) {
         Printed::Done => run(alloc, image, plan, sets, limit, traced, out),

@@ -1,12 +1,11 @@
 -- One step more towards a stop.
-use Rattle.std.proofs.Common.{◌≡◌, ℕ, Bool, true, false, List, [], ◌∷◌, ◌++◌, map, Option, Some, None, refl, sym, ap, subst, ◌∙◌, append_assoc, arith}
+use Rattle.std.proofs.Common.{◌≡◌, ℕ, Bool, true, false, List, [], ◌∷◌, ◌++◌, map, Option, Some, None, sym, subst, ◌∙◌, arith}
 use Rattle.std.proofs.lemmas.List.{append-nil}
 use Rattle.std.proofs.lemmas.Option.{none-some}
-use Rattle.i9_model.specs.State.{State}
 use Rattle.i9_model.specs.declared.run.End.{End}
 use Rattle.i9_model.specs.declared.view.View.{View}
-use Rattle.i9_model.specs.PrintedText.{Shown, view_of, lines_of, record_lines, end_lines}
-use Rattle.i9_model.specs.Run.{Given, Kind, Instruction, Faulted, Entered, Interrupted, Reached, counts_of, state_after, Finish}
+use Rattle.i9_model.specs.PrintedText.{view_of, lines_of, record_lines, end_lines}
+use Rattle.i9_model.specs.Run.{Given, state_after, Finish}
 use Rattle.i9_schedule.specs.Plan.{Plan}
 use Rattle.i9_course.specs.Course.{Item, Step, records_of}
 use Rattle.i9_machine.specs.declared.line.Line.{Line}
@@ -14,40 +13,15 @@ use Rattle.i9_machine.specs.declared.line.Issued.{Issued}
 use Rattle.i9_machine.specs.declared.line.Turn.{Turn}
 use Rattle.i9_machine.specs.declared.line.Turn.TheVariants as answers
 use Rattle.i9_machine.specs.declared.machine.Machine.{Machine}
-use Rattle.i9_machine.specs.Line.{AddsLines, shown_of}
+use Rattle.i9_machine.specs.Line.{shown_of}
 use Rattle.i9_machine.specs.InRun.{IsInRun}
-use Rattle.i9_machine.specs.Step.{TellsRecord}
-use Rattle.i9_machine.proofs.InRuns.{comes_in_run}
 use Rattle.i9_machine.specs.StandsFor.{StandsFor, Follows, IsUnderWay, DoesNext, Comes, Proceeds, AnswersAgain, FollowsUntil}
+use Rattle.i9_machine.specs.Progress.{progress}
 use Rattle.i9_machine.specs.Turned.{steps_on}
+use Rattle.i9_machine.proofs.InRuns.{comes_in_run}
+use Rattle.i9_machine.proofs.Told.{issued_counts, on_counts}
+use Rattle.i9_machine.proofs.Turned.{more_lines, same_lines}
 use Rattle.i9_tracer.specs.Until.{IsPassed, Passes, StopsAt, EndsFirst, StopsShort, history}
-
--- ---- what a step is
-
--- a step that is told as an instruction counts
-pub issued_counts : (kind : Kind) (s : State) (t : Issued) → TellsRecord kind s (answers.Issued t) → counts_of kind ≡ 1
-issued_counts (Instruction i) s t h = refl
-issued_counts (Faulted inst fault) s t h = refl
-issued_counts (Entered e) s t h = absurd h
-issued_counts (Interrupted c e) s t h = absurd h
-issued_counts (Reached e u) s t h = absurd h
-
--- and no other one does
-pub on_counts : (kind : Kind) (s : State) → TellsRecord kind s answers.On → counts_of kind ≡ 1 → ⊥
-on_counts (Instruction i) s h one = h
-on_counts (Faulted inst fault) s h one = h
-on_counts (Entered e) s h one = omega (arith, one)
-on_counts (Interrupted c e) s h one = omega (arith, one)
-on_counts (Reached e u) s h one = omega (arith, one)
-
--- ---- lines
-
-more_lines : (old mid new : List Line) (xs ys : List Shown) → AddsLines old mid xs → AddsLines mid new ys → AddsLines old new (xs ++ ys)
-more_lines old mid new xs ys first then =
-    then ∙ ap (λ (ls : List Shown). ls ++ ys) first ∙ append_assoc (map shown_of old) xs ys
-
-same_lines : (old mid new : List Line) (xs : List Shown) → AddsLines old mid xs → new ≡ mid → AddsLines old new xs
-same_lines old mid new xs first same = ap (map shown_of) same ∙ first
 
 -- ---- steps
 
@@ -69,7 +43,7 @@ module _ (allows : View → Bool → Type 0) where
   module _ (g : Given) (h : List Item) (m : Machine) (was : Plan) (old mid : List Line) (since : Passes allows (history g h) m was old mid)
       (before next : Machine) (plan : Plan) (new : List Line) where
     -- one more record is passed
-    does_pass : (answer : Turn) → (d : DoesNext g (steps_on since.done h) answer before next plan mid new) → IsPassed allows d.done
+    does_pass : (answer : Turn) → (d : DoesNext g (steps_on since.done h) answer (progress before was mid) (progress next plan new)) → IsPassed allows d.done
         → Passes allows (history g h) next plan old new
     does_pass answer d passed = record {
       done = d.done ∷ since.done;
@@ -80,14 +54,14 @@ module _ (allows : View → Bool → Type 0) where
     }
 
     -- an instruction at which the stop does not hold
-    pub issued_pass : (t : Issued) (view : View) → Comes g (steps_on since.done h) (answers.Issued t) before next plan mid new
+    pub issued_pass : (t : Issued) (view : View) → Comes g (steps_on since.done h) (answers.Issued t) (progress before was mid) (progress next plan new)
         → Shows g next view → allows view false → Passes allows (history g h) next plan old new
     issued_pass t view d shows refused =
         let shown = shows (Step d.done ∷ steps_on since.done h) None d.stands in
         does_pass (answers.Issued t) d (λ one. subst (λ (v : View). allows v false) shown refused)
 
     -- one at which it does
-    pub issued_stops : (t : Issued) (view : View) → Comes g (steps_on since.done h) (answers.Issued t) before next plan mid new
+    pub issued_stops : (t : Issued) (view : View) → Comes g (steps_on since.done h) (answers.Issued t) (progress before was mid) (progress next plan new)
         → Shows g next view → allows view true → StopsAt allows (history g h) t next plan old new
     issued_stops t view d shows holds =
         let shown = shows (Step d.done ∷ steps_on since.done h) None d.stands in
@@ -105,11 +79,11 @@ module _ (allows : View → Bool → Type 0) where
         }
 
     -- an event or an entry
-    pub on_pass : Comes g (steps_on since.done h) answers.On before next plan mid new → Passes allows (history g h) next plan old new
-    on_pass d = does_pass answers.On d (λ one. absurd (on_counts d.done.kind d.done.before d.tells one))
+    pub on_pass : Comes g (steps_on since.done h) answers.On (progress before was mid) (progress next plan new) → Passes allows (history g h) next plan old new
+    on_pass d = does_pass answers.On d (λ one. let none = on_counts d.done.kind d.done.before d.tells in absurd (omega (arith, none, one)))
 
     -- the end
-    pub ends_first : (e : End) → Comes g (steps_on since.done h) (answers.End e) before next plan mid new → EndsFirst allows (history g h) e next plan old new
+    pub ends_first : (e : End) → Comes g (steps_on since.done h) (answers.End e) (progress before was mid) (progress next plan new) → EndsFirst allows (history g h) e next plan old new
     ends_first e d = record {
       done = since.done;
       finish = d.finish;
@@ -123,7 +97,7 @@ module _ (allows : View → Bool → Type 0) where
     }
 
     -- want of memory
-    pub stops_short : Comes g (steps_on since.done h) answers.Memory before next plan mid new → StopsShort allows (history g h) next plan old new
+    pub stops_short : Comes g (steps_on since.done h) answers.Memory (progress before was mid) (progress next plan new) → StopsShort allows (history g h) next plan old new
     stops_short d = record {
       since = record {
         done = since.done;
@@ -152,7 +126,7 @@ not_again f answer before m old new other again = other f.end again.answers
 -- where it answers none, the machine stays in its run
 pub stays_in_run : (before m : Machine) (was plan : Plan) (spare : ℕ) (old new : List Line) (answer : Turn) → IsInRun before was
     → ((e : End) → answer ≡ answers.End e → ⊥)
-    → ((g : Given) (h : List Item) → StandsFor g h None before → Follows g h was → Proceeds g h answer before m plan spare old new)
+    → ((g : Given) (h : List Item) → StandsFor g h None before → Follows g h was → Proceeds g h answer spare (progress before was old) (progress m plan new))
     → ((g : Given) (h : List Item) (f : Finish) → StandsFor g h (Some f) before → AnswersAgain f answer before m old new × (plan ≡ was))
     → IsInRun m plan
 stays_in_run before m was plan spare old new answer r other next again = by_end r.end r.stands r.follows
@@ -160,7 +134,7 @@ stays_in_run before m was plan spare old new answer r other next again = by_end 
     by_end : (end : Option Finish) → StandsFor r.given r.items end before → FollowsUntil r.given r.items end was → IsInRun m plan
     by_end None stands follows =
         let p = next r.given r.items stands follows in
-        comes_in_run r.given r.items answer p.mid m plan old new p.comes
+        comes_in_run r.given r.items answer (progress p.mid was old) (progress m plan new) p.comes
     by_end (Some f) stands follows = absurd (not_again f answer before m old new other (again r.given r.items f stands).0)
 
 pub still_stands : (g : Given) (h : List Item) (f : Finish) (before now : Machine) → now ≡ before → StandsFor g h (Some f) before

@@ -257,6 +257,7 @@ impl Machine {
     ghost use Rattle.i9_machine.specs.Step.{IsPlanned, IsSame, Steps, Finishes, Issues, HasRoom, finish_in, next_for};
     ghost use Rattle.i9_machine.specs.Step.{steps_left};
     ghost use Rattle.i9_machine.specs.NewPages.{AddsNextOnly};
+    ghost use Rattle.i9_machine.specs.Progress.{progress};
     ghost use Rattle.i9_machine.specs.Doing.{lines_of, line_count, asks_room, HasRoomForStep, IsReady, action_for};
     ghost use Rattle.i9_machine.specs.Doing.{PlansLight, state_behind};
     ghost use Rattle.i9_machine.specs.Issuing.{most_turns, IsIssued, CanActPlaced};
@@ -265,9 +266,9 @@ impl Machine {
     /// Answers an end, once its lines are written; the schedule goes on behind an event that is reached with it.
     pub(super) fn answer_end(&mut self, f: Ending, plan: &mut Schedule, out: &mut Vec<Line>) -> Turn
         requires running { self.old.ended ≡ None }
-        ensures finishes { Finishes self.old (finish_in plan.old f)
-            (vec_capacity out.old - vec_len out.old) result self.new
-            plan.old plan.new out.old.items out.new.items }
+        ensures finishes { Finishes (progress self.old plan.old out.old.items) (finish_in plan.old f)
+            (vec_capacity out.old - vec_len out.old) result
+            (progress self.new plan.new out.new.items) }
         ensures processor { self.new.processor ≡ self.old.processor }
         ensures spare { result ≡ Turn.Memory
             → vec_capacity out.new - vec_len out.new ≡ vec_capacity out.old - vec_len out.old }
@@ -428,7 +429,8 @@ impl Machine {
         requires step { IsPlanned self.old plan.old step.now }
         requires issue { IssuesAt self.old.board.last self.old.board.records self.old.need issue }
         requires come { HasCome self.old plan.old }
-        ensures steps { Steps self.old result self.new plan.old plan.new out.old.items out.new.items }
+        ensures steps { Steps (progress self.old plan.old out.old.items) result
+            (progress self.new plan.new out.new.items) }
         ensures issues { Issues self.old result self.new plan.old }
         ensures lacking { result ≡ Turn.Memory
             → HasRoom self.old (vec_capacity out.old - vec_len out.old) (next_for self.old plan.old) → ⊥ }

@@ -16,6 +16,7 @@ use i9_schedule::Schedule;
 impl Machine {
     ghost use Rattle.i9_machine.specs.StandsFor.{StandsFor, Follows, AnswersAgain, IsUnderWay};
     ghost use Rattle.i9_machine.specs.Step.{HasRoom};
+    ghost use Rattle.i9_machine.specs.Progress.{progress};
     ghost use Rattle.i9_machine.specs.Turned.{Turns};
 
     /// One turn: steps until the turn has risen by one, which is then answered as `On`, or until the end or want
@@ -27,7 +28,7 @@ impl Machine {
     pub fn turn(&mut self, plan: &mut Schedule, out: &mut Vec<Line>) -> Turn
         requires stands { self.old.ended ≡ None → IsUnderWay self.old plan.old }
         ensures next { (g : Given) (h : List Item) → StandsFor g h None self.old → Follows g h plan.old
-            → Turns g h result self.old self.new plan.new out.old.items out.new.items }
+            → Turns g h result (progress self.old plan.old out.old.items) (progress self.new plan.new out.new.items) }
         ensures again { (g : Given) (h : List Item) (f : Finish) → StandsFor g h (Some f) self.old
             → AnswersAgain f result self.old self.new out.old.items out.new.items × (plan.new ≡ plan.old) }
         ensures lacking { (g : Given) (h : List Item) → StandsFor g h None self.new → Follows g h plan.new
@@ -43,7 +44,7 @@ impl Machine {
     fn turn_on(&mut self, plan: &mut Schedule, out: &mut Vec<Line>) -> Turn
         requires stands { IsUnderWay self.old plan.old }
         ensures next { (g : Given) (h : List Item) → StandsFor g h None self.old → Follows g h plan.old
-            → Turns g h result self.old self.new plan.new out.old.items out.new.items }
+            → Turns g h result (progress self.old plan.old out.old.items) (progress self.new plan.new out.new.items) }
         ensures lacking { (g : Given) (h : List Item) → StandsFor g h None self.new → Follows g h plan.new
             → result ≡ Turn.Memory → HasRoom self.new (vec_capacity out.new - vec_len out.new) (comes_next g h) → ⊥ }
     {

@@ -1,4 +1,5 @@
 use Rattle.i9_machine.specs.declared.line.Turn.TheVariants as answers
+use Rattle.i9_machine.specs.Progress.{progress}
 use Rattle.i9_machine.specs.Turned.{steps_on}
 use Rattle.i9_machine.proofs.Turned.{does_under_way}
 use Rattle.i9_lines.specs.declared.print.Printed.TheVariants.{Done, Write, Memory}
@@ -56,7 +57,8 @@ loop-lines-preserved g c =
     let under = c.loop-lines.invariant.under_way in
     let came = c.proceed-turn.ensures.next under.given under.items under.stands under.follows in
     record {
-      under_way = does_under_way under.given under.items (answers.Issued c.in-Issued.field-0) _ _ _ _ _ (rw c.in-Issued.is at came.comes);
+      under_way = does_under_way under.given under.items (answers.Issued c.in-Issued.field-0) _
+          (progress c.proceed-turn.new.self c.proceed-turn.new.plan c.proceed-turn.new.out.items) (rw c.in-Issued.is at came.comes);
       sought = λ what h stands follows.
           let inv = c.loop-lines.invariant.sought what h stands follows in
           let came = c.proceed-turn.ensures.next what (steps_on inv.done h) inv.stands inv.follows in
@@ -70,7 +72,8 @@ loop-lines-preserved-in-On g c =
     let under = c.loop-lines.invariant.under_way in
     let came = c.proceed-turn.ensures.next under.given under.items under.stands under.follows in
     record {
-      under_way = does_under_way under.given under.items answers.On _ _ _ _ _ (rw c.in-On.is at came.comes);
+      under_way = does_under_way under.given under.items answers.On _
+          (progress c.proceed-turn.new.self c.proceed-turn.new.plan c.proceed-turn.new.out.items) (rw c.in-On.is at came.comes);
       sought = λ what h stands follows.
           let inv = c.loop-lines.invariant.sought what h stands follows in
           let came = c.proceed-turn.ensures.next what (steps_on inv.done h) inv.stands inv.follows in

@@ -62,7 +62,7 @@ loop-turn-preserved-in-On g c =
     let u = c.loop-turn.invariant.under_way in
     record {
       under_way = on_under_way u.given u.items (Some (c.at_turn.result + c.args.count)) c.proceed_below.result c.in-Some.turn c.loop-turn.m c.proceed_below.new.self
-          c.proceed_below.new.plan (vec_capacity c.clear.new.self - vec_len c.clear.new.self) c.clear.new.self.items c.proceed_below.new.out.items c.in-Some.is
+          c.loop-turn.plan c.proceed_below.new.plan (vec_capacity c.clear.new.self - vec_len c.clear.new.self) c.clear.new.self.items c.proceed_below.new.out.items c.in-Some.is
           (c.proceed_below.ensures.next u.given u.items u.stands u.follows) c.in-On.is;
       turned = λ what h stands follows.
           let inv = c.loop-turn.invariant.turned what h stands follows in
@@ -76,7 +76,7 @@ loop-turn-preserved g c =
     let u = c.loop-turn.invariant.under_way in
     record {
       under_way = issued_under_way u.given u.items (Some (c.at_turn.result + c.args.count)) c.proceed_below.result c.in-Some.turn c.loop-turn.m c.proceed_below.new.self
-          c.proceed_below.new.plan (vec_capacity c.clear.new.self - vec_len c.clear.new.self) c.clear.new.self.items c.proceed_below.new.out.items c.in-Some.is
+          c.loop-turn.plan c.proceed_below.new.plan (vec_capacity c.clear.new.self - vec_len c.clear.new.self) c.clear.new.self.items c.proceed_below.new.out.items c.in-Some.is
           (c.proceed_below.ensures.next u.given u.items u.stands u.follows) c.in-Issued.field-0 c.in-Issued.is;
       turned = λ what h stands follows.
           let inv = c.loop-turn.invariant.turned what h stands follows in

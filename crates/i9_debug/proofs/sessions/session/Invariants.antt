@@ -1,9 +1,9 @@
 use Rattle.std.proofs.Common.{[], take}
 use Rattle.i9_back.specs.Trail.{IsTrail}
 use Rattle.i9_lines.specs.declared.print.Printed.TheVariants.{Done}
-use Rattle.i9_lines.specs.Print.{account}
+use Rattle.i9_lines.specs.Print.{account, output}
 use Rattle.i9_debug.specs.Session.{at, IsText}
-use Rattle.i9_debug.specs.Driven.{given_of, Drives, CutInScript, output, target}
+use Rattle.i9_debug.specs.Driven.{given_of, Drives, CutInScript, target}
 use Rattle.i9_debug.proofs.sessions.session.Given as goal
 
 abbrev pub invariant-loop-c : goal.invariant-loop-c

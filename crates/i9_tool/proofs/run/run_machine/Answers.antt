@@ -2,6 +2,7 @@ use Rattle.std.proofs.Common.{sym}
 use Rattle.i9_course.specs.LateRun.{steps}
 use Rattle.i9_machine.specs.declared.line.Turn.TheVariants as turns
 use Rattle.i9_tool.specs.declared.run.Ran.TheVariants as ran
+use Rattle.i9_machine.specs.Progress.{progress}
 use Rattle.i9_machine.proofs.Turned.{does_under_way}
 use Rattle.i9_tool.proofs.Running.{none_done, on_done, issued_done, in_step, ran_refused, at_the_end}
 use Rattle.i9_tool.proofs.run.run_machine.Goals as goal
@@ -56,7 +57,8 @@ loop-lines-preserved g c =
     let under = c.loop-lines.invariant.under_way in
     let came = c.proceed-turn.ensures.next under.given under.items under.stands under.follows in
     record {
-      under_way = does_under_way under.given under.items (turns.Issued c.in-Issued.field-0) _ _ _ _ _ (rw c.in-Issued.is at came.comes);
+      under_way = does_under_way under.given under.items (turns.Issued c.in-Issued.field-0) _
+          (progress c.proceed-turn.new.self c.proceed-turn.new.plan c.proceed-turn.new.out.items) (rw c.in-Issued.is at came.comes);
       traced = λ what stands follows.
           let inv = c.loop-lines.invariant.traced what stands follows in
           let came = c.proceed-turn.ensures.next what (steps inv.done) inv.stands inv.follows in
@@ -71,7 +73,8 @@ loop-lines-preserved-in-On g c =
     let under = c.loop-lines.invariant.under_way in
     let came = c.proceed-turn.ensures.next under.given under.items under.stands under.follows in
     record {
-      under_way = does_under_way under.given under.items turns.On _ _ _ _ _ (rw c.in-On.is at came.comes);
+      under_way = does_under_way under.given under.items turns.On _
+          (progress c.proceed-turn.new.self c.proceed-turn.new.plan c.proceed-turn.new.out.items) (rw c.in-On.is at came.comes);
       traced = λ what stands follows.
           let inv = c.loop-lines.invariant.traced what stands follows in
           let came = c.proceed-turn.ensures.next what (steps inv.done) inv.stands inv.follows in

@@ -4,6 +4,7 @@ use Rattle.i9_course.specs.Course.{ahead, comes_next}
 use Rattle.i9_machine.specs.declared.line.Turn.{Turn}
 use Rattle.i9_machine.specs.StandsFor.{Advances}
 use Rattle.i9_machine.specs.Step.{steps_left}
+use Rattle.i9_machine.specs.Progress.{progress}
 use Rattle.i9_machine.proofs.Arriving.{here_arrived}
 use Rattle.i9_machine.proofs.Lifting.{came_advances, next_room}
 use Rattle.i9_machine.proofs.NewPages.{same_pages, none_next, next_behind, like_only, run_only}
@@ -36,7 +37,7 @@ returns-then-self-turn-clause-next c = λ g h stands follows.
     let turn : (ahead g h).turn ≡ max m.turn t = (c.look-turn.ensures.arrives g h stands follows).turn in
     let same : mid.turn ≡ m.turn = c.look-turn.ensures.like.turn in
     let later : mid.turn < t = c.if-self-turn.true in
-    subst (λ (x : Turn). Advances g h x m c.wait_until.new.self c.args.plan.now c.args.out.now.items c.args.out.now.items) (sym c.wait_until.ensures.answer)
+    subst (λ (x : Turn). Advances g h x (progress m c.args.plan.now c.args.out.now.items) (progress c.wait_until.new.self c.args.plan.now c.args.out.now.items)) (sym c.wait_until.ensures.answer)
     (inl (moved g h m c.wait_until.new.self c.args.plan.now c.args.out.now.items t stands follows (omega (arith, same, later)) (omega (arith, turn))
     (like_moved m mid c.wait_until.new.self t c.look-turn.ensures.like c.wait_until.ensures.moved)))
 
@@ -47,8 +48,8 @@ returns-then-self-turn-clause-fewer c =
 
 pub returns-else-self-turn-clause-next : goal.returns-else-self-turn-clause-next
 returns-else-self-turn-clause-next c = λ g h stands follows.
-    came_advances g h c.look-turn.result.0 c.look-turn.result.1 c.args.self.now c.look-turn.new.self c.come.result c.come.new.self c.args.plan.now c.come.new.plan
-    c.args.out.now.items c.come.new.out.items stands follows c.look-turn.ensures.like (omega (arith, c.if-self-turn.false))
+    came_advances g h c.look-turn.result.0 c.look-turn.result.1 (progress c.args.self.now c.args.plan.now c.args.out.now.items) c.look-turn.new.self c.come.result
+    (progress c.come.new.self c.come.new.plan c.come.new.out.items) stands follows c.look-turn.ensures.like (omega (arith, c.if-self-turn.false))
     (c.look-turn.ensures.arrives g h stands follows) c.come.ensures.came
 
 pub returns-else-self-turn-clause-lacking : goal.returns-else-self-turn-clause-lacking

@@ -3,6 +3,7 @@ use Rattle.i9_model.specs.Turns.{end_turn}
 use Rattle.i9_machine.specs.declared.step.Coming.{Coming}
 use Rattle.i9_machine.specs.Coming.{IsReadyFor, Came, overtaken_by}
 use Rattle.i9_machine.specs.Step.{HasRoom, next_for}
+use Rattle.i9_machine.specs.Progress.{progress}
 use Rattle.i9_machine.proofs.Arriving.{arrived_come}
 use Rattle.i9_machine.proofs.Ending.{finish_overtakes, finish_lacks_late, finish_still_lacks_late, finish_fewer}
 use Rattle.i9_machine.proofs.NewPages.{same_next}
@@ -16,7 +17,7 @@ step_drained-requires-clause-come c =
 
 pub returns-in-Waiting-clause-came : goal.returns-in-Waiting-clause-came
 returns-in-Waiting-clause-came c =
-    subst (λ (x : Coming). Came x c.args.self.now c.step_drained.result c.step_drained.new.self c.args.plan.now c.step_drained.new.plan c.args.out.now.items c.step_drained.new.out.items)
+    subst (λ (x : Coming). Came x (progress c.args.self.now c.args.plan.now c.args.out.now.items) c.step_drained.result (progress c.step_drained.new.self c.step_drained.new.plan c.step_drained.new.out.items))
     (sym c.in-Waiting.is) (c.step_drained.ensures.steps, c.step_drained.ensures.issues)
 
 pub step_drained-requires-clause-drained : goal.step_drained-requires-clause-drained
@@ -41,26 +42,26 @@ pub returns-in-Overtaking-clause-came : goal.returns-in-Overtaking-clause-came
 returns-in-Overtaking-clause-came c =
     let m = c.args.self.now in
     let late = subst (IsReadyFor m c.args.plan.now c.args.turn) c.in-Overtaking.is c.requires.ready in
-    subst (λ (x : Coming). Came x m c.answer_end.result c.answer_end.new.self c.args.plan.now c.answer_end.new.plan c.args.out.now.items c.answer_end.new.out.items)
-    (sym c.in-Overtaking.is) (finish_overtakes m _ _ c.answer_end.result c.answer_end.new.self c.args.plan.now _ _ _ late c.answer_end.ensures.finishes)
+    subst (λ (x : Coming). Came x (progress m c.args.plan.now c.args.out.now.items) c.answer_end.result (progress c.answer_end.new.self c.answer_end.new.plan c.answer_end.new.out.items))
+    (sym c.in-Overtaking.is) (finish_overtakes (progress m c.args.plan.now c.args.out.now.items) _ _ c.answer_end.result (progress c.answer_end.new.self c.answer_end.new.plan c.answer_end.new.out.items) late c.answer_end.ensures.finishes)
 
 pub returns-in-Overtaking-clause-lacking : goal.returns-in-Overtaking-clause-lacking
 returns-in-Overtaking-clause-lacking c =
     let m = c.args.self.now in
     let late = subst (IsReadyFor m c.args.plan.now c.args.turn) c.in-Overtaking.is c.requires.ready in
-    finish_lacks_late m _ _ c.answer_end.result c.answer_end.new.self c.args.plan.now _ _ _ late c.answer_end.ensures.finishes
+    finish_lacks_late (progress m c.args.plan.now c.args.out.now.items) _ _ c.answer_end.result (progress c.answer_end.new.self c.answer_end.new.plan c.answer_end.new.out.items) late c.answer_end.ensures.finishes
 
 pub returns-in-Overtaking-clause-still_lacking : goal.returns-in-Overtaking-clause-still_lacking
 returns-in-Overtaking-clause-still_lacking c = λ is room.
     let m = c.args.self.now in
     let new = c.answer_end.new.self in
     let late = subst (IsReadyFor m c.args.plan.now c.args.turn) c.in-Overtaking.is c.requires.ready in
-    finish_still_lacks_late m _ _ c.answer_end.result new c.args.plan.now c.answer_end.new.plan _ _ late c.answer_end.ensures.finishes is
+    finish_still_lacks_late (progress m c.args.plan.now c.args.out.now.items) _ _ c.answer_end.result (progress c.answer_end.new.self c.answer_end.new.plan c.answer_end.new.out.items) late c.answer_end.ensures.finishes is
     (subst (λ (n : ℕ). HasRoom new n (next_for new c.answer_end.new.plan)) (c.answer_end.ensures.spare is) room)
 
 pub returns-in-Overtaking-clause-fewer : goal.returns-in-Overtaking-clause-fewer
 returns-in-Overtaking-clause-fewer c =
-    finish_fewer c.args.self.now _ _ c.answer_end.result c.answer_end.new.self _ _ _ _ _ _ c.answer_end.ensures.finishes
+    finish_fewer _ _ _ c.answer_end.result _ _ _ c.answer_end.ensures.finishes
 
 pub step_running-requires-clause-come : goal.step_running-requires-clause-come
 step_running-requires-clause-come c =
@@ -68,7 +69,7 @@ step_running-requires-clause-come c =
 
 pub returns-in-Running-clause-came : goal.returns-in-Running-clause-came
 returns-in-Running-clause-came c =
-    subst (λ (x : Coming). Came x c.args.self.now c.step_running.result c.step_running.new.self c.args.plan.now c.step_running.new.plan c.args.out.now.items c.step_running.new.out.items)
+    subst (λ (x : Coming). Came x (progress c.args.self.now c.args.plan.now c.args.out.now.items) c.step_running.result (progress c.step_running.new.self c.step_running.new.plan c.step_running.new.out.items))
     (sym c.in-Running.is) (c.step_running.ensures.steps, c.step_running.ensures.issues)
 
 pub step_running-requires-clause-runs : goal.step_running-requires-clause-runs
@@ -80,7 +81,7 @@ step_storing-requires-clause-come c =
 
 pub returns-in-Running-2-clause-came : goal.returns-in-Running-2-clause-came
 returns-in-Running-2-clause-came c =
-    subst (λ (x : Coming). Came x c.args.self.now c.step_storing.result c.step_storing.new.self c.args.plan.now c.step_storing.new.plan c.args.out.now.items c.step_storing.new.out.items)
+    subst (λ (x : Coming). Came x (progress c.args.self.now c.args.plan.now c.args.out.now.items) c.step_storing.result (progress c.step_storing.new.self c.step_storing.new.plan c.step_storing.new.out.items))
     (sym c.in-Running-2.is) (c.step_storing.ensures.steps, c.step_storing.ensures.issues)
 
 pub step_storing-requires-clause-runs : goal.step_storing-requires-clause-runs
@@ -92,7 +93,7 @@ step_faulting-requires-clause-come c =
 
 pub returns-in-Faulting-clause-came : goal.returns-in-Faulting-clause-came
 returns-in-Faulting-clause-came c =
-    subst (λ (x : Coming). Came x c.args.self.now c.step_faulting.result c.step_faulting.new.self c.args.plan.now c.step_faulting.new.plan c.args.out.now.items c.step_faulting.new.out.items)
+    subst (λ (x : Coming). Came x (progress c.args.self.now c.args.plan.now c.args.out.now.items) c.step_faulting.result (progress c.step_faulting.new.self c.step_faulting.new.plan c.step_faulting.new.out.items))
     (sym c.in-Faulting.is) (c.step_faulting.ensures.steps, c.step_faulting.ensures.issues)
 
 pub step_faulting-requires-clause-ahead : goal.step_faulting-requires-clause-ahead

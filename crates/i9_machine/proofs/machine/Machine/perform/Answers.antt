@@ -24,6 +24,7 @@ use Rattle.i9_processor.proofs.NewSets.{made_size, made_takes}
 use Rattle.i9_machine.specs.declared.line.Turn.{Turn}
 use Rattle.i9_machine.specs.StandsFor.{LeavesFewer, left_after}
 use Rattle.i9_machine.specs.Issuing.{most_turns, IsIssued}
+use Rattle.i9_machine.specs.Progress.{progress}
 use Rattle.i9_machine.proofs.Arriving.{kept_planned}
 use Rattle.i9_machine.proofs.Turning.{waiting_cost, paced_early}
 use Rattle.i9_machine.proofs.Unmoved.{next_stays}
@@ -214,7 +215,7 @@ returns-in-Ok-clause-steps c =
     let regions = (state_of new.processor).memory in
     let alike = subst (λ (t : State). AreAlike (state_behind_of t e c.args.step.now) (state_of new.processor)) same.state act.state in
     let action : action_in (state_of mid.processor) e ≡ action_by_kind step.kind s = ap (λ (t : State). action_in t e) same.state ∙ step.effect.same in
-    let done : Did old c.args.step.now.answer new was c.go_on.new.plan c.args.out.now.items c.act-answer.new.out.items = record {
+    let done : Did (progress old was c.args.out.now.items) c.args.step.now.answer (progress new c.go_on.new.plan c.act-answer.new.out.items) = record {
       done = record_of step.kind s;
       is_next = step.is_next;
       state = behind_alike old was c.args.step.now kept.need e (state_of new.processor) step alike;
@@ -243,8 +244,8 @@ returns-in-Ok-clause-steps c =
           ∙ ap (λ (ls : List Shown). map shown_of c.args.out.now.items ++ ls) (step_lines old was c.args.step.now kept.need e step);
       tells = step.tells;
     } in
-    subst (λ (t : Turn). Steps old t new was c.go_on.new.plan c.args.out.now.items c.act-answer.new.out.items) (sym act.answer)
-    (did_steps old c.args.step.now.answer new was c.go_on.new.plan c.args.out.now.items c.act-answer.new.out.items s step.kind step.tells done)
+    subst (λ (t : Turn). Steps (progress old was c.args.out.now.items) t (progress new c.go_on.new.plan c.act-answer.new.out.items)) (sym act.answer)
+    (did_steps (progress old was c.args.out.now.items) c.args.step.now.answer (progress new c.go_on.new.plan c.act-answer.new.out.items) s step.kind step.tells done)
 
 pub returns-in-Err-clause-steps : goal.returns-in-Err-clause-steps
 returns-in-Err-clause-steps c =

@@ -7,6 +7,7 @@ use Rattle.i9_processor.specs.Effect.{KeepsRoom}
 use Rattle.i9_processor.specs.Pages.{AddsNoPage}
 use Rattle.i9_machine.specs.StandsFor.{ProceedsUntil}
 use Rattle.i9_machine.specs.Step.{steps_left}
+use Rattle.i9_machine.specs.Progress.{progress}
 use Rattle.i9_machine.proofs.Arriving.{passed_arrived, passed_ended, passed_stands, passed_turn, passed_ready, passed_left, fewer_from}
 use Rattle.i9_machine.proofs.Lifting.{came_comes, next_room, kept_room}
 use Rattle.i9_machine.proofs.NewPages.{none_next, next_behind, run_only}
@@ -60,7 +61,7 @@ returns-in_default-clause-next c = λ g h stands follows.
         mid = c.pass_to-in_default.new.self;
         now = omega (arith, turn, same, now);
         stands = stands_now;
-        comes = came_comes g h c.look-turn.result.1 c.pass_to-in_default.new.self c.come.result c.come.new.self c.args.plan.now c.come.new.plan out.items c.come.new.out.items
+        comes = came_comes g h c.look-turn.result.1 (progress c.pass_to-in_default.new.self c.args.plan.now out.items) c.come.result (progress c.come.new.self c.come.new.plan c.come.new.out.items)
             stands_now follows at.imprecise (omega (arith, turn, same, now)) c.come.ensures.came;
         lacking = λ is room.
             let spare = vec_capacity out - vec_len out in
@@ -99,7 +100,7 @@ returns-in-Some-clause-next c = λ g h stands follows.
     let at : c.max.result ≡ max c.look-turn.result.0 mid.turn = c.max.ensures in
     let now : next.turn ≡ max mid.turn u = passed_turn u mid next c.pass_to.ensures.passed in
     let later : u ≤ (ahead g h).turn = omega (arith, turn, same, low, at) in
-    subst (λ (x : Option ℕ). ProceedsUntil g h x None m next c.args.plan.now (vec_capacity c.args.out.now - vec_len c.args.out.now) c.args.out.now.items c.args.out.now.items) (sym c.in-Some.is)
+    subst (λ (x : Option ℕ). ProceedsUntil g h x None (vec_capacity c.args.out.now - vec_len c.args.out.now) (progress m c.args.plan.now c.args.out.now.items) (progress next c.args.plan.now c.args.out.now.items)) (sym c.in-Some.is)
     (record {
       later = later;
       turn = omega (arith, same, now);

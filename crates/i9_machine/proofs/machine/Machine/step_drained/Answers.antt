@@ -3,6 +3,7 @@ use Rattle.std.proofs.Common.{ℕ, ◌∙◌, subst}
 use Rattle.i9_course.specs.Course.{records_of}
 use Rattle.i9_machine.specs.Step.{HasRoom, next_for, steps_left}
 use Rattle.i9_machine.specs.StandsFor.{left_after}
+use Rattle.i9_machine.specs.Progress.{progress}
 use Rattle.i9_machine.proofs.Arriving.{kept_planned}
 use Rattle.i9_machine.proofs.Ending.{finish_steps, finish_issues, finish_lacks, finish_still_lacks, finish_fewer, like_finishes}
 use Rattle.i9_machine.proofs.NewPages.{same_next, like_only}
@@ -29,7 +30,7 @@ perform-requires-clause-come c = like_come c.args.self.now c.next_step.new.self 
 
 pub returns-in-Ok-clause-steps : goal.returns-in-Ok-clause-steps
 returns-in-Ok-clause-steps c =
-    like_steps c.args.self.now c.next_step.new.self c.perform.new.self c.perform.result _ _ _ _ c.next_step.ensures.like c.perform.ensures.steps
+    like_steps _ c.next_step.new.self _ c.perform.result c.next_step.ensures.like c.perform.ensures.steps
 
 pub returns-in-Ok-clause-issues : goal.returns-in-Ok-clause-issues
 returns-in-Ok-clause-issues c =
@@ -51,41 +52,36 @@ answer_end-requires c = record { running = c.next_step.ensures.like.ended ∙ c.
 
 pub returns-in-Err-clause-steps : goal.returns-in-Err-clause-steps
 returns-in-Err-clause-steps c =
-    let m = c.args.self.now in
     let out = c.args.out.now in
-    finish_steps m _ _ c.answer_end.result c.answer_end.new.self c.args.plan.now _ _ _ c.in-Err.ensures.next
-    (like_finishes m c.next_step.new.self _ (vec_capacity out - vec_len out) c.answer_end.result c.answer_end.new.self _ _ _ _
-    c.next_step.ensures.like c.answer_end.ensures.finishes)
+    finish_steps _ _ _ c.answer_end.result _ c.in-Err.ensures.next
+    (like_finishes _ c.next_step.new.self _ (vec_capacity out - vec_len out) c.answer_end.result _ c.next_step.ensures.like c.answer_end.ensures.finishes)
 
 pub returns-in-Err-clause-issues : goal.returns-in-Err-clause-issues
 returns-in-Err-clause-issues c =
     let m = c.args.self.now in
     let out = c.args.out.now in
-    finish_issues m _ _ c.answer_end.result c.answer_end.new.self c.args.plan.now _ _ _
-    (like_finishes m c.next_step.new.self _ (vec_capacity out - vec_len out) c.answer_end.result c.answer_end.new.self _ _ _ _
-    c.next_step.ensures.like c.answer_end.ensures.finishes)
+    finish_issues (progress m c.args.plan.now out.items) _ _ c.answer_end.result (progress c.answer_end.new.self c.answer_end.new.plan c.answer_end.new.out.items)
+    (like_finishes _ c.next_step.new.self _ (vec_capacity out - vec_len out) c.answer_end.result _ c.next_step.ensures.like c.answer_end.ensures.finishes)
 
 pub returns-in-Err-clause-lacking : goal.returns-in-Err-clause-lacking
 returns-in-Err-clause-lacking c =
     let m = c.args.self.now in
     let out = c.args.out.now in
-    finish_lacks m _ (vec_capacity out - vec_len out) c.answer_end.result c.answer_end.new.self c.args.plan.now _ _ _ c.in-Err.ensures.next
-    (like_finishes m c.next_step.new.self _ (vec_capacity out - vec_len out) c.answer_end.result c.answer_end.new.self _ _ _ _
-    c.next_step.ensures.like c.answer_end.ensures.finishes)
+    finish_lacks (progress m c.args.plan.now out.items) _ (vec_capacity out - vec_len out) c.answer_end.result (progress c.answer_end.new.self c.answer_end.new.plan c.answer_end.new.out.items) c.in-Err.ensures.next
+    (like_finishes _ c.next_step.new.self _ (vec_capacity out - vec_len out) c.answer_end.result _ c.next_step.ensures.like c.answer_end.ensures.finishes)
 
 pub returns-in-Err-clause-fewer : goal.returns-in-Err-clause-fewer
 returns-in-Err-clause-fewer c =
     let out = c.args.out.now in
-    finish_fewer c.next_step.new.self _ (vec_capacity out - vec_len out) c.answer_end.result c.answer_end.new.self _ _ _ _ _ _ c.answer_end.ensures.finishes
+    finish_fewer _ _ (vec_capacity out - vec_len out) c.answer_end.result _ _ _ c.answer_end.ensures.finishes
 
 pub returns-in-Err-clause-still_lacking : goal.returns-in-Err-clause-still_lacking
 returns-in-Err-clause-still_lacking c = λ is room.
     let m = c.args.self.now in
     let out = c.args.out.now in
     let new = c.answer_end.new.self in
-    finish_still_lacks m _ (vec_capacity out - vec_len out) c.answer_end.result new c.args.plan.now c.answer_end.new.plan _ _ c.in-Err.ensures.next
-    (like_finishes m c.next_step.new.self _ (vec_capacity out - vec_len out) c.answer_end.result new _ _ _ _
-    c.next_step.ensures.like c.answer_end.ensures.finishes) is
+    finish_still_lacks (progress m c.args.plan.now out.items) _ (vec_capacity out - vec_len out) c.answer_end.result (progress c.answer_end.new.self c.answer_end.new.plan c.answer_end.new.out.items) c.in-Err.ensures.next
+    (like_finishes _ c.next_step.new.self _ (vec_capacity out - vec_len out) c.answer_end.result _ c.next_step.ensures.like c.answer_end.ensures.finishes) is
     (subst (λ (n : ℕ). HasRoom new n (next_for new c.answer_end.new.plan)) (c.answer_end.ensures.spare is) room)
 
 pub returns-in-Ok-clause-only : goal.returns-in-Ok-clause-only

@@ -20,7 +20,7 @@ perform-requires-clause-come c = like_come c.args.self.now c.faults_by-step.new.
 
 pub returns-clause-steps : goal.returns-clause-steps
 returns-clause-steps c =
-    like_steps c.args.self.now c.faults_by-step.new.self c.perform.new.self c.perform.result _ _ _ _ c.faults_by-step.ensures.like c.perform.ensures.steps
+    like_steps _ c.faults_by-step.new.self _ c.perform.result c.faults_by-step.ensures.like c.perform.ensures.steps
 
 pub returns-clause-issues : goal.returns-clause-issues
 returns-clause-issues c =

@@ -1,4 +1,5 @@
 use Rattle.i9_machine.specs.declared.line.Turn.TheVariants as answers
+use Rattle.i9_machine.specs.Progress.{progress}
 use Rattle.i9_machine.specs.Turned.{steps_on}
 use Rattle.i9_machine.proofs.Turned.{none_done, does_since, ends_since, stops_since, risen_since, still_since, does_under_way, still_under_way}
 use Rattle.i9_machine.proofs.machine.Machine.turn_on.Goals as goal
@@ -6,7 +7,7 @@ use Rattle.i9_machine.proofs.machine.Machine.turn_on.Goals as goal
 pub steps-init : goal.steps-init
 steps-init c = (
   c.requires.stands,
-  λ g h stands follows. none_done g h c.args.self.now c.args.plan.now c.args.out.now.items stands follows,
+  λ g h stands follows. none_done g h (progress c.args.self.now c.args.plan.now c.args.out.now.items) stands follows,
 )
 
 pub returns-then-self-begun : goal.returns-then-self-begun
@@ -14,8 +15,7 @@ returns-then-self-begun c = record {
   next = λ g h stands follows.
       let held = c.steps.invariant.1 g h stands follows in
       let since = held.0 in
-      risen_since g h c.args.self.now c.steps.self c.steps.plan c.args.out.now.items c.steps.out.items held
-      c.advance.new.self c.advance.new.plan c.advance.new.out.items
+      risen_since g h (progress c.args.self.now c.args.plan.now c.args.out.now.items) (progress c.steps.self c.steps.plan c.steps.out.items) held (progress c.advance.new.self c.advance.new.plan c.advance.new.out.items)
       (c.in-On.ensures.only g (steps_on since.done h) since.stands since.follows)
       (c.in-On.ensures.next g (steps_on since.done h) since.stands since.follows) c.if-self-begun.true;
   lacking = λ g h stands follows is. absurd (cc is);
@@ -24,13 +24,12 @@ returns-then-self-begun c = record {
 pub steps-preserved-else-self-begun : goal.steps-preserved-else-self-begun
 steps-preserved-else-self-begun c =
     let under = c.steps.invariant.0 in (
-      still_under_way under.given under.items c.steps.self c.advance.new.self c.advance.new.plan c.steps.out.items c.advance.new.out.items
+      still_under_way under.given under.items (progress c.steps.self c.steps.plan c.steps.out.items) (progress c.advance.new.self c.advance.new.plan c.advance.new.out.items)
           (c.in-On.ensures.next under.given under.items under.stands under.follows),
       λ g h stands follows.
           let held = c.steps.invariant.1 g h stands follows in
           let since = held.0 in
-          still_since g h c.args.self.now c.steps.self c.steps.plan c.args.out.now.items c.steps.out.items held
-          c.advance.new.self c.advance.new.plan c.advance.new.out.items
+          still_since g h (progress c.args.self.now c.args.plan.now c.args.out.now.items) (progress c.steps.self c.steps.plan c.steps.out.items) held (progress c.advance.new.self c.advance.new.plan c.advance.new.out.items)
           (c.in-On.ensures.only g (steps_on since.done h) since.stands since.follows)
           (c.in-On.ensures.next g (steps_on since.done h) since.stands since.follows) c.if-self-begun.false,
     )
@@ -38,13 +37,12 @@ steps-preserved-else-self-begun c =
 pub steps-preserved : goal.steps-preserved
 steps-preserved c =
     let under = c.steps.invariant.0 in (
-      does_under_way under.given under.items (answers.Issued c.in-Issued.field-0) c.steps.self c.advance.new.self c.advance.new.plan c.steps.out.items c.advance.new.out.items
+      does_under_way under.given under.items (answers.Issued c.in-Issued.field-0) (progress c.steps.self c.steps.plan c.steps.out.items) (progress c.advance.new.self c.advance.new.plan c.advance.new.out.items)
           (c.in-Issued.ensures.next under.given under.items under.stands under.follows),
       λ g h stands follows.
           let held = c.steps.invariant.1 g h stands follows in
           let since = held.0 in
-          does_since g h c.args.self.now c.steps.self c.steps.plan c.args.out.now.items c.steps.out.items held
-          c.advance.new.self c.advance.new.plan c.advance.new.out.items
+          does_since g h (progress c.args.self.now c.args.plan.now c.args.out.now.items) (progress c.steps.self c.steps.plan c.steps.out.items) held (progress c.advance.new.self c.advance.new.plan c.advance.new.out.items)
           (c.in-Issued.ensures.only g (steps_on since.done h) since.stands since.follows) (answers.Issued c.in-Issued.field-0)
           (c.in-Issued.ensures.next g (steps_on since.done h) since.stands since.follows),
     )
@@ -54,8 +52,7 @@ returns-in-End c = record {
   next = λ g h stands follows.
       let held = c.steps.invariant.1 g h stands follows in
       let since = held.0 in
-      ends_since g h c.args.self.now c.steps.self c.steps.plan c.args.out.now.items c.steps.out.items held
-      c.advance.new.self c.advance.new.plan c.advance.new.out.items
+      ends_since g h (progress c.args.self.now c.args.plan.now c.args.out.now.items) (progress c.steps.self c.steps.plan c.steps.out.items) held (progress c.advance.new.self c.advance.new.plan c.advance.new.out.items)
       (c.in-End.ensures.only g (steps_on since.done h) since.stands since.follows) c.in-End.e
       (c.in-End.ensures.next g (steps_on since.done h) since.stands since.follows);
   lacking = λ g h stands follows is. absurd (cc is);
@@ -66,8 +63,7 @@ returns-in-Memory c = record {
   next = λ g h stands follows.
       let held = c.steps.invariant.1 g h stands follows in
       let since = held.0 in
-      stops_since g h c.args.self.now c.steps.self c.steps.plan c.args.out.now.items c.steps.out.items held
-      c.advance.new.self c.advance.new.plan c.advance.new.out.items
+      stops_since g h (progress c.args.self.now c.args.plan.now c.args.out.now.items) (progress c.steps.self c.steps.plan c.steps.out.items) held (progress c.advance.new.self c.advance.new.plan c.advance.new.out.items)
       (c.in-Memory.ensures.only g (steps_on since.done h) since.stands since.follows)
       (c.in-Memory.ensures.next g (steps_on since.done h) since.stands since.follows);
   lacking = c.in-Memory.ensures.still_lacking;
