@@ -13,7 +13,6 @@ use Rattle.i9_agree.proofs.HeldRuns.{IsFreeRecord, next_free, configured_by, set
 use Rattle.i9_processor.specs.Effect.{HasRoomFor, KeepsRoom, has_writes, is_restart}
 use Rattle.i9_processor.specs.State.{state_of, cache_of, size_of}
 use Rattle.i9_model.specs.declared.run.End.{End}
-use Rattle.i9_machine.specs.declared.line.Line.{Line}
 use Rattle.i9_machine.specs.declared.line.Turn.{Turn}
 use Rattle.i9_machine.specs.declared.line.Turn.TheVariants as turns
 use Rattle.i9_machine.specs.declared.machine.Machine.{Machine}

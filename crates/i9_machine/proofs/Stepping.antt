@@ -31,7 +31,6 @@ use Rattle.i9_processor.proofs.Rooms.{room_space}
 use Rattle.i9_machine.specs.Doing.{state_behind, state_behind_of, lines_of, asks_room, plan_behind_event, point_count, bytes_count, reached_lines, reached_count, event_in, line_count, HasRoomForStep, next_event}
 use Rattle.i9_machine.specs.declared.step.Step.{Step}
 use Rattle.i9_model.specs.declared.run.End.{End}
-use Rattle.i9_machine.specs.declared.line.Line.{Line}
 use Rattle.i9_machine.specs.declared.line.Turn.{Turn}
 use Rattle.i9_machine.specs.declared.line.Turn.TheVariants as turns
 use Rattle.i9_machine.specs.declared.machine.Machine.{Machine}

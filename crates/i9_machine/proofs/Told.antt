@@ -1,5 +1,5 @@
 -- What is told as an instruction is one.
-use Rattle.std.proofs.Common.{◌≡◌, ℕ, refl}
+use Rattle.std.proofs.Common.{◌≡◌, refl}
 use Rattle.i9_model.specs.State.{State}
 use Rattle.i9_model.specs.Run.{Kind, Instruction, Faulted, Entered, Interrupted, Reached, counts_of}
 use Rattle.i9_machine.specs.declared.line.Issued.{Issued}
