@@ -63,6 +63,7 @@ class Firmware:
     def __init__(self, chance, shape):
         self.chance, self.shape = chance, shape
         self.data = DATA | (BIG_REGION if shape.is_big else 0)
+        self.is_traced = chance.random() < 0.2
         self.segments = []
 
     def put(self, start, words):
@@ -117,9 +118,10 @@ class Firmware:
         breaks, vectors, regions, last = [0] * 4, [0x8765] * 4, [0] * 16, [0] * 4
         vectors[0], vectors[2] = chance.choice([0x1, 0x4321, 0xF1]), chance.choice([0x5432, 0x1111])
         vectors[3] = chance.choice([0, ALL_EDGES])
-        if chance.random() < 0.15:
-            breaks[0], breaks[2] = CODE + 0x40 | 1, self.near(0x3010)[0]
-            last[1:3] = 1, chance.choice([2, 8, 16, 0x90, 0x70])
+        if self.is_traced:
+            breaks = [CODE + 4 * chance.randrange(40, 100) | 1 for _ in range(2)]
+            breaks += [self.data + 4 * chance.randrange(0x40) for _ in range(2)]
+            last[1:3] = chance.randrange(4), chance.choice([0, 0, 2, 4, 8, 16, 0x90, 0x70])
         if self.shape.is_big:
             regions[1] = BIG_ENDIAN | chance.choice([0, 0x1000, 0x20])
         elif chance.random() < 0.1:
@@ -134,7 +136,7 @@ class Firmware:
 
     def code(self):
         """The start-up of the registers, saved frames to begin with, and random instructions."""
-        words = self.first_registers() + self.first_controls()
+        words = self.first_channel() + self.first_registers() + self.first_controls()
         saved = []
         if self.shape.is_dense:
             saved = [place for place in SAVED_AT if self.chance.random() < 0.85]
@@ -149,6 +151,21 @@ class Firmware:
         for _ in range(self.chance.randrange(20, 60)):
             words += maker.words(CODE + 4 * len(words))
         return words + (instructions.absolute_words("st", 0, EXIT) if self.shape.ends else [STAY])
+
+    def first_channel(self):
+        """A channel that is set up and on, or none."""
+        chance = self.chance
+        if chance.random() < 0.5:
+            return []
+        source = chance.choice([self.data + 0x800, self.data, CODE])
+        target = chance.choice([self.data + 0x400, self.data + 0x800, self.data, 0x2003, 0xE0000FF8])
+        control = chance.choice([0, 0, 0x10]) | chance.choice([0, 0, 4, 8, 0x40, 0x40, 0x44]) | chance.randrange(4)
+        words = load_address(4, chance.choice([1, 2, 3, 5, 8, 16, 20, 40]))
+        words += load_address(5, source + chance.randrange(32)) + load_address(6, target) + load_address(8, control)
+        number = instructions.literal(chance.randrange(4))
+        words.append(instructions.register_word("sdma", number, register(8), register(4)))
+        enabled = instructions.literal(15)
+        return [*words, instructions.register_word("mov", enabled, None, instructions.special(2))]
 
     def first_registers(self):
         """What the registers with a part to play have."""
@@ -175,7 +192,7 @@ class Firmware:
         if self.chance.random() < 0.5:
             words += load_address(21, 0) + load_address(SPARE, 0x1F2000)
             words.append(instructions.register_word("modpc", register(9), register(SPARE), register(21)))
-        for share, mask, value in ((0.25, 2, 0), (0.12, 1, 1)):
+        for share, mask, value in ((0.25, 2, 0), (0.7 if self.is_traced else 0.1, 1, 1)):
             if self.chance.random() < share:
                 words += load_address(21, value)
                 mask = instructions.literal(mask)
@@ -204,7 +221,7 @@ def event_words(chance, version, data):
     """An event of a schedule. Few pins have levels, so that one of them goes low and high again."""
     if version == 2 and chance.random() < 0.5:
         return chance.choice(["low", "high"]), str(chance.randrange(3))
-    name = chance.choices(["show", "pin", "nmi", "dma", "feed"], [35, 33, 5, 20, 7])[0]
+    name = chance.choices(["show", "pin", "nmi", "dma", "feed"], [30, 30, 5, 28, 7])[0]
     if name == "show":
         places = [data, data + 0x10, data + 0x40, data + 0x80, data + 0x800, VECTORS, 0xE0000FF0]
         return name, "%08X" % (chance.choice(places) + chance.randrange(16)), str(chance.randrange(1, 65))

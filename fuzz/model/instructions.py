@@ -17,6 +17,12 @@ DECIDING = (
     "cmpo", "cmpi", "chkbit", "addi", "subi", "addc", "subc", "scanbit", "spanbit", "shli", "cmpinco", "cmpdeci",
     "concmpo", "scanbyte", "muli", "divo", "remi", "ediv", "modac", "modtc", "divi",
 )  # fmt: skip
+SIGNED = ("addi", "subi", "muli", "divi", "remi", "modi", "shli", "shrdi", "shri", "divo", "remo")
+EXTREMES = (0x80000000, 0x80000001, 0x7FFFFFFF, 0xFFFFFFFF, 0xFFFFFFF9, 0x10000, 31, 7, 3, 1, 0)
+MARKERS = ("mark", "fmark", "udma")
+CONDITIONAL = range(0x10, 0x18)
+REGISTER_OPERATIONS = {number >> 4 for number in table.REGISTER_FORMAT}
+OPERATIONS = sorted({*table.CONTROL, *table.TESTS, *table.COMPARE_BRANCHES, *table.MEMORY, *REGISTER_OPERATIONS})
 PORT_PLACES = (0xE0000000, 0xE0000004, 0xE0000010, 0xDFFFFFFC, 0xE0000FFE, 0xE0000FFC)
 # Places in the tables of a firmware.
 TABLE_PLACES = (
@@ -83,7 +89,8 @@ class Maker:
             self.load: 26, self.store: 18, self.atomic: 5, self.keeping: 17, self.move: 6, self.address: 2,
             self.deciding: compares, self.test: 1, self.compare_branch: 2, self.call: 9, self.flush: 2, self.sync: 1,
             self.control: 1.5, self.process: 1, self.channel: 1, self.special_move: 2, self.give_back: 0.5,
-            self.any_word: 0.5, self.link: 0.3, self.fault: 0.3, self.extended_link: 0.4,
+            self.any_word: 0.5, self.odd_word: 1, self.link: 0.6, self.fault: 0.3, self.extended_link: 0.4,
+            self.extended_branch: 0.6, self.signed: 1.5, self.marker: 0.7, self.conditional: 1.5,
         }  # fmt: skip
         self.kinds, self.weights = list(weights), list(weights.values())
 
@@ -190,6 +197,10 @@ class Maker:
     def test(self, _):
         return [self.chance.choice(list(table.TESTS)) << 24 | self.destination() << 19]
 
+    def conditional(self, _):
+        """A conditional branch, a few words forward."""
+        return [self.chance.choice(CONDITIONAL) << 24 | self.chance.choice([4, 8, 12])]
+
     def compare_branch(self, _):
         """A few words forward."""
         word = self.chance.choice(list(table.COMPARE_BRANCHES)) << 24 | self.chance.choice([4, 8, 12])
@@ -248,6 +259,27 @@ class Maker:
 
     def any_word(self, _):
         return [self.chance.getrandbits(32)]
+
+    def odd_word(self, _):
+        """A word whose opcode is one, and what else it says anything."""
+        return [self.chance.choice(OPERATIONS) << 24 | self.chance.getrandbits(24)]
+
+    def signed(self, _):
+        """Numbers at the limits of their range: overflows, and divisions with either sign and by 0."""
+        first, second, third = (self.destination() for _ in range(3))
+        values = load_address(first, self.chance.choice(EXTREMES)) + load_address(second, self.chance.choice(EXTREMES))
+        name = self.chance.choice(SIGNED)
+        return [*values, register_word(name, register(first), register(second), register(third))]
+
+    def marker(self, _):
+        return [register_word(self.chance.choice(MARKERS))]
+
+    def extended_branch(self, here):
+        """A few words forward, by an absolute address or by a displacement from the instruction address."""
+        forward = 4 * self.chance.randrange(3)
+        if self.chance.random() < 0.5:
+            return absolute_words("bx", 0, here + 8 + forward)
+        return [OPCODES["bx"] << 24 | 1 << 12 | words.IP_MODE << 10, forward]
 
     def link(self, _):
         """`bal` past the next word."""
