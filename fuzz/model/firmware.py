@@ -173,7 +173,7 @@ class Firmware:
         words = load_address(BASE, self.data)
         words += load_address(POINTERS[0], self.data + 4 * chance.randrange(0x40))
         words += load_address(POINTERS[1], self.data + 0x800 + 4 * chance.randrange(8))
-        messages = [0x300, 0x400, 0x401, 0x402, 0x403, 0x406, 0x12, 0x2A, 0x7, 0x100]
+        messages = [0x300, 0x300, 0x400, 0x401, 0x402, 0x403, 0x406, 0x12, 0x2A, 0x63, 0xFA, 0x7, 0x100]
         words += load_address(MESSAGE, chance.choice(messages)) + load_address(NEW_PRCB, SECOND_PRCB)
         places = [CODE + 4 * chance.randrange(20, 60), 0x1F0000, 0x1F2000, 0x1F2000]
         words += load_address(SPARE, chance.choice(places))

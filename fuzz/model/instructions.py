@@ -88,7 +88,7 @@ class Maker:
         weights = {
             self.load: 26, self.store: 18, self.atomic: 5, self.keeping: 17, self.move: 6, self.address: 2,
             self.deciding: compares, self.test: 1, self.compare_branch: 2, self.call: 9, self.flush: 2, self.sync: 1,
-            self.control: 1.5, self.process: 1, self.channel: 1, self.special_move: 2, self.give_back: 0.5,
+            self.control: 2.5, self.process: 1, self.channel: 1, self.special_move: 2, self.give_back: 0.5,
             self.any_word: 0.5, self.odd_word: 1, self.link: 0.6, self.fault: 0.3, self.extended_link: 0.4,
             self.extended_branch: 0.6, self.signed: 1.5, self.marker: 0.7, self.conditional: 1.5,
         }  # fmt: skip
@@ -229,7 +229,7 @@ class Maker:
         message = register(self.chance.choice([MESSAGE, MESSAGE, NEW_PRCB, *range(8, 12)]))
         if self.chance.random() < 0.1:
             message = literal(self.chance.randrange(32))
-        second, third = self.chance.choice([SPARE, 24, 20]), self.chance.choice([NEW_PRCB, 24, 20])
+        second, third = self.chance.choice([SPARE, 24, 20]), self.chance.choice([NEW_PRCB, NEW_PRCB, NEW_PRCB, 24, 20])
         return [register_word("sysctl", message, register(second), register(third))]
 
     def process(self, _):
