@@ -150,12 +150,6 @@ IsReadable s KeepsControls = Unit {0}
 IsReadable s (Restarts first prcb) = tables_hazard s.memory s.frames prcb ≡ None
 IsReadable s (LoadsGroup group) = group_hazard s.frames s.tables.control_table group ≡ None
 
-group_memory : (a b c : Bool) (s : State) (bytes : ℕ → ℕ) (group : ℕ) (ws : List ℕ) → by_group a b c (with_memory s bytes) group ws ≡ with_memory (by_group a b c s group ws) bytes
-group_memory true b c s bytes group ws = refl
-group_memory false true c s bytes group ws = refl
-group_memory false false true s bytes group ws = refl
-group_memory false false false s bytes group ws = refl
-
 group_bytes : (a b c : Bool) (s : State) (group : ℕ) (ws : List ℕ) → (by_group a b c s group ws).memory.bytes ≡ s.memory.bytes
 group_bytes true b c s group ws = refl
 group_bytes false true c s group ws = refl

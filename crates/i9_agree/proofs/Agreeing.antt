@@ -54,12 +54,6 @@ shows-after hides marks sets marked r h = (
 
 -- ---- values
 
-pub values-same : (hides : Bool) (bs : List Bool) (vs : List ℕ) → length bs ≡ length vs → AreValuesAlike hides bs vs vs
-values-same hides [] [] e = tt
-values-same hides (b ∷ bs) (v ∷ vs) e = ((λ h. refl), values-same hides bs vs (omega (arith, e)))
-values-same hides [] (v ∷ vs) e = absurd (omega (arith, e))
-values-same hides (b ∷ bs) [] e = absurd (omega (arith, e))
-
 pub values-append : (hides : Bool) (bs cs : List Bool) (vs ws xs ys : List ℕ) → AreValuesAlike hides bs vs ws → AreValuesAlike hides cs xs ys → AreValuesAlike hides (bs ++ cs) (vs ++ xs) (ws ++ ys)
 values-append hides [] cs [] [] xs ys h k = k
 values-append hides (b ∷ bs) cs (v ∷ vs) (w ∷ ws) xs ys h k = (h.0, values-append hides bs cs vs ws xs ys h.1 k)

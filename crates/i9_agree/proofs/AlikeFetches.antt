@@ -35,19 +35,6 @@ use Rattle.i9_past.proofs.Stands.{IsRead}
 
 -- ---- as after a flush
 
-pub flushed_compared : (f : Frames) (x : ℕ) → is_hard (flushed f) x ≡ true → is_compared f x ≡ true
-flushed_compared f x h = by_cases (is_beyond x) (f.soft x) (f.marked x) (in_frames f.live x) h
-  where
-    by_cases : (beyond soft m live : Bool) → (beyond || not (soft && not (cond (not m) live false))) ≡ true → ((beyond || not soft) || live) ≡ true
-    by_cases true soft m live h = refl
-    by_cases false false m live h = refl
-    by_cases false true false true h = refl
-    by_cases false true true live h = absurd cc
-    by_cases false true false false h = absurd cc
-
-pub flushed_hard : (f : Frames) (m : Memory) (bytes : ℕ → ℕ) → AgreeWhere (is_compared f) m bytes → AgreeWhere (is_hard (flushed f)) m bytes
-flushed_hard f m bytes same = λ x h. same x (flushed_compared f x h)
-
 pub tables_hazard_same : (f : Frames) (m : Memory) (bytes : ℕ → ℕ) (prcb : ℕ) → AgreeWhere (is_hard f) m bytes → tables_hazard (with_other m bytes) f prcb ≡ tables_hazard m f prcb
 unfolding tables_hazard
 tables_hazard_same f m bytes prcb same =

@@ -30,18 +30,6 @@ quoted-more s w is h = quoted s ∙ ap if_blank (sym is) ∙ not_blank w h
 abbrev pub counted : ℕ → Option (List ℕ) → Option ℕ
 counted k o = option_map (λ cs. k + length cs) o
 
-pub counted-on : (k c : ℕ) (o : Option (List ℕ)) → counted k (before_characters (Some c) o) ≡ counted (k + 1) o
-counted-on k c None = refl
-counted-on k c (Some cs) = let e : k + length (c ∷ cs) ≡ k + 1 + length cs = omega arith in ap Some e
-
-pub counted-start : (o : Option (List ℕ)) → counted 0 o ≡ option_map length o
-counted-start None = refl
-counted-start (Some cs) = let e : 0 + length cs ≡ length cs = omega arith in ap Some e
-
 -- the characters behind those before
 abbrev pub behind : List ℕ → Option (List ℕ) → Option (List ℕ)
 behind front o = option_map (λ cs. front ++ cs) o
-
-pub behind-on : (front : List ℕ) (c : ℕ) (o : Option (List ℕ)) → behind front (before_characters (Some c) o) ≡ behind (front ++ c ∷ []) o
-behind-on front c None = refl
-behind-on front c (Some cs) = ap Some (sym (append_assoc front (c ∷ []) cs))

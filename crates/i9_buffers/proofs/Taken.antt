@@ -18,24 +18,12 @@ all_behind : (xs : List (List ℕ)) (y : List ℕ) (ys : List (List ℕ)) → Al
 all_behind [] y ys h = h.0
 all_behind (x ∷ xs) y ys h = all_behind xs y ys h.1
 
-all_more : (xs : List (List ℕ)) (y : List ℕ) → AllByRecursion IsUtf8 xs → IsUtf8 y → AllByRecursion IsUtf8 (xs ++ (y ∷ []))
-all_more [] y h g = (g, tt)
-all_more (x ∷ xs) y h g = (h.0, all_more xs y h.1 g)
-
 -- a line more
 pub takes : (all words : List (List ℕ)) (left : Option (Bor (List ℕ))) (text : Bor (List ℕ)) (line : List ℕ) (after : Option (Bor (List ℕ)))
     → Taken all words (lines_left left) → left ≡ Some text → MatchOption after (lines_of text.now ≡ line ∷ []) (λ rest. lines_of text.now ≡ line ∷ lines_of rest.now)
     → words ++ (line ∷ lines_left after) ≡ all
 takes all words left text line after t some split =
     ap (λ ls. words ++ ls) (sym (ap lines_left some ∙ lines_left-split text.now line after split)) ∙ t.parts
-
-pub takes_good : (all words : List (List ℕ)) (left : Option (Bor (List ℕ))) (text : Bor (List ℕ)) (line : List ℕ) (after : Option (Bor (List ℕ)))
-    → Taken all words (lines_left left) → left ≡ Some text → MatchOption after (lines_of text.now ≡ line ∷ []) (λ rest. lines_of text.now ≡ line ∷ lines_of rest.now)
-    → IsUtf8 line → Taken all (words ++ (line ∷ [])) (lines_left after)
-takes_good all words left text line after t some split good = record {
-  parts = append_assoc words (line ∷ []) (lines_left after) ∙ takes all words left text line after t some split;
-  good = all_more words line t.good good;
-}
 
 -- a line that isn't UTF-8
 pub takes_bad : (words : List (List ℕ)) (text : List ℕ) (left : Option (Bor (List ℕ))) (at : Bor (List ℕ)) (line : List ℕ) (after : Option (Bor (List ℕ)))

@@ -24,10 +24,6 @@ same_event : (u : Received) (s : State) (r : ℕ)
 unfolding acted moved
 same_event u s r = refl
 
-same_blocked : (s : State) (r : ℕ) → resource (acted s (going s s.ip)) r ≡ resource (acted s (faulting 0 s)) r
-unfolding acted moved
-same_blocked s r = refl
-
 pub kind_keeps : (n : ℕ) (c : Cache) (s : State) (k : Kind) (r : ℕ) → r < resources
     → bit_at (need_of n c s k).writes r ≡ 0 → resource (after_kind k s) r ≡ resource s r
 unfolding need_of

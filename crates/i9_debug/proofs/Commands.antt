@@ -39,10 +39,6 @@ use Rattle.std.specs.Option.{option_map}
 abbrev pub place_of : List Item → ℕ → Option Finish → Place
 place_of h t e = record { items = h; turn = t; end = e }
 
--- a place without an end, by the turn of the machine that stands there
-pub as_at : (p : Place) (t : ℕ) → p.end ≡ None → t ≡ p.turn → at p.items t ≡ p
-as_at p t none turn = ap (λ (n : ℕ). place_of p.items n None) turn ∙ ap (place_of p.items p.turn) (sym none)
-
 -- a place is over where the machine says so
 pub none_ended : (e : Option Finish) → option_map (λ f. f.end) e ≡ None → e ≡ None
 none_ended None is = refl

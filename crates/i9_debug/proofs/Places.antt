@@ -97,10 +97,6 @@ module _ (g : Given) (h : List Item) (xs : List Record) where
 
 -- ---- every run goes on to its end
 
-pub records-steps_on : (rs : List Record) (h : List Item) → records_of (steps_on rs h) ≡ rs ++ records_of h
-records-steps_on [] h = refl
-records-steps_on (r ∷ rs) h = ap (λ (qs : List Record). r ∷ qs) (records-steps_on rs h)
-
 -- an end lies behind these items
 abbrev pub Finishes : Given → List Item → Type 0
 Finishes g h = (rs : List Record) × (f : Finish) × EndsBehind g h rs f

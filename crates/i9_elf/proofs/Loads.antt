@@ -171,11 +171,6 @@ begins_all file place count parts at many none =
     let b : count - 0 ≡ header_count file = omega (arith, many) in
     rw (a, b, none) refl
 
--- behind the last
-pub ends_all : (file : List ℕ) (size index count at : ℕ) (ps : List (ℕ × ℕ)) (total : Result (List (ℕ × ℕ)) ℕ) → count ≤ index
-    → load_all file size ps (filter is_load (headers_in (count - index) (drop at file))) ≡ total → total ≡ Ok ps
-ends_all file size index count at ps total le before = let e : count - index ≡ 0 = omega (arith, le) in sym (rw e at before)
-
 -- the headers that are left, from one on
 abbrev left : List ℕ → ℕ → ℕ → ℕ → List Header
 left file place count index = headers_in (count - index) (drop (place + header_size * index) file)

@@ -95,6 +95,9 @@ impl Ints {
     pub fn pending(&self) -> u32
         ensures { result ≡ pending_word (interrupts_of self.now) }
     {
+        if self.low == 0 {
+            return self.pending;
+        }
         self.pending | u32::from(self.low & (255 - ((self.icon >> 2) % 256) as u8))
     }
 

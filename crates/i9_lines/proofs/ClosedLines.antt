@@ -33,10 +33,6 @@ pub closed_each : (ls : List Line) → AllByRecursion (λ l. IsClosed (line_text
 closed_each [] = tt
 closed_each (l ∷ ls) = (closed_shown (shown_of l), closed_each ls)
 
-pub closed_lines : (ls : List Line) → IsClosed (flat_map line_text ls)
-closed_lines [] = closed_none
-closed_lines (l ∷ ls) = closed_join (line_text l) (flat_map line_text ls) (closed_shown (shown_of l)) (closed_lines ls)
-
 -- ---- the lines of a step
 
 pub lines-text : (ls : List Line) → flat_map line_text ls ≡ text_of (map shown_of ls)

@@ -58,9 +58,6 @@ some_counted xs ys a b c p q = record {
 fewer_counted : (xs ys : List (List ℕ)) (a b : ℕ) → CountsUpTo (length xs) a b → CountsUpTo (length (xs ++ ys)) a b
 fewer_counted xs ys a b p = record { number = p.number; few = omega (arith, p.few, length-append xs ys); counted = p.counted }
 
-cut_counted : (xs ys : List (List ℕ)) (a b : ℕ) → b ≡ counted_on a (length xs) → CountsUpTo (length (xs ++ ys)) a b
-cut_counted xs ys a b p = record { number = length xs; few = omega (arith, length-append xs ys); counted = p }
-
 -- ---- pieces
 
 module _ {K : Type 0} (taken : K → List (List ℕ) → Type 0) where

@@ -56,26 +56,6 @@ end_long s f =
     let whole = length-append (journal_lines s.count f.event) (last_lines (view_of s) f.end) in
     omega (arith, whole, journal_long s.count 0 f.event, last_long (view_of s) f.end)
 
--- an event that is reached stands in the schedule
-pub next_within : (plan : Plan) (reaches : Bool) → is_some (next_event plan reaches) ≡ true → plan.place < length plan.events
-next_within plan false some = absurd (cc some)
-next_within plan true some = by_place (slice_get plan.events plan.place) refl some
-  where
-    by_place : (o : Option Timed) → slice_get plan.events plan.place ≡ o → is_some (option_map (λ t. t.event) o) ≡ true
-        → plan.place < length plan.events
-    by_place None at h = absurd (cc h)
-    by_place (Some t) at h = slice_get_within plan.events plan.place t at
-
--- a schedule goes on behind it
-pub plan_ends : (plan : Plan) (f : Finish) (reaches : Bool) → reaches ≡ is_some f.event
-    → plan_behind_event plan reaches ≡ plan_at_end plan f
-plan_ends plan f reaches is =
-    ap (plan_behind_event plan) is ∙ ap (λ (n : ℕ). record plan { place = plan.place + n }) (sym (one_last f.event))
-  where
-    one_last : (o : Option Event) → length (reached_last 0 o) ≡ cond (is_some o) 1 0
-    one_last None = refl
-    one_last (Some e) = refl
-
 pub finish_steps : (before : Progress) (e : Finish) (spare : ℕ) (answer : Turn) (after : Progress) → next_for before.machine before.plan ≡ Ends e
     → Finishes before e spare answer after → Steps before answer after
 finish_steps before e spare (turns.End f) after is d = record { finish = e; answers = d.0; is_end = is; finished = d.1 }

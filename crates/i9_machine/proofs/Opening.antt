@@ -64,19 +64,11 @@ due_held limit (dues.End f) o s other = λ asked c. refl
 due_held limit (dues.Entry fault) o s other = entry_held s (entry_in s fault)
 due_held limit dues.Nothing o s other = absurd (other refl)
 
-limit_held : (limit : ℕ) (o : Option Event) (s : State) → (eqb s.count limit) ≡ true → IsHeldBack (next_in limit dues.Nothing o s)
-limit_held limit o s at = subst IsHeldBack (ap (λ (b : Bool). cond b (Ends (finish Limit)) (next_by_choice o s (choice_in s))) (sym at)) (λ asked c. refl)
-
 pub due_waits : (m : Machine) (plan : Plan) → m.due ≢ dues.Nothing → NextWaits m plan
 due_waits m plan other = inr (due_held m.length m.due (event_for m plan) (state_of m.processor) other)
 
 held_by : (m : Machine) (plan : Plan) (o : Next) → next_for m plan ≡ o → IsHeldBack o → NextWaits m plan
 held_by m plan o is held = inr (subst IsHeldBack (sym is) held)
-
-pub limit_waits : (m : Machine) (plan : Plan) → m.due ≡ dues.Nothing → eqb (state_of m.processor).count m.length ≡ true → NextWaits m plan
-limit_waits m plan none at = held_by m plan (next_in m.length dues.Nothing (event_for m plan) (state_of m.processor))
-    (ap (λ (d : Due). next_in m.length d (event_for m plan) (state_of m.processor)) none)
-    (limit_held m.length (event_for m plan) (state_of m.processor) at)
 
 pub choice_waits : (m : Machine) (plan : Plan) → next_for m plan ≡ next_by_choice (event_for m plan) (state_of m.processor) (choice_in (state_of m.processor))
     → choice_in (state_of m.processor) ≢ Ok None → NextWaits m plan

@@ -11,10 +11,6 @@ use Rattle.i9_memory.specs.Pages.{byte_in, byte_of, page_of, HasPage}
 pub same_bytes : (f g : ℕ → ℕ) → ((x : ℕ) → f x ≡ g x) → f ≡ g
 same_bytes f g h = λ i x. h x i
 
--- an address is its page and its place
-pub split_address : (x a : ℕ) → x / 256 ≡ a / 256 → x % 256 ≡ a % 256 → x ≡ a
-split_address x a p q = omega arith
-
 get_or_zeros : (n k : ℕ) → ◌≡◌ {A = ℕ} (get_or (replicate n 0) k 0) 0
 get_or_zeros zero k = refl
 get_or_zeros (suc n) zero = refl

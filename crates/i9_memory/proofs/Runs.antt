@@ -108,10 +108,6 @@ unfolding written
 stored_none f a [] none = refl
 stored_none f a (b ∷ bs) none = absurd (omega arith)
 
--- the addresses of a run have one page
-pub page_of_run : (a done at k run : ℕ) → at ≡ wrapped (a + done) → at % 256 + run ≤ 256 → done ≤ k → k < done + run → at / 256 ≡ wrapped (a + k) / 256
-page_of_run a done at k run e few low high = omega arith
-
 -- ---- all bytes of a run
 
 pub first_all : (bs : List ℕ) (n : ℕ) → length bs ≡ n → take n bs ≡ bs

@@ -25,15 +25,6 @@ second_none (Some a) p e = absurd cc
 
 -- ---- system procedures
 
--- the save area of a procedure's frame is checked last
-pub system_free : (m : Memory) (f : Frames) (table n pc fp : ℕ) → system_hazard m f table n pc fp ≡ None → save_hazard f (rounded_down fp) ≡ None
-unfolding system_hazard
-system_free m f table n pc fp e =
-    let at = entry_address table n in
-    let stack = stack_hazard f table (is_switch (word_in m at) pc) in
-    let area = save_hazard f (rounded_down fp) in
-    second_none stack area (second_none (read_hazard f at 4) (or_else stack area) e)
-
 save_by : (b : Bool) (entry stack pc fp sp extra : ℕ) (kind : Bool → ℕ) → (cond b (entered_switched entry stack pc fp extra (kind true)) (entered_here entry pc fp sp extra (kind false))).push.save ≡ rounded_down fp
 save_by true entry stack pc fp sp extra kind = refl
 save_by false entry stack pc fp sp extra kind = refl
@@ -105,6 +96,3 @@ enters_free_by m f table system fault pc ac fp sp area e checks ok =
     let b = bind_ok (or_stop (planned_frame m f system pc fp sp area a.0)) (λ s. or_stop (unless (record_write_hazard f s.push) (entry_of fault pc ac s))) e a.2 in
     let c = unless_ok (record_write_hazard f b.0.push) (entry_of fault pc ac b.0) e (stop_ok (unless (record_write_hazard f b.0.push) (entry_of fault pc ac b.0)) e b.2) in
     record_of_entry f fault pc ac b.0 e (frame_free m f system pc fp sp area a.0 b.0 checks (stop_ok (planned_frame m f system pc fp sp area a.0) b.0 b.1)) c.0 c.1
-
-pub enters_free : (m : Memory) (f : Frames) (table system : ℕ) (fault : Fault) (pc ac fp sp : ℕ) (e : Entry) → planned_fault m f table system fault pc ac fp sp ≡ Ok e → EntersFree f e
-enters_free m f table system fault pc ac fp sp e ok = enters_free_by m f table system fault pc ac fp sp (save_area f fp) e (λ b none. none) ok

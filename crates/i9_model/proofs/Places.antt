@@ -60,8 +60,3 @@ in_bytes-above a (suc n) x h k few =
     ∙ ap (λ (b : Bool). nat_lt d n || b) (above-test a n x h k (omega arith))
     ∙ sym (lt-suc d n)
     ∙ ap (nat_lt d) (add-one n)
-
--- the places one by one, counted from 0
-pub places-counted : (a b n : ℕ) → map wrapped (range_with_len (a + b) n) ≡ map (λ (k : ℕ). (a + k) % 2 ^ 32) (range_with_len b n)
-places-counted a b zero = refl
-places-counted a b (suc n) = ap (λ (xs : List ℕ). wrapped (a + b) ∷ xs) (ap (λ (c : ℕ). map wrapped (range_with_len c n)) (add_assoc a b 1) ∙ places-counted a (b + 1) n)

@@ -24,9 +24,6 @@ byte_same f m bytes a n k same none h =
     let x = wrapped (a + k) in
     same x (or_right (is_beyond x) (not (f.soft x)) (not_soft (f.soft x) (read_hazard-none f a n x none (in_bytes-has a n k h))))
 
-beyond_all : (a : ℕ) → address_count ≤ a → nat_le address_count a ≡ true
-beyond_all a h = grind (arith, nat_tests)
-
 is_wrapped : (a : ℕ) → a < address_count → wrapped (a + 0) ≡ a
 is_wrapped a h = omega arith
 

@@ -9,20 +9,6 @@ use Rattle.std.specs.Vec.{with_item}
 use Rattle.std.specs.declared.vec.Vec.{Vec}
 use Rattle.i9_pages.specs.Table.{list_in, list_at}
 
--- one more empty list is as none
-pub list_at-more : {X Z : Type 0} (vs : List (Vec X Z)) (v : Vec X Z) (k : ℕ) → v.items ≡ [] → list_at (vs ++ v ∷ []) k ≡ list_at vs k
-list_at-more [] v zero e = e
-list_at-more [] v (suc k) e = refl
-list_at-more (u ∷ vs) v zero e = refl
-list_at-more (u ∷ vs) v (suc k) e = list_at-more vs v k e
-
--- one more empty place is as none
-pub get_or-more : {X : Type 0} (xs : List (Option X)) (k : ℕ) → get_or (xs ++ None ∷ []) k None ≡ get_or xs k None
-get_or-more [] zero = refl
-get_or-more [] (suc k) = refl
-get_or-more (x ∷ xs) zero = refl
-get_or-more (x ∷ xs) (suc k) = get_or-more xs k
-
 -- ---- a change of one place
 
 list_at-set_same : {X Z : Type 0} (vs : List (Vec X Z)) (i : ℕ) (v : Vec X Z) → i < length vs → list_at (set vs i v) i ≡ v.items

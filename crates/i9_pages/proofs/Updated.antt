@@ -30,10 +30,6 @@ came_before : {T : Type 0} (b : Bool) (o q new : Option T) → q ≡ (if b then 
 came_before true o q new e h there = h refl
 came_before false o q new e h there = subst IsSome e there
 
-pub updated_adds : {T : Type 0} (old new : PageTable T) (number : ℕ) (page : Option T) → Updates old number page new → (n : ℕ) → n ≢ number → IsSome (page_at new n) → IsSome (page_at old n)
-updated_adds old new number page updates n ne h =
-    came_before (n == number) (page_at old n) (page_at new n) page (updates n) (λ e. absurd (grind (arith, nat_tests))) h
-
 pub updated_adds_none : {T : Type 0} (old new : PageTable T) (number : ℕ) (page : Option T) → Updates old number page new → IsSome (page_at old number) → (n : ℕ) → IsSome (page_at new n) → IsSome (page_at old n)
 updated_adds_none old new number page updates was n h =
     came_before (n == number) (page_at old n) (page_at new n) page (updates n) (λ e. let same : number ≡ n = grind (arith, nat_tests) in subst (λ k. IsSome (page_at old k)) same was) h

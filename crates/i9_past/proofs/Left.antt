@@ -329,15 +329,6 @@ received_most s (events.Dma c) u is = unit_most s c (next_unit s.memory s.frames
 received_most s (events.Feed c given) u is = unit_most s c (next_unit s.memory s.frames s.dma c (Some given.items)) u is
 received_most s (events.Show a n) u is = quiet_most 1 s.interrupts _ u is (omega arith)
 
-some_work : (e : Event) → 1 ≤ event_work e
-some_work (events.Pin x) = omega arith
-some_work (events.Low x) = omega arith
-some_work (events.High x) = omega arith
-some_work events.Nmi = omega arith
-some_work (events.Dma c) = omega arith
-some_work (events.Feed c given) = omega arith
-some_work (events.Show a n) = omega arith
-
 -- the events from one on
 drop_work : (plan : List Timed) (place : ℕ) (t : Timed) → slice_get plan place ≡ Some t → plan_work (drop place plan) ≡ event_work t.event + plan_work (drop (suc place) plan)
 drop_work [] place t is = absurd cc

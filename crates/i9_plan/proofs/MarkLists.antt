@@ -87,15 +87,6 @@ sixteen_values (a ∷ b ∷ c ∷ d ∷ z ∷ ms) v w x y long e f g h = absurd 
 
 pub ruleset four_rules = (four_values, sixteen_values)
 
--- the first of them
-pub fewer_bits : (w : ℕ) (s : State) (o : Operand) (n : ℕ) → n ≤ 4 → bits_of w 4 ≡ marks_of s o 4 → bits_of w n ≡ marks_of s o n
-fewer_bits w s o zero h e = refl
-fewer_bits w s o (suc zero) h e = ap (λ (bs : List Bool). take 1 bs) e
-fewer_bits w s o (suc (suc zero)) h e = ap (λ (bs : List Bool). take 2 bs) e
-fewer_bits w s o (suc (suc (suc zero))) h e = ap (λ (bs : List Bool). take 3 bs) e
-fewer_bits w s o (suc (suc (suc (suc zero)))) h e = e
-fewer_bits w s o (suc (suc (suc (suc (suc n))))) h e = absurd (omega (arith, h))
-
 pub fewer_bytes : (w : ℕ) (s : State) (o : Operand) (n : ℕ) → n ≤ 4 → bits_of w 16 ≡ byte_marks (marks_of s o 4) → bits_of w (4 * n) ≡ byte_marks (marks_of s o n)
 fewer_bytes w s o zero h e = refl
 fewer_bytes w s o (suc zero) h e = ap (λ (bs : List Bool). take 4 bs) e

@@ -541,9 +541,6 @@ other_plan i s e still own r b answers is =
 
 -- ---- what marks forbid comes first
 
-pub misused_stands : (i : Inst) (s : State) (a : ℕ) → misuses i s ≡ true → a ≡ s.ip → Meets a ≡ by_word s (Ok i)
-misused_stands i s a misused here = ap Meets here ∙ sym (ap (λ (b : Bool). cond b (Meets s.ip) (by_raised i s (raised_in i s))) misused)
-
 pub allowed_stands : (i : Inst) (s : State) → misuses i s ≡ false → by_raised i s (raised_in i s) ≡ by_word s (Ok i)
 allowed_stands i s allowed = sym (ap (λ (b : Bool). cond b (Meets s.ip) (by_raised i s (raised_in i s))) allowed)
 

@@ -62,15 +62,6 @@ pub unmarked_bytes : (e : Effect) → e.stale ≡ 0 → stale_in e ≡ []
 unmarked_bytes e zero =
     ap (λ (v : ℕ). picked wrapped e.address (bits_of v (length e.bytes.items))) zero ∙ none_picked wrapped e.address (length e.bytes.items)
 
-pub unmarked_registers : (e : Effect) → e.marks ≡ 0 → marked_in e ≡ []
-unmarked_registers e zero = ap (marked_by e.frames e.register (length e.values.items)) zero ∙ by_move e.frames
-  where
-    by_move : (m : Move) → marked_by m e.register (length e.values.items) 0 ≡ []
-    by_move moves.Stays = none_picked (λ r. r) e.register (length e.values.items)
-    by_move (moves.Saves push back) = refl
-    by_move (moves.Returns frame) = none_picked (λ r. r) 0 LOCALS
-    by_move moves.Flushes = refl
-
 -- an effect marks no byte, or stores no bits of requests
 marked_alone : (e : Effect) → (stale_in e ≡ []) ⊎ (requests_in e.requests ≡ [])
 marked_alone e = by_marks (e.stale == 0) refl

@@ -216,24 +216,6 @@ code_covered writes old new covered clear =
 
 -- ---- each cell shows its value at every turn
 
-still_at : (olds news : File) (r v x : ℕ) → cell_in news r ≡ still v
-    → ((k : ℕ) → (k ≡ r → ⊥) → cell_in news k ≡ cell_in olds k) → cell_in olds x ≡ still (latest_of olds x)
-    → (b : Bool) → eqb x r ≡ b → cell_in news x ≡ still (latest_of news x)
-still_at olds news r v x here others was true is =
-    let same : x ≡ r = grind (arith, nat_tests, is) in
-    ap (cell_in news) same
-    ∙ here
-    ∙ ap still (sym (ap latest here))
-    ∙ ap (λ (k : ℕ). still (latest_of news k)) (sym same)
-still_at olds news r v x here others was false is =
-    let apart : x ≡ r → ⊥ = λ same. grind (arith, nat_tests, is, same) in
-    let kept = others x apart in
-    kept ∙ was ∙ ap (λ (c : Cell). still (latest c)) (sym kept)
-
-pub still_set : (olds news : File) (r v : ℕ) → cell_in news r ≡ still v
-    → ((k : ℕ) → (k ≡ r → ⊥) → cell_in news k ≡ cell_in olds k) → AreStill olds → AreStill news
-still_set olds news r v here others were x few = still_at olds news r v x here others (were x few) (eqb x r) refl
-
 pub new_still : (cells : File) → ((r : ℕ) → cell_in cells r ≡ still 0) → AreStill cells
 new_still cells is r few = is r ∙ ap still (sym (ap latest (is r)))
 

@@ -19,7 +19,7 @@ use Rattle.i9_model.specs.Controls.{marks_after}
 use Rattle.i9_model.specs.Stale.{picked, saved_mark, saved_marks}
 use Rattle.i9_model.specs.Needs.{set_below}
 use Rattle.i9_watch.specs.Bits.{bits_of}
-use Rattle.i9_watch.proofs.SetBits.{set-from_bits}
+use Rattle.i9_watch.proofs.SetBits.{bit_none, set-from_bits}
 use Rattle.i9_processor.specs.declared.effect.Effect.{Effect}
 use Rattle.i9_processor.specs.Effect.{stale_in}
 use Rattle.i9_processor.proofs.Appending.{put_append}
@@ -413,3 +413,10 @@ marks_number m low = set-from_bits 32 m (bit m) low (λ k. by_place k (cases_lt 
         let here : nat_lt k 32 ≡ true = grind (arith, nat_tests, less) in sym (ap (λ (b : Bool). b && bit m k) here)
     by_place k (inr more) =
         let past : nat_lt k 32 ≡ false = grind (arith, nat_tests, more) in mark_past m k low more ∙ sym (ap (λ (b : Bool). b && bit m k) past)
+
+-- where nothing is marked, and nothing gets a mark, nothing is marked behind
+pub none_marked : (sets : List (ℕ × ℕ)) → bit 0 ≡ marks_after (bit 0) sets []
+none_marked sets = λ i k. at k i
+  where
+    at : (k : ℕ) → bit 0 k ≡ marks_after (bit 0) sets [] k
+    at k = bit_none k ∙ sym (ap (λ (b : Bool). b && not (is_put sets k)) (bit_none k))

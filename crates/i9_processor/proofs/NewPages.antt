@@ -35,11 +35,6 @@ row_apart a (b ∷ bs) x apart (suc k) h =
     let next : wrapped (a + 1 + k) ≡ wrapped (a + suc k) = omega arith in
     subst (λ y. y / 256 ≢ x / 256) next (row_apart (a + 1) bs x apart.1 k (omega (arith, h)))
 
--- a byte alone
-pub one_apart : (a v x : ℕ) → a < 2 ^ 32 → IsApartFrom ((a, v) ∷ []) x → IsApart a 1 x
-one_apart a v x small apart k h =
-    let here : a ≡ wrapped (a + k) = omega (arith, h) in subst (λ y. y / 256 ≢ x / 256) here apart.0
-
 -- and a segment of an image
 pub segment_apart : (ss : List Segment) (k : ℕ) (d : Segment) (x : ℕ) → k < length ss → IsApartFrom (pairs_of (map part_of ss)) x → IsApart (get_or ss k d).address (length (get_or ss k d).bytes.items) x
 unfolding pairs_of

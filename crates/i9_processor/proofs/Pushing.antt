@@ -70,26 +70,9 @@ calls_by s n hazard = cond (nat_le n MOST_SYSTEM_CALL) (calls_answer (unless haz
 most : (n : ℕ) → n ≤ MOST_SYSTEM_CALL → nat_le n MOST_SYSTEM_CALL ≡ true
 most n h = grind (arith, nat_tests, h)
 
-calls_refused : (s : State) (n a : ℕ) → n ≤ MOST_SYSTEM_CALL → system_hazard_by s.memory s.frames s.tables.system_table n s.pc (area_hazard s) ≡ Some a → calls_in s n ≡ Err (calls.Hazard a)
-calls_refused s n a few met =
-    ap (calls_by s n) met
-    ∙ ap (λ (b : Bool). cond b (Err (calls.Hazard a)) (Err calls.Length)) (most n few)
-
-pub calls_long : (s : State) (n : ℕ) → MOST_SYSTEM_CALL < n → Err calls.Length ≡ calls_in s n
-calls_long s n h =
-    let past : nat_le n MOST_SYSTEM_CALL ≡ false = grind (arith, nat_tests, h) in
-    sym (ap (λ (b : Bool). cond b (calls_answer (unless (system_hazard_by s.memory s.frames s.tables.system_table n s.pc (area_hazard s)) (system_entered s.memory s.tables.system_table n s.pc (s.regs FP) (s.regs SP) 0 (call_type s.pc)))) (Err calls.Length)) past)
-
 pub calls_plain : (s : State) (n : ℕ) → (s.marks FP || s.marks SP) ≡ false → planned_calls s.memory s.frames s.tables.system_table n s.pc (s.regs FP) (s.regs SP) ≡ calls_in s n
 unfolding system_hazard
 calls_plain s n none = sym (ap (λ (area : Bool → Option ℕ). calls_by s n (system_hazard_by s.memory s.frames s.tables.system_table n s.pc area)) (area_of s none))
-
-pub calls_stop : (s : State) (n a : ℕ) → n ≤ MOST_SYSTEM_CALL → system_switch s.memory s.frames s.tables.system_table n s.pc ≡ Err a → Err (calls.Hazard a) ≡ calls_in s n
-calls_stop s n a few e = sym (calls_refused s n a few (system-stops s.memory s.frames s.tables.system_table n s.pc (area_hazard s) a e))
-
-pub calls_marked : (s : State) (n : ℕ) (b : Bool) (a : ℕ) → n ≤ MOST_SYSTEM_CALL → system_switch s.memory s.frames s.tables.system_table n s.pc ≡ Ok b → push_mark s b ≡ Some a → Err (calls.Hazard a) ≡ calls_in s n
-calls_marked s n b a few e some =
-    sym (calls_refused s n a few (system-goes_on s.memory s.frames s.tables.system_table n s.pc (area_hazard s) b e ∙ area_marked s b a some))
 
 pub calls_goes_on : (s : State) (n : ℕ) (b : Bool) → system_switch s.memory s.frames s.tables.system_table n s.pc ≡ Ok b → push_mark s b ≡ None
     → planned_calls s.memory s.frames s.tables.system_table n s.pc (s.regs FP) (s.regs SP) ≡ calls_in s n
@@ -109,10 +92,6 @@ fault_by s fault area = planned_fault_by s.memory s.frames s.tables.fault_table 
 -- whether it switches stacks
 abbrev fault_switches : State → Fault → Result Bool FaultStop
 fault_switches s fault = fault_switch s.memory s.frames s.tables.fault_table s.tables.system_table fault s.pc
-
-pub fault_plain : (s : State) (fault : Fault) → (s.marks FP || s.marks SP) ≡ false → fault_by s fault (save_area s.frames (s.regs FP)) ≡ entry_in s fault
-unfolding entry_in
-fault_plain s fault none = sym (ap (fault_by s fault) (area_of s none))
 
 pub fault_stop : (s : State) (fault : Fault) (stop : FaultStop) → fault_switches s fault ≡ Err stop → Err stop ≡ entry_in s fault
 unfolding entry_in

@@ -41,10 +41,6 @@ all_kept s t u one two = record {
   soft_space = λ a h. two.soft_space a (one.soft_space a h);
 }
 
--- a run that could be stored still can be
-pub run_kept : (s t : Storage) (e : Effect) → KeepsSpace s t → KeepsSoftSpace s t → HasRunSpace s e → HasRunSpace t e
-run_kept s t e keeps soft space = record { bytes = λ k h. keeps (wrapped (e.address + k)) (space.bytes k h); soft = λ some k h. soft (wrapped (e.address + k)) (space.soft some k h) }
-
 -- a frame that could be saved still can be
 pub move_kept : (s t : Storage) (m : Move) → KeepsFrameSpace s t → HasMoveSpace s m → HasMoveSpace t m
 move_kept s t moves.Stays keeps space = tt

@@ -22,6 +22,9 @@ pub(crate) fn with_group(marks: u32, r: u8, n: usize, new: u16) -> u32
     ensures { (words : List ℕ) → length words ≡ n
         → bit result ≡ marks_after (bit marks) (pairs_at (λ k. k) r words) (picked (λ k. k) r (bits_of new n)) }
 {
+    if marks == 0 && new == 0 {
+        return 0;
+    }
     let group = (1u64 << n) - 1;
     let set = (u64::from(new) & group) << r;
     let left = u64::from(marks) & !(group << r);

@@ -43,3 +43,8 @@ waits-put [] r = refl
 waits-put (q ∷ rs) r = ap (λ ws. wait_in q ∷ ws) (waits-put rs r)
 
 pub ruleset copy_rules = (waits-put)
+
+pub one_waits : (rs : List Request) → length rs ≡ 1 → [] ≡ drop 1 (waits_in rs)
+one_waits [] one = absurd (omega arith)
+one_waits (r ∷ []) one = refl
+one_waits (r ∷ q ∷ rs) one = absurd (omega arith)

@@ -36,8 +36,9 @@ fn land_all(memory: &mut Memory, queue: &mut Queue, turn: u64)
     ensures keeps { KeepsRoom memory.old memory.new }
     ensures no_more { KeepsRoom memory.new memory.old }
 {
-    while let Some(r) = queue.take_due(turn) {
+    while let Some(r) = queue.first_due(turn) {
         memory.store(r.address, r.bytes.as_slice());
+        queue.drop_first();
     }
 }
 

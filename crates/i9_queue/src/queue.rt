@@ -1,6 +1,6 @@
 //! The requests that wait.
 
-ghost use Rattle.std.specs.Prelude.{◌≡◌, ◌<◌, ◌≤◌, ◌↔◌, ◌^◌, ◌∷◌, ◌++◌, [], IsTrue, length, MatchOption};
+ghost use Rattle.std.specs.Prelude.{◌≡◌, ◌<◌, ◌≤◌, ◌↔◌, ◌^◌, ◌∷◌, ◌++◌, [], IsTrue, length, drop, MatchOption};
 ghost use Rattle.i9_model.specs.Late.{all_puts};
 ghost use Rattle.i9_model.specs.Writes.{upwards, last_put, or_earlier};
 ghost use Rattle.i9_queue.specs.Queue.{waits_in};
@@ -197,23 +197,30 @@ impl Queue {
         self.items.remove(0)
     }
 
-    /// Takes the first request, where it is due by `turn`.
+    /// The first request, where it is due by `turn`.
     #[inline(always)]
-    pub fn take_due(&mut self, turn: u64) -> Option<Request>
-        ensures { MatchOption result (NoneDue turn self.old × (self.new ≡ self.old))
-            (λ r. (r.due ≤ turn) × (self.old ≡ wait_in r ∷ self.new)) }
+    pub fn first_due(&self, turn: u64) -> Option<&Request>
+        ensures { MatchOption result (NoneDue turn self.now)
+            (λ r. (r.now.due ≤ turn) × (self.now ≡ wait_in r.now ∷ drop 1 self.now)) }
     {
-        if self.items.is_empty() {
-            return None;
+        match self.items.first() {
+            Some(r) if r.due <= turn => Some(r),
+            _ => None,
         }
-        let due = self.items[0].due;
-        if turn < due {
-            return None;
-        }
+    }
+
+    /// The first request waits no more.
+    // Mostly it waits alone, and no other is moved.
+    #[inline(always)]
+    pub fn drop_first(&mut self)
+        requires { 0 < length self.old }
+        ensures { self.new ≡ drop 1 self.old }
+    {
         if self.items.len() == 1 {
-            return self.items.pop();
+            self.items.clear();
+        } else {
+            let _ = self.take_first();
         }
-        Some(self.take_first())
     }
 
     /// Whether no waiting store is to one of `n` bytes from an address up. It may be false beside a load.

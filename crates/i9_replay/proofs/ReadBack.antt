@@ -116,10 +116,6 @@ journal_ascii k e = ascii-plain (journal_text k e) (journal_plain k e)
 
 -- ---- the line says the event
 
-not_zero : (n : ℕ) → 0 < n → eqb n 0 ≡ false
-not_zero zero h = absurd (omega arith)
-not_zero (suc n) h = eqb-suc-zero n
-
 journal_is_words : (k : ℕ) (e : Event) → k ≤ last_count → IsInRange e → AllByRecursion IsWord (journal_words k e)
 journal_is_words k e few h = (record { test = refl }, (IsWord-decimal k (omega (arith, few)), event_words-words e h))
 

@@ -19,13 +19,6 @@ abbrev pub joined : List Part → List (ℕ × ℕ) → List Part
 joined runs [] = runs
 joined runs (p ∷ ps) = joined (with_pair runs p.0 p.1) ps
 
--- a pair that counts, or not
-pub joined_turn : (runs more : List Part) (p : ℕ × ℕ) (after : List (ℕ × ℕ)) → more ≡ cond (begins_at after p.0) runs (with_pair runs p.0 p.1) → joined more (kept after) ≡ joined runs (kept (p ∷ after))
-joined_turn runs more p after is = elim (cases_Bool (begins_at after p.0)) [
-  | inl again ↦ rw (is, again) refl
-  | inr last ↦ rw (is, last) refl
-]
-
 -- ---- they are runs
 
 abbrev EndsBy : ℕ → Part → Type 0

@@ -201,10 +201,6 @@ number_small (b ∷ s) = elim (cases_Bool (eqb b 45)) [
   | inr plain ↦ rw plain (signed_small false (magnitude (b ∷ s)))
 ]
 
-tail_small : (s : List ℕ) → SmallOption (tail_number s)
-tail_small [] = omega arith
-tail_small (b ∷ s) = signed_small (eqb b 45) (magnitude s)
-
 named_small : (o : Option ℕ) (v : Value) → IsSmall (named o v)
 named_small (Some m) (Number n) = omega arith
 named_small None (Number n) = tt

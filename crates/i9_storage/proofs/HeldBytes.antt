@@ -37,11 +37,6 @@ laid_waits c region write = ap (λ (m : Memory). waits_of m region write) (laid_
 
 -- ---- one frame after the other
 
-whole_take : (n : ℕ) (fs : List Frame) → AreWhole fs → AreWhole (take n fs)
-whole_take zero fs whole = tt
-whole_take (suc n) [] whole = tt
-whole_take (suc n) (f ∷ fs) whole = (whole.0, whole_take n fs whole.1)
-
 whole_at : (fs : List Frame) (n : ℕ) (f : Frame) → AreWhole fs → n < length fs → length (get_or fs n f).words ≡ LOCALS
 whole_at [] n f whole h = absurd (omega arith)
 whole_at (g ∷ fs) zero f whole h = whole.0

@@ -117,12 +117,6 @@ return_laid m w h g kept is =
 
 -- ---- flushes
 
-pub kept_flush : (m k : Behind) (w v : Watch) (h g : Held) → IsKept m w h → frames_of v ≡ flushed (frames_of w) → cache_in k g ≡ written_back (cache_in m h) → IsKept k v g
-kept_flush m k w v h g kept is written =
-    let none : g.frames ≡ [] = ap (λ (d : Cache). d.held) written in
-    let young : AreYoungest [] [] = record { first = refl; whole = tt } in
-    kept_by m k w v h g (flushed (frames_of w)) is (sound-flushed (frames_of w) kept.sound) (subst (λ (fs : List Frame). AreYoungest fs []) (sym none) young) (subst (HaveRoom k) (sym none) tt)
-
 pub flush_laid : (c d : Cache) → d ≡ written_back c → overlaid d ≡ overlaid c
 unfolding over
 flush_laid c d e = ap overlaid e

@@ -57,25 +57,23 @@ fn queue_text(alloc: Global, queue: &Queue) -> Result<String, Fail> {
     Ok(text)
 }
 
-/// Takes the request that is due: its address, the number of its bytes and its turn; and what waits then.
+/// Drops the request that is due: its address, the number of its bytes and its turn; and what waits then.
 fn taken_text(alloc: Global, queue: &mut Queue, turn: u64) -> Result<String, Fail> {
-    let Some(request) = queue.take_due(turn) else {
+    let Some(request) = queue.first_due(turn) else {
         let left = queue_text(alloc, queue)?;
         return Ok(format!(in alloc; "none, {left}")?);
     };
+    let due = request.due;
+    let told = format!(in alloc; "{:X} {} {due}", request.address, request.bytes.len())?;
+    queue.drop_first();
     let left = queue_text(alloc, queue)?;
-    Ok(format!(in alloc;
-        "{:X} {} {}, {left}",
-        request.address,
-        request.bytes.len(),
-        request.due
-    )?)
+    Ok(format!(in alloc; "{told}, {left}")?)
 }
 
 /// A store, a load, and a store that goes on at 0.
 const REQUESTS: &str = "FFFFFFFC 5 01 02 03 04, FFFFFFFC 7, FFFFFFFE 9 09 08 07";
 
-/// A turn, the request that is taken at it, and what waits then: how many requests, and the bytes from FFFFFFFB on.
+/// A turn, the request that is dropped at it, and what waits then: how many requests, and the bytes from FFFFFFFB on.
 const TAKEN: &str = "\
 4 | none, 3: none 1 2 9 8 7 none
 5 | FFFFFFFC 4 5, 2: none none none 9 8 7 none

@@ -81,9 +81,6 @@ best_changes taken xs best least y turn b free is less =
       };
     }
 
-pub best_chosen : (taken xs : List Inst) (best least : ℕ) → IsBest taken xs best least → IsChosenAt taken xs best
-best_chosen taken xs best least b = (b.before, b.x, b.behind, b.split, b.place, b.chosen)
-
 -- ---- in a list of which more and more is looked at
 
 issue_of : (taken : List Inst) (i : Inst) (n : Need) (turn : ℕ) → n ≡ plain_need i → turn ≡ issue_turn (last_issue (turns_of taken)) (turns_of taken) n → turn ≡ next_issue taken i

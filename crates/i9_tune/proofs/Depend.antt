@@ -115,6 +115,3 @@ all_allowed (i ∷ block) ok = (ok.0.1, all_allowed block ok.1)
 pub tunable_push : (block : List Inst) (i : Inst) → AreTunable block → IsValid i → is_allowed i ≡ true → AreTunable (block ++ i ∷ [])
 tunable_push [] i ok v a = ((v, a), tt)
 tunable_push (j ∷ block) i ok v a = (ok.0, tunable_push block i ok.1 v a)
-
-pub tunable_more : (block : List Inst) (k : ℕ) (d : Inst) → k < length block → AreTunable (take k block) → IsValid (slice_index_or block k d) → is_allowed (slice_index_or block k d) ≡ true → AreTunable (take (k + 1) block)
-tunable_more block k d h ok v a = subst AreTunable (sym (take_more block k d h)) (tunable_push (take k block) (slice_index_or block k d) ok v a)

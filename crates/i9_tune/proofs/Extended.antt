@@ -75,7 +75,3 @@ fewer_left left rest k counter n h e long =
 
 pub all_taken : (left : List Inst) (counter n : ℕ) → length left + counter ≡ n → n ≤ counter → length left ≡ 0
 all_taken left counter n long done = omega (arith, long, done)
-
-pub is_pushed : (ok failed : Bool) → failed ≡ false → failed ≡ not ok → ok ≡ true
-is_pushed true failed e f = refl
-is_pushed false failed e f = absurd (cc (sym e ∙ f))

@@ -164,9 +164,6 @@ code_length i ws (two_words w v two code) = sym two
 abbrev pub GoOn : ℕ → List Inst → List ℕ → ℕ → List Inst → List ℕ → Type 0
 GoOn a block old at rest text = (codes : List (List ℕ)) → AreCodes rest codes → AddsLines a block old (text ++ flat_map with_line_feed (code_lines at codes))
 
-pub go_start : (a : ℕ) (block : List Inst) (old : List ℕ) → GoOn a block old a block old
-go_start a block old codes are = record { codes = codes; words = are; text = refl }
-
 pub go_turn : (a : ℕ) (block : List Inst) (old : List ℕ) (at k next : ℕ) (d : Inst) (text more : List ℕ) → k < length block → AddsLine at (slice_index_or block k d) text more
     → next ≡ wrapped (at + 4 * words_of (slice_index_or block k d)) → GoOn a block old at (drop k block) text → GoOn a block old next (drop (k + 1) block) more
 go_turn a block old at k next d text more lt line on go codes are =

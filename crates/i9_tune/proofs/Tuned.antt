@@ -8,16 +8,6 @@ use Rattle.i9_tune.specs.Orders.{IsOrder}
 use Rattle.i9_tune.specs.Greedy.{span_of, IsGreedy, IsTuned, AreTunable}
 use Rattle.i9_tune.proofs.Depend.{greedy_order, order_tunable, own_order}
 
-pub tuned_greedy : (block order : List Inst) → IsGreedy [] block order → span_of order < span_of block → IsTuned block order
-tuned_greedy block order greedy less =
-    let test : nat_lt (span_of order) (span_of block) ≡ true = grind (arith, nat_tests, less) in
-    (order, greedy, sym (cond-true (nat_lt (span_of order) (span_of block)) order block test))
-
-pub tuned_block : (block order : List Inst) → IsGreedy [] block order → span_of block ≤ span_of order → IsTuned block block
-tuned_block block order greedy more =
-    let test : nat_lt (span_of order) (span_of block) ≡ false = grind (arith, nat_tests, more) in
-    (order, greedy, sym (cond-false (nat_lt (span_of order) (span_of block)) order block test))
-
 order_by : (b : Bool) (block order : List Inst) → AreTunable block → IsGreedy [] block order → IsOrder block (cond b order block)
 order_by true block order ok greedy = greedy_order [] block order ok greedy
 order_by false block order ok greedy = own_order block

@@ -37,20 +37,6 @@ capped_small m = grind (arith, nat_tests)
 pub capped_low : (m : ℕ) → m < 2 ^ 32 → capped m ≡ m
 capped_low m h = rw (lt-ltb m (2 ^ 32) h) refl
 
-pub in_range-capped : (q : Bool) (m : ℕ) → in_range q (capped m) ≡ in_range q m
-in_range-capped q m = elim (cases_Bool (ltb m (2 ^ 32))) [
-  | inl low ↦ rw low refl
-  | inr high ↦ rw high (past q m (ltb-false _ _ high))
-]
-  where
-    past : (q : Bool) (m : ℕ) → 2 ^ 32 ≤ m → in_range q (2 ^ 32) ≡ in_range q m
-    past true m h = rw (lt-leb m (2 ^ 31) (omega arith)) refl
-    past false m h = rw (le-ltb m (2 ^ 32) h) refl
-
-pub map_capped : (q : Bool) (o : Option ℕ) → option_map (in_range q) (option_map capped o) ≡ option_map (in_range q) o
-map_capped q None = refl
-map_capped q (Some m) = ap Some (in_range-capped q m)
-
 -- eight hexadecimal digits are below the limit
 digits_from_test : (radix : ℕ) (w : List ℕ) → are_digits radix w ≡ true → AllDigits radix w
 digits_from_test radix [] h = tt

@@ -77,10 +77,6 @@ pub has_byte-some : (w : List ℕ) → 0 < length w → has_byte w ≡ true
 has_byte-some [] h = absurd (omega arith)
 has_byte-some (b ∷ w) h = refl
 
-pub some-has_byte : (w : List ℕ) → has_byte w ≡ true → 0 < length w
-some-has_byte [] h = absurd cc
-some-has_byte (b ∷ w) h = omega arith
-
 pub decimal_some : (n : ℕ) → n < 2 ^ 32 → 0 < length (decimal n)
 decimal_some n small = (decimal_is_IsNumeral n (omega arith)).0.0
 

@@ -186,9 +186,12 @@ impl Machine {
         if until <= self.turn {
             return (until, Coming::Waiting { read: false });
         }
+        if matches!(self.due, Due::Nothing) {
+            return self.look_open(until, plan);
+        }
         match self.late_fault() {
             Some(address) => self.look_behind(address, until),
-            None => self.look_open(until, plan),
+            None => (until, Coming::Waiting { read: false }),
         }
     }
 

@@ -5,8 +5,20 @@ use Rattle.i9_model.specs.Writes.{pairs_at}
 use Rattle.i9_model.specs.Controls.{marks_after}
 use Rattle.i9_model.specs.Stale.{picked}
 use Rattle.i9_watch.specs.Bits.{bits_of}
-use Rattle.i9_processor.proofs.MarkBits.{computed_is, replaced_small, ones_small, group_marks}
+use Rattle.i9_storage.proofs.Saves.{none_picked}
+use Rattle.i9_processor.proofs.MarkBits.{computed_is, replaced_small, ones_small, group_marks, none_marked}
 use Rattle.i9_processor.proofs.marks.with_group.Goals as goal
+
+-- nothing is marked, and nothing gets a mark
+pub returns-then-new-eq0 : goal.returns-then-new-eq0
+returns-then-new-eq0 c = λ words long.
+    let r = c.args.r in
+    let n = c.args.n in
+    let sets = pairs_at (λ k. k) r words in
+    none_marked sets
+    ∙ ap (marks_after (bit 0) sets) (sym (none_picked (λ k. k) r n))
+    ∙ ap (λ m. marks_after (bit m) sets (picked (λ k. k) r (bits_of 0 n))) (sym c.if-marks-eq0.true)
+    ∙ ap (λ w. marks_after (bit c.args.marks) sets (picked (λ k. k) r (bits_of w n))) (sym c.if-new-eq0.true)
 
 pub overflow_cast-result : goal.overflow_cast-result
 overflow_cast-result c =

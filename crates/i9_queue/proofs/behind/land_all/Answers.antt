@@ -1,4 +1,4 @@
-use Rattle.std.proofs.Common.{ℕ, List, ◌∷◌, ◌++◌, length, sym, ap, subst, ◌∙◌}
+use Rattle.std.proofs.Common.{ℕ, List, ◌≡◌, ◌∷◌, ◌++◌, length, drop, sym, ap, subst, ◌∙◌}
 use Rattle.i9_model.specs.Memory.{Memory, with_bytes}
 use Rattle.i9_model.specs.Late.{due_puts, left_waiting, all_puts, AreDueInOrder}
 use Rattle.i9_model.proofs.Stored.{stored-append}
@@ -12,23 +12,26 @@ use Rattle.i9_queue.proofs.behind.land_all.Goals as goal
 
 pub store-requires : goal.store-requires
 store-requires c =
-    let w = wait_in c.in-Some.r in
-    let room : HasRoomFor c.loop-r.memory (w.puts ++ all_puts c.take_due.new.self) = subst (λ ws. HasRoomFor c.loop-r.memory (all_puts ws)) c.in-Some.ensures.1 c.loop-r.invariant.room in
-    subst (λ (bs : List ℕ). HasRoom c.loop-r.memory c.in-Some.r.address (length bs)) (sym c.as_slice.ensures.value) (room_run c.loop-r.memory c.in-Some.r.address c.in-Some.r.bytes.items (room_split c.loop-r.memory w.puts (all_puts c.take_due.new.self) room).0)
+    let r = c.in-Some.r.now in
+    let w = wait_in r in
+    let ws = drop 1 c.loop-r.queue in
+    let room : HasRoomFor c.loop-r.memory (w.puts ++ all_puts ws) = subst (λ ws. HasRoomFor c.loop-r.memory (all_puts ws)) c.in-Some.ensures.1 c.loop-r.invariant.room in
+    subst (λ (bs : List ℕ). HasRoom c.loop-r.memory r.address (length bs)) (sym c.as_slice.ensures.value) (room_run c.loop-r.memory r.address r.bytes.items (room_split c.loop-r.memory w.puts (all_puts ws) room).0)
 
 pub loop-r-preserved : goal.loop-r-preserved
 loop-r-preserved c =
     let u = c.args.turn in
-    let w = wait_in c.in-Some.r in
-    let ws = c.take_due.new.self in
+    let r = c.in-Some.r.now in
+    let w = wait_in r in
+    let ws = c.drop_first.new.self in
     let m = memory_of c.loop-r.memory in
     let t = take-due u w ws c.in-Some.ensures.0 in
-    let q = c.in-Some.ensures.1 in
+    let q : c.loop-r.queue ≡ w ∷ ws = c.in-Some.ensures.1 ∙ ap (λ vs. w ∷ vs) (sym c.drop_first.ensures) in
     let room : HasRoomFor c.loop-r.memory (w.puts ++ all_puts ws) = subst (λ vs. HasRoomFor c.loop-r.memory (all_puts vs)) q c.loop-r.invariant.room in
     let order : AreDueInOrder (w ∷ ws) = subst AreDueInOrder q c.loop-r.invariant.order in
     record {
       memory =
-          ap (λ (n : Memory). with_puts n (due_puts u ws)) (c.store.ensures.bytes ∙ ap (λ bs. with_bytes m c.in-Some.r.address bs) c.as_slice.ensures.value)
+          ap (λ (n : Memory). with_puts n (due_puts u ws)) (c.store.ensures.bytes ∙ ap (λ bs. with_bytes m r.address bs) c.as_slice.ensures.value)
           ∙ ap (λ (g : ℕ → ℕ). record m { bytes = g }) (sym (stored-append m.bytes w.puts (due_puts u ws)))
           ∙ ap (with_puts m) (sym t.0 ∙ sym (ap (due_puts u) q))
           ∙ c.loop-r.invariant.memory;
@@ -41,13 +44,11 @@ loop-r-preserved c =
 
 pub returns-clause-memory : goal.returns-clause-memory
 returns-clause-memory c =
-    let h = c.in_default.ensures in
     let m = memory_of c.loop-r.memory in
-    let n = no_more c.args.turn c.loop-r.queue h.0 c.loop-r.invariant.order in
+    let n = no_more c.args.turn c.loop-r.queue c.in_default.ensures c.loop-r.invariant.order in
     ap (λ (g : ℕ → ℕ). record m { bytes = g }) (sym (stored-none m.bytes)) ∙ ap (with_puts m) (sym n.0) ∙ c.loop-r.invariant.memory
 
 pub returns-clause-queue : goal.returns-clause-queue
 returns-clause-queue c =
-    let h = c.in_default.ensures in
-    let n = no_more c.args.turn c.loop-r.queue h.0 c.loop-r.invariant.order in
-    h.1 ∙ sym n.1 ∙ c.loop-r.invariant.requests
+    let n = no_more c.args.turn c.loop-r.queue c.in_default.ensures c.loop-r.invariant.order in
+    sym n.1 ∙ c.loop-r.invariant.requests
