@@ -5,8 +5,6 @@
 
 mod calls;
 mod memory;
-#[cfg(test)]
-mod tests;
 mod traits;
 
 pub use memory::{MemFiles, MemSink};

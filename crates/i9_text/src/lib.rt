@@ -12,6 +12,3 @@ mod words;
 pub use lines::split_line;
 pub use numbers::number;
 pub use words::split_word;
-
-#[cfg(test)]
-mod tests;

@@ -1,5 +1,5 @@
 //! The pair in memory, at cases worked out by hand.
-use crate::{Fetch, Files, MemFiles, MemSink, Sink, Wrote};
+use i9_outside::{Fetch, Files, MemFiles, MemSink, Sink, Wrote};
 use std::alloc::Global;
 use std::test::*;
 

@@ -1,18 +1,10 @@
 //! The files and the sink of the system over a disk and a writer that keep what was asked of them.
-use crate::disk::{Disk, Log, Taker};
-use crate::{RealFiles, RealSink};
+use crate::system_disk::{Disk, Log, Taker};
+use crate::system_files::some_bytes;
 use i9_outside::{Fetch, Files, Sink, Wrote};
+use i9_system::{RealFiles, RealSink};
 use std::alloc::Global;
 use std::test::*;
-
-/// So many bytes, of which neighbours differ.
-fn some_bytes(alloc: Global, size: usize) -> Result<Vec<u8>, Fail> {
-    let mut bytes = Vec::new(alloc);
-    for k in 0..size {
-        bytes.push((k % 251) as u8)?;
-    }
-    Ok(bytes)
-}
 
 /// The first bytes, so many of them.
 fn front(bytes: &[u8], size: usize) -> &[u8] {

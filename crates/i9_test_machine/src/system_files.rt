@@ -1,13 +1,13 @@
 //! The pair over the system, at cases worked out by hand.
-use crate::{RealFiles, RealSink};
 use i9_outside::{Fetch, Files, Sink, Wrote};
+use i9_system::{RealFiles, RealSink};
 use std::alloc::Global;
 use std::io::{ErrorKind, Write};
 use std::test::*;
 use std::{fs, io};
 
 /// So many bytes, of which neighbours differ.
-fn some_bytes(alloc: Global, size: usize) -> Result<Vec<u8>, Fail> {
+pub(crate) fn some_bytes(alloc: Global, size: usize) -> Result<Vec<u8>, Fail> {
     let mut bytes = Vec::new(alloc);
     for k in 0..size {
         bytes.push((k % 251) as u8)?;

@@ -1,4 +1,5 @@
-use crate::{number, split_line, split_word};
+//! Lines, words and numbers of texts, cut by hand.
+use i9_text::{number, split_line, split_word};
 use std::test::Fail;
 
 // Each text is cut by hand: its first line, and what is left.
