@@ -14,8 +14,7 @@ use Rattle.i9_model.specs.Alike.{is_beyond, is_hard, AgreeWhere, with_other, sho
 use Rattle.i9_model.specs.Free.{IsWhole}
 use Rattle.i9_model.proofs.Runs.{is_put-upwards}
 use Rattle.i9_model.proofs.Lengths.{four_bytes, words_long}
-use Rattle.i9_model.proofs.Storing.{stored_words_same}
-use Rattle.i9_model.proofs.Storing.{words_as_bytes}
+use Rattle.i9_model.proofs.Storing.{stored_words_same, words_as_bytes}
 use Rattle.i9_agree.proofs.AlikeMoves.{move_mcon}
 use Rattle.i9_agree.proofs.Agreeing.{shows-none, shows-second, shows-unmarked, shows-after, values-append, values-marked, writes-picked, puts-same, written-alike, stored-alike}
 

@@ -1,96 +1,71 @@
 -- What comes next in states that agree is alike, and states stay in agreement.
-use Rattle.std.proofs.Common.{◌≡◌, ℕ, ◌+◌, ◌*◌, ◌≤◌, Bool, true, false, cond, eqb, ◌&&◌, ◌||◌, nat_le, List, [], ◌∷◌, ◌++◌, Option, Some, None, Result, Ok, Err, refl, sym, ap, ◌∙◌, subst, arith}
+use Rattle.std.proofs.Common.{◌≡◌, ℕ, ◌+◌, ◌*◌, ◌≤◌, Bool, true, false, cond, eqb, ◌&&◌, ◌||◌, nat_le, List, [], ◌∷◌, ◌++◌, Option, Some, None, Result, Ok, Err, refl, sym, ap, ◌∙◌, subst, arith, zero, suc, ◌<◌, length}
 use Rattle.std.specs.Option.{option_map, option_and_then}
-use Rattle.std.specs.Prelude.{not, bit_and, max, map, ◌%◌}
-use Rattle.std.specs.List.{range_with_len}
+use Rattle.std.specs.Prelude.{not, bit_and, max, map, ◌%◌, ◌==◌}
+use Rattle.std.specs.List.{range_with_len, list_any}
 use Rattle.i9_isa.specs.declared.op.Op.{Op}
-use Rattle.i9_isa.specs.declared.op.Op.TheVariants.{Calls, Ret, Sysctl}
+use Rattle.i9_isa.specs.declared.op.Op.TheVariants.{Calls, Ret, Sysctl, Lda, Atadd, Atmod, Bx, Balx, Bal, Call, Callx, Flushreg, Modac, Modtc, Modpc, Sdma}
 use Rattle.i9_isa.specs.declared.size.Size.{Size}
 use Rattle.i9_isa.specs.declared.size.Direction.{Direction}
 use Rattle.i9_isa.specs.declared.size.Direction.TheVariants.{Load, Store}
 use Rattle.i9_isa.specs.declared.size.Transfer.{Transfer}
-use Rattle.i9_isa.specs.Transfers.{transfer_of}
+use Rattle.i9_isa.specs.Transfers.{transfer_of, byte_count, register_count}
 use Rattle.i9_isa.specs.Words.{words_of}
 use Rattle.i9_isa.specs.declared.inst.Inst.{Inst}
-use Rattle.i9_model.specs.declared.layout.TheConstants.{PRCB_SIZE, CONTROL_TABLE_SIZE, CONTROL_GROUP_SIZE, AC_MASK, LEAST_SETS}
+use Rattle.i9_model.specs.declared.layout.TheConstants.{PRCB_SIZE, CONTROL_TABLE_SIZE, CONTROL_GROUP_SIZE, AC_MASK, LEAST_SETS, FRAME_SIZE, FP, SP, PFP, EXIT_WORD, CONSOLE}
 use Rattle.i9_model.specs.declared.setup.TheConstants.{CONTROL_WORDS}
 use Rattle.i9_model.specs.declared.setup.Setup.{Setup}
 use Rattle.i9_model.specs.declared.interrupts.Chosen.{Chosen}
 use Rattle.i9_model.specs.declared.event.Event.{Event}
 use Rattle.i9_model.specs.declared.event.Event.TheVariants as events
-use Rattle.i9_model.specs.Before.{Received, choice_in, interrupt_in, received_in}
+use Rattle.i9_model.specs.Before.{Received, choice_in, interrupt_in, received_in, interrupting}
 use Rattle.i9_model.specs.declared.faults.Entry.{Entry}
 use Rattle.i9_model.specs.declared.faults.FaultStop.{FaultStop}
 use Rattle.i9_model.specs.declared.faults.FaultStop.TheVariants as stops
-use Rattle.i9_model.specs.Writes.{address_count, wrapped, written, upwards}
-use Rattle.i9_model.specs.Memory.{Memory, in_port_page, words_in, exit_word}
-use Rattle.i9_model.specs.State.{State, Frames, TraceControls, started}
-use Rattle.i9_model.specs.Frames.{flushed}
-use Rattle.i9_model.specs.Hazards.{read_hazard}
-use Rattle.i9_model.specs.Operands.{value}
+use Rattle.i9_model.specs.Writes.{address_count, wrapped, written, upwards, last_put, or_earlier}
+use Rattle.i9_model.specs.Memory.{Memory, in_port_page, words_in, exit_word, ordered_word}
+use Rattle.i9_model.specs.State.{State, Frames, TraceControls, started, Interrupts, start_sets}
+use Rattle.i9_model.specs.Frames.{flushed, places, in_bytes, is_kept, has}
+use Rattle.i9_model.specs.Hazards.{read_hazard, save_hazard, write_hazard}
+use Rattle.i9_model.specs.Operands.{value, address}
 use Rattle.i9_model.specs.Boot.{table_word, setup_of, configured}
 use Rattle.i9_model.specs.Tables.{tables_hazard, group_address, group_hazard, group_words}
-use Rattle.i9_model.specs.Calls.{record_address}
-use Rattle.i9_model.specs.Controls.{Control, KeepsControls, Restarts, LoadsGroup, with_group, controlled}
-use Rattle.i9_model.specs.Step.{Action, Flushes, Message, AsksNothing, AsksCheck, AsksInterrupt, AsksRestart, AsksGroup, passing, moving, entering, argument_of, asked_message, message_action, action_by_name, action_by, action_of, moved, flagged, acted, counted}
+use Rattle.i9_model.specs.Calls.{record_address, in_supervisor_mode, leaves_supervisor, return_type}
+use Rattle.i9_model.specs.Controls.{Control, KeepsControls, Restarts, LoadsGroup, with_group, controlled, marks_after}
+use Rattle.i9_model.specs.Step.{Action, Flushes, Message, AsksNothing, AsksCheck, AsksInterrupt, AsksRestart, AsksGroup, passing, moving, entering, argument_of, asked_message, message_action, action_by_name, action_by, action_of, moved, flagged, acted, counted, Move, Stays, Saves, Returns, branching, resulting, answer_in, atomic_address, pushing, frames_after}
 use Rattle.i9_model.specs.declared.trace.Seen.{Seen}
 use Rattle.i9_model.specs.declared.trace.Trace.{Trace}
 use Rattle.i9_model.specs.Tracing.{trace_of}
 use Rattle.i9_model.specs.Traced.{switches, seen_of, trace_left, traced_action}
-use Rattle.i9_model.specs.Access.{Access, data_of, message_access, access_by_name, access_by, hazard_in, hazard_of}
+use Rattle.i9_model.specs.Access.{Access, data_of, message_access, access_by_name, access_by, hazard_in, hazard_of, moved_access}
 use Rattle.i9_model.specs.Standing.{Standing, Meets, Refused, Faults, Runs, stands_at}
 use Rattle.i9_model.specs.declared.run.End.{End}
-use Rattle.i9_model.specs.declared.run.End.TheVariants.{Limit}
+use Rattle.i9_model.specs.declared.run.End.TheVariants.{Limit, Exit}
 use Rattle.i9_model.specs.Run.{Kind, Instruction, Faulted, Entered, Interrupted, Reached, action_by_kind, counts_of, record_of, exit_in, due_in, due_by, Ends, finish, next_by_standing, next_by_received, next_by_event, next_by_interrupt, next_by_choice, next_by_entry, entry_in, fault_at, next_in}
 use Rattle.i9_model.specs.declared.run.Due.{Due}
 use Rattle.i9_model.specs.Overlay.{overlay}
-use Rattle.i9_model.specs.Alike.{is_hard, AgreeWhere, with_other, with_memory, told}
-use Rattle.i9_model.proofs.CallLaws.{first_none, second_none}
+use Rattle.i9_model.specs.Alike.{is_hard, AgreeWhere, with_other, with_memory, told, is_beyond, shows, is_open, with_values, AgreeBeside, Agree, AreWritesAlike, AreActionsAlike, told_words, access_by_kind, DoAgree, NextsAgree}
+use Rattle.i9_model.proofs.CallLaws.{first_none, second_none, enters_free_by}
 use Rattle.i9_model.proofs.ControlLaws.{by_group}
 use Rattle.i9_model.proofs.Readings.{read_same, inner_word_same, words_same}
-use Rattle.i9_past.proofs.Stands.{Known}
-use Rattle.i9_agree.proofs.SoundRuns.{action_clear}
-use Rattle.i9_agree.proofs.InterruptsFree.{interrupts_free}
+use Rattle.i9_past.proofs.Stands.{Known, IsRead, known as known_here}
+use Rattle.i9_agree.proofs.SoundRuns.{action_clear, IsSafe, IsLostOf, action_lost, area_save}
+use Rattle.i9_agree.proofs.InterruptsFree.{interrupts_free, InterruptsFree}
 use Rattle.i9_agree.proofs.Units.{received_same}
 use Rattle.i9_model.specs.declared.run.Due.TheVariants as dues
-use Rattle.std.specs.Prelude.{◌==◌}
-use Rattle.std.proofs.Common.{zero, suc, ◌<◌, length}
-use Rattle.i9_model.specs.declared.run.End.TheVariants.{Exit}
-use Rattle.i9_model.specs.Step.{Move, Stays, Saves, Returns}
-use Rattle.std.specs.List.{list_any}
 use Rattle.std.proofs.lemmas.Bool.{or_left, or_from, or_parts, eqb-true}
-use Rattle.i9_isa.specs.declared.op.Op.TheVariants.{Lda, Atadd, Atmod, Bx, Balx, Bal, Call, Callx, Flushreg, Modac, Modtc, Modpc, Sdma}
 use Rattle.i9_isa.specs.declared.size.Size.TheVariants.{Byte, Half, Words}
 use Rattle.i9_isa.specs.declared.inst.Operand.{Operand}
-use Rattle.i9_isa.specs.Transfers.{byte_count, register_count}
-use Rattle.i9_model.specs.declared.layout.TheConstants.{FRAME_SIZE, FP, SP, PFP, EXIT_WORD, CONSOLE}
 use Rattle.i9_model.specs.declared.faults.Fault.{Fault}
 use Rattle.i9_model.specs.declared.push.Push.{Push}
-use Rattle.i9_model.specs.Writes.{last_put, or_earlier}
-use Rattle.i9_model.specs.Memory.{ordered_word}
-use Rattle.i9_model.specs.State.{Interrupts, start_sets}
-use Rattle.i9_model.specs.Frames.{places, in_bytes, is_kept, has}
-use Rattle.i9_model.specs.Controls.{marks_after}
-use Rattle.i9_model.specs.Hazards.{save_hazard, write_hazard}
 use Rattle.i9_model.specs.Sound.{in_returns, IsSound}
-use Rattle.i9_model.specs.Calls.{in_supervisor_mode, leaves_supervisor, return_type}
 use Rattle.i9_model.specs.Faults.{is_special, planned_fault_by}
 use Rattle.i9_model.specs.Interrupts.{cleared, planned_interrupt_by}
-use Rattle.i9_model.specs.Before.{interrupting}
-use Rattle.i9_model.specs.Operands.{address}
 use Rattle.i9_model.specs.Branches.{asks, question_of}
 use Rattle.i9_model.specs.Stale.{picked, byte_marks, mark_of, marks_of, word_mark, stored_marks, saved_marks, registers_of, is_marked, record_registers, deciding, deciding_by, touches_port, stored_out, changed_out, goes_out, goes_out_by, misuses, area_hazard}
-use Rattle.i9_model.specs.Step.{branching, resulting, answer_in, atomic_address, pushing, frames_after}
-use Rattle.i9_model.specs.Access.{moved_access}
-use Rattle.i9_model.specs.Alike.{is_beyond, shows, is_open, with_values, AgreeBeside, Agree, AreWritesAlike, AreActionsAlike, told_words, access_by_kind, DoAgree, NextsAgree}
-use Rattle.i9_model.proofs.CallLaws.{enters_free_by}
 use Rattle.i9_model.proofs.FrameLaws.{write_hazard-none, save_hazard-none, port_hazard-none, none_wrote}
 use Rattle.i9_model.proofs.Among.{bytes-among, among-bytes, among-address}
 use Rattle.i9_model.proofs.SavedMarks.{picked-among, saved-lost}
-use Rattle.i9_agree.proofs.SoundRuns.{IsSafe, IsLostOf, action_lost, area_save}
-use Rattle.i9_past.proofs.Stands.{IsRead}
-use Rattle.i9_past.proofs.Stands.{known as known_here}
-use Rattle.i9_agree.proofs.InterruptsFree.{InterruptsFree}
 use Rattle.i9_model.proofs.Storing.{stored_words_same}
 use Rattle.i9_agree.proofs.AlikeFetches.{told_same, planned_fault_by_same}
 use Rattle.i9_agree.proofs.AlikeInterrupts.{choice_same, planned_by_same, entry_writes_same}

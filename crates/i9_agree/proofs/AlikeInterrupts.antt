@@ -20,9 +20,8 @@ use Rattle.i9_model.specs.Before.{choice_in, entry_writes}
 use Rattle.i9_model.specs.Alike.{is_beyond, is_hard, AgreeWhere, with_other, with_memory}
 use Rattle.i9_model.proofs.CallLaws.{first_none, second_none}
 use Rattle.i9_model.proofs.Readings.{byte_same, first_same, word_same}
-use Rattle.i9_model.proofs.Storing.{stored_agree}
+use Rattle.i9_model.proofs.Storing.{stored_agree, stored_words_same}
 use Rattle.i9_agree.proofs.AlikeActions.{or_else_same, AreKnown}
-use Rattle.i9_model.proofs.Storing.{stored_words_same}
 use Rattle.i9_agree.proofs.AlikeFetches.{unless_same}
 use Rattle.i9_agree.proofs.AlikeChoices.{chosen_of_same}
 use Rattle.i9_agree.proofs.InterruptsFree.{InterruptsFree}

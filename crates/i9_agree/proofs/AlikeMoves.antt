@@ -12,8 +12,7 @@ use Rattle.i9_model.specs.Alike.{is_beyond, is_hard, is_compared, AgreeWhere, wi
 use Rattle.i9_model.specs.Free.{IsWhole}
 use Rattle.i9_model.proofs.Runs.{is_put-upwards}
 use Rattle.i9_model.proofs.Lengths.{words_long}
-use Rattle.i9_model.proofs.Storing.{stored_words_same}
-use Rattle.i9_model.proofs.Storing.{stored_agree, words_as_bytes}
+use Rattle.i9_model.proofs.Storing.{stored_words_same, stored_agree, words_as_bytes}
 
 -- ---- what is compared afterwards was compared before, or is written
 

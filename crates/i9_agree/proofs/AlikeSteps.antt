@@ -7,9 +7,9 @@ use Rattle.i9_model.specs.declared.event.Event.TheVariants as events
 use Rattle.i9_model.specs.ScheduleText.{timed_at}
 use Rattle.i9_model.specs.Writes.{address_count, wrapped}
 use Rattle.i9_model.specs.Memory.{console_byte, in_port_page, exit_word}
-use Rattle.i9_model.specs.State.{State}
+use Rattle.i9_model.specs.State.{State, as_zero}
 use Rattle.i9_model.specs.Frames.{in_frames}
-use Rattle.i9_model.specs.Step.{Action, Flushes}
+use Rattle.i9_model.specs.Step.{Action, Flushes, Move, Stays, Saves, Returns}
 use Rattle.i9_model.specs.declared.trace.Trace.{Trace}
 use Rattle.i9_model.specs.Traced.{traced_action}
 use Rattle.i9_model.specs.declared.run.End.{End}
@@ -19,11 +19,8 @@ use Rattle.i9_model.specs.declared.run.Due.{Due}
 use Rattle.i9_model.specs.Overlay.{overlay}
 use Rattle.i9_model.specs.PrintedText.{Shown, Drained, Journal, Bytes, view_of, out_lines, point_lines, overlays, bytes_lines, event_lines, record_lines, end_lines}
 use Rattle.i9_model.specs.declared.view.View.{View}
-use Rattle.i9_model.specs.Alike.{is_compared, AgreeWhere, with_memory, AreAlike, AreRecordsAlike, AreNextAlike}
-use Rattle.i9_model.specs.State.{as_zero}
+use Rattle.i9_model.specs.Alike.{is_compared, AgreeWhere, with_memory, AreAlike, AreRecordsAlike, AreNextAlike, with_values, Agree, AreValuesAlike, AreWritesAlike, AreMovesAlike, AreActionsAlike, DoAgree, NextsAgree}
 use Rattle.i9_model.specs.Sound.{IsSound}
-use Rattle.i9_model.specs.Step.{Move, Stays, Saves, Returns}
-use Rattle.i9_model.specs.Alike.{with_values, Agree, AreValuesAlike, AreWritesAlike, AreMovesAlike, AreActionsAlike, DoAgree, NextsAgree}
 use Rattle.i9_agree.proofs.AgreeSteps.{next-agree}
 pub use Rattle.i9_agree.proofs.AgreeSteps.{IsReadable, controlled_bytes, restart_readable, group_readable}
 

@@ -13,8 +13,7 @@ use Rattle.i9_model.specs.Alike.{with_other}
 use Rattle.i9_model.specs.HeldFrames.{Cache, over, overlaid, spilled, with_room, holding, AreWhole}
 use Rattle.i9_model.proofs.Runs.{is_put-upwards}
 use Rattle.i9_model.proofs.Lengths.{frame_long}
-use Rattle.i9_model.proofs.Storing.{stored_words_same}
-use Rattle.i9_model.proofs.Storing.{stored_agree, stored_kept, words_as_bytes}
+use Rattle.i9_model.proofs.Storing.{stored_words_same, stored_agree, stored_kept, words_as_bytes}
 
 -- ---- pushes and spills
 

@@ -12,13 +12,12 @@ use Rattle.i9_isa.specs.Transfers.{byte_count, transfer_of}
 use Rattle.i9_model.specs.Writes.{wrapped, places_of, upwards}
 use Rattle.i9_model.specs.Memory.{Memory, with_writes, word_in, word_bytes}
 use Rattle.i9_model.specs.State.{State, Frames, started, boot}
-use Rattle.i9_model.specs.Hazards.{or_else, read_hazard, write_hazard, writes_hazard, port_hazard, save_hazard}
+use Rattle.i9_model.specs.Hazards.{or_else, read_hazard, write_hazard, writes_hazard, port_hazard, save_hazard, return_place}
 use Rattle.i9_model.specs.Operands.{value, address}
 use Rattle.i9_model.specs.Step.{Move, Stays, Saves, Returns, Flushes, Action, bytes_of_words, stored_of, moving, merged, atomic_address, atomic, Message, AsksNothing, AsksCheck, AsksInterrupt, AsksRestart, AsksGroup, argument_of, asked_message, message_action, entering, action_by_name, action_by, action_of, frames_after, moved, acted, branching, answer_in, resulting}
 use Rattle.i9_model.specs.Branches.{asks, question_of}
 use Rattle.i9_model.specs.Access.{Changes, message_access, moved_access, access_by_name, access_by, hazard_in, hazard_of}
 use Rattle.i9_model.specs.Sound.{in_returns, IsSound}
-use Rattle.i9_model.specs.Hazards.{return_place}
 use Rattle.std.proofs.lemmas.Bool.{or_left, or_from}
 use Rattle.i9_model.specs.Free.{IsFree}
 use Rattle.i9_model.specs.Run.{Given, Instruction, Faulted, Entered, Interrupted, Reached, Kind, action_by_kind, Record, Does, entry_in, state_after, due_after, next_in, next_with, IsPastOfSome}
@@ -30,12 +29,11 @@ use Rattle.i9_model.specs.declared.event.Event.{Event}
 use Rattle.i9_model.specs.declared.interrupts.Cause.{Cause}
 use Rattle.i9_model.specs.declared.interrupts.Cause.TheVariants.{Nmi, Line, Soft}
 use Rattle.i9_model.specs.declared.interrupts.TheConstants.{PENDING_VECTORS}
-use Rattle.i9_model.specs.Frames.{in_bytes, in_frames, has, saved, with_marked, wrote}
+use Rattle.i9_model.specs.Frames.{in_bytes, in_frames, has, saved, with_marked, wrote, rounded_down}
 use Rattle.i9_model.specs.Interrupts.{vector_priority, with_bit, without_bit, byte_hazard, request_hazard, request_writes, priority_place, pending_place, left_pending, priority_writes, taken_writes, priority_hazard, taken_hazard, clearing_writes, clearing_hazard, record_writes}
 use Rattle.i9_model.specs.Before.{entry_writes, interrupting}
 use Rattle.i9_model.specs.Calls.{call_type, record_address}
 use Rattle.i9_agree.proofs.Units.{received_free}
-use Rattle.i9_model.specs.Frames.{rounded_down}
 use Rattle.i9_model.specs.Stale.{mark_of, legible, push_mark, area_hazard}
 use Rattle.i9_model.proofs.SavedMarks.{IsLost, saved-lost, returns-live}
 use Rattle.i9_model.proofs.CallLaws.{first_none, second_none, system_checks, system_save, EntersFree, enters_free_by}

@@ -3,8 +3,7 @@ use Rattle.std.proofs.Common.{◌≡◌, ℕ, ◌<◌, true, List, [], ◌∷◌
 use Rattle.std.specs.Prelude.{is_some}
 use Rattle.std.specs.List.{slice_split}
 use Rattle.std.proofs.lemmas.List.Splits.{length-slice_split}
-use Rattle.i9_statement.specs.Fields.{is_comma, field_of}
-use Rattle.i9_statement.specs.Fields.{fields_left}
+use Rattle.i9_statement.specs.Fields.{is_comma, field_of, fields_left}
 use Rattle.i9_value.specs.declared.fault.Fault.TheVariants.{Form}
 use Rattle.i9_asm.specs.Lines.{Item, Bad, Data, one_value, two_values, some_values}
 

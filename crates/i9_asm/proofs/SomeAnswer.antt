@@ -13,8 +13,7 @@ use Rattle.i9_asm.specs.Lines.{Item, Empty, Org, Space, Align, Set, Data, Ascii,
 use Rattle.i9_asm.specs.Lines as items
 use Rattle.i9_asm.specs.Strings.{string_of}
 use Rattle.i9_asm.specs.Places.{Place, address_at, past_line, size_of, all_names}
-use Rattle.i9_asm.specs.Source.{zeros, low_bytes, data_value, item_fault, front_fault, room_fault, rest_fault, line_fault, fault_of, labelled_source, past_source, start_source, segments_of, Source, Assembles}
-use Rattle.i9_asm.specs.Source.{Gives, gives_nothing, gives_instruction, gives_data, gives_characters, gives_zeros, gives_move, gives_alignment, gives_assignment}
+use Rattle.i9_asm.specs.Source.{zeros, low_bytes, data_value, item_fault, front_fault, room_fault, rest_fault, line_fault, fault_of, labelled_source, past_source, start_source, segments_of, Source, Assembles, Gives, gives_nothing, gives_instruction, gives_data, gives_characters, gives_zeros, gives_move, gives_alignment, gives_assignment}
 use Rattle.i9_asm.specs.Laws.{IsAssembly, IsRefusedSource}
 use Rattle.i9_asm.proofs.TakenLines.{least_left, least_right}
 

@@ -26,8 +26,7 @@ use Rattle.i9_model.specs.Step.{Action, moving, push_sets, action_by_name, actio
 use Rattle.i9_model.specs.Run.{Kind, Instruction, Faulted, Entered, Interrupted, Reached, action_by_kind}
 use Rattle.i9_model.specs.Late.{resources}
 use Rattle.i9_model.specs.Needs.{set_of, inst_need, entry_need}
-use Rattle.i9_model.proofs.SetLaws.{set_bits}
-use Rattle.i9_model.proofs.SetLaws.{one-set}
+use Rattle.i9_model.proofs.SetLaws.{set_bits, one-set}
 use Rattle.i9_turns.proofs.MaskLaws.{IsOutside, sets_beside}
 use Rattle.i9_model.proofs.LastPuts.{push_beside}
 use Rattle.i9_turns.proofs.CodeLaws.{code_beside}

@@ -11,8 +11,7 @@ use Rattle.i9_model.specs.Run.{Given, action_done}
 use Rattle.i9_model.specs.Late.{settled_memory}
 use Rattle.i9_course.specs.Course.{Item, Step, Fence, records_of, frame_writes, oldest_writes, all_writes, move_writes, puts_of, course}
 use Rattle.i9_model.proofs.Stored.{stored-append}
-use Rattle.i9_model.proofs.Storing.{stored_words_same}
-use Rattle.i9_model.proofs.Storing.{words_as_bytes}
+use Rattle.i9_model.proofs.Storing.{stored_words_same, words_as_bytes}
 
 frame_bytes : (m : Memory) (f : Frame)
     → with_words m f.address f.words ≡ with_other m (stored m.bytes (frame_writes m f))

@@ -26,9 +26,8 @@ use Rattle.i9_lines.specs.Print.{Account, Prints, OnDone, line_text, IsCut, OnCu
 use Rattle.i9_debug.specs.Session.{Place, at, ended, turn_ahead, ending_lines, comes_to, NoneComesTo, ComesTo, comes, none_comes}
 use Rattle.i9_debug.specs.Driven.{StandsAt, Drives, StopsAt, AtMostOne, CutInRun, behind_step, behind_end, StopsBy, stops, never_stops, goes_on, target}
 use Rattle.i9_lines.proofs.Prints.{prints_none, prints_then, prints_stop, prints_same, prints_behind, not_done, on_cut, cut_whole}
-use Rattle.i9_lines.proofs.ClosedLines.{closed_text}
+use Rattle.i9_lines.proofs.ClosedLines.{closed_text, added-text}
 use Rattle.i9_debug.proofs.Places.{steps_on-append, text-append, text-more, either, comes_after, address_leads}
-use Rattle.i9_lines.proofs.ClosedLines.{added-text}
 
 same_whole : (answer : Printed) (P : Type 0) → P → OnDone answer P
 same_whole Done P p = p

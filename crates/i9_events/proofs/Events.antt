@@ -14,8 +14,7 @@ use Rattle.i9_model.specs.Requests.{with_bit}
 use Rattle.i9_model.specs.declared.trace.Seen.{Seen}
 use Rattle.i9_model.specs.declared.trace.Trace.{Trace}
 use Rattle.i9_model.specs.Tracing.{with_bits, Breakpoint, Ipb0, Ipb1, Dab0, Dab1, breakpoints, break_flag_of, matches, has_match, break_flags, is_mark, is_fmark, TraceEvent, Instruction, Branch, Call, Return, Prereturn, Supervisor, Mark, trace_events, mode_of, flag_of, has_mode, comes_with, is_forced, counts, counting_modes, event_flags, is_raised, trace_made, trace_of}
-use Rattle.i9_events.specs.Tracing.{IsUntraced, is_flag, GainsFlags}
-use Rattle.i9_events.specs.Tracing.{coming_modes, forced_modes}
+use Rattle.i9_events.specs.Tracing.{IsUntraced, is_flag, GainsFlags, coming_modes, forced_modes}
 use Rattle.i9_events.proofs.Masks.{bit_if, mask, next, mask_and, mask_or, mask_below, mask_none, mask_up, with_after}
 use Rattle.i9_events.proofs.Flags.{gains, gains_both}
 

@@ -18,12 +18,11 @@ use Rattle.i9_isa.specs.Words.{bit}
 use Rattle.i9_model.specs.Writes.{wrapped}
 use Rattle.i9_model.specs.Memory.{Memory, word_in}
 use Rattle.i9_model.specs.State.{State, Frames}
-use Rattle.i9_model.specs.Hazards.{or_else, unless, read_hazard}
+use Rattle.i9_model.specs.Hazards.{or_else, unless, read_hazard, record_write_hazard}
 use Rattle.i9_model.specs.Stale.{area_hazard}
 use Rattle.i9_model.specs.Operands.{value}
 use Rattle.i9_model.specs.Calls.{entry_address, stack_address, is_switch, call_type, entered_here, entered_switched, system_entered, system_hazard_by}
 use Rattle.i9_model.specs.Faults.{◌>>=◌, or_stop, table_entry, checked_word, handler_of, planned_handler, planned_frame, entry_of, planned_fault_by}
-use Rattle.i9_model.specs.Hazards.{record_write_hazard}
 use Rattle.i9_model.specs.Step.{system_call}
 use Rattle.i9_model.specs.Run.{entry_in}
 use Rattle.i9_model.specs.Interrupts.{vector_place, interrupt_push, interrupt_record, cleared_hazard, interrupt_hazard, interrupt_entry, planned_interrupt_by}

@@ -15,7 +15,7 @@ use Rattle.i9_model.specs.State.{State}
 use Rattle.i9_model.specs.Frames.{rounded_down, pushed}
 use Rattle.i9_model.specs.Calls.{call_type}
 use Rattle.i9_model.specs.Controls.{Control, KeepsControls, controlled}
-use Rattle.i9_model.specs.Step.{Saves, Action, saved_locals, push_sets, system_call, following, entering, action_by_name, action_by, action_of, moved, acted}
+use Rattle.i9_model.specs.Step.{Saves, Action, saved_locals, push_sets, system_call, following, entering, action_by_name, action_by, action_of, moved, acted, call_action}
 use Rattle.i9_model.specs.declared.run.Due.{Due}
 use Rattle.i9_model.specs.declared.interrupts.Chosen.{Chosen}
 use Rattle.i9_model.specs.declared.event.Event.{Event}
@@ -27,7 +27,6 @@ use Rattle.i9_laws.specs.Undone.{is_call_name, is_call, return_address}
 use Rattle.i9_laws.proofs.Entered.{call_by, entry_by, entry_for, interrupt_made}
 use Rattle.i9_laws.proofs.FrameRegisters.{frame_local}
 use Rattle.i9_model.specs.Operands.{target, address}
-use Rattle.i9_model.specs.Step.{call_action}
 
 -- the type of the return from what is called in a state
 abbrev pub type_by_name : Op → Inst → State → ℕ

@@ -16,10 +16,9 @@ use Rattle.i9_model.specs.declared.event.Event.{Event}
 use Rattle.i9_model.specs.declared.run.Due.{Due}
 use Rattle.i9_model.specs.State.{State}
 use Rattle.i9_model.specs.Frames.{saved, in_bytes, is_put}
-use Rattle.i9_model.specs.Hazards.{write_hazard, port_hazard}
+use Rattle.i9_model.specs.Hazards.{write_hazard, port_hazard, record_write_hazard}
 use Rattle.i9_model.specs.Calls.{record_address, saved_pc, saved_ac}
 use Rattle.i9_model.specs.Faults.{fault_record, entry_of}
-use Rattle.i9_model.specs.Hazards.{record_write_hazard}
 use Rattle.i9_model.specs.Step.{bytes_of_words, saved_locals, entering, moved, acted}
 use Rattle.i9_model.specs.Interrupts.{without_bit, vector_priority, priority_place, pending_place, left_pending, taken_writes, clearing_writes, record_writes}
 use Rattle.i9_model.specs.Before.{interrupt_in, interrupting}

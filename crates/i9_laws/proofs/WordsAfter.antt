@@ -1,9 +1,8 @@
 -- Along every run registers are below 2^32 and bytes of memory below 256, where the bytes of the image are.
 use Rattle.std.proofs.Common.{◌≡◌, ℕ, zero, suc, ◌+◌, ◌-◌, ◌^◌, ◌<◌, Bool, true, false, cond, List, [], ◌∷◌, Option, Some, None, Ok, length, refl, sym, subst, arith}
-use Rattle.std.specs.Prelude.{◌==◌, ◌||◌, replicate}
+use Rattle.std.specs.Prelude.{◌==◌, ◌||◌, replicate, bit_and}
 use Rattle.std.specs.List.{range_with_len}
 use Rattle.std.proofs.lemmas.Nat.{and_le_r}
-use Rattle.std.specs.Prelude.{bit_and}
 use Rattle.i9_isa.specs.Words.{field}
 use Rattle.i9_isa.specs.declared.op.Op.{Op}
 use Rattle.i9_isa.specs.declared.op.Op.TheVariants.{Lda, Atadd, Atmod, Bx, Balx, Bal, Call, Callx, Calls, Ret, Flushreg, Modac, Modtc, Modpc, Sdma, Sysctl}

@@ -18,7 +18,7 @@ use Rattle.i9_past.proofs.Comes.{next_comes}
 use Rattle.i9_model.proofs.Stored.{stored-none}
 use Rattle.i9_past.proofs.Left.{standing_by_place, next_leaves}
 use Rattle.i9_course.specs.NeedOf.{need_of, record_need, need_ahead}
-use Rattle.i9_course.specs.Course.{Item, Step, records_of, course, late_after, move_writes, puts_of, instruction_turn, event_ahead, comes_next, ahead}
+use Rattle.i9_course.specs.Course.{Item, Step, records_of, course, late_after, move_writes, puts_of, instruction_turn, event_ahead, comes_next, ahead, issue_of_next}
 use Rattle.i9_course.specs.Kernel.{Lands}
 use Rattle.i9_course.proofs.Landed.{acts_at_once}
 use Rattle.i9_course.proofs.Settled.{course_settles}
@@ -27,7 +27,6 @@ use Rattle.i9_course.proofs.NeedAlike.{need_alike}
 use Rattle.i9_course.proofs.Placing.{placed_turns}
 use Rattle.i9_turns.proofs.TurnOpen.{done-after}
 use Rattle.i9_course.proofs.Timed.{course_costs}
-use Rattle.i9_course.specs.Course.{issue_of_next}
 use Rattle.i9_course.proofs.Ahead.{ahead_precise}
 use Rattle.i9_course.proofs.Steps.{issues_lands, lands_clear}
 use Rattle.i9_regs.proofs.Shown.{issued_shows}

@@ -25,11 +25,10 @@ use Rattle.i9_schedule.specs.Plan.{Plan}
 use Rattle.i9_regs.specs.Covered.{IsCovered}
 use Rattle.i9_regs.specs.File.{issued_over}
 use Rattle.i9_course.specs.NeedOf.{need_of}
-use Rattle.i9_course.specs.Course.{Item, records_of, event_ahead, comes_next, ahead}
+use Rattle.i9_course.specs.Course.{Item, records_of, event_ahead, comes_next, ahead, puts_of}
 use Rattle.i9_course.proofs.Landed.{request_last}
 use Rattle.i9_course.proofs.NeedActs.{need_still}
 use Rattle.i9_course.proofs.NeedCovers.{need_covers}
-use Rattle.i9_course.specs.Course.{puts_of}
 use Rattle.i9_model.specs.HeldFrames.{Cache}
 use Rattle.i9_raw.specs.Raw.{Hides}
 use Rattle.i9_processor.specs.declared.effect.Effect.{Effect}

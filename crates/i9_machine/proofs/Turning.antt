@@ -17,7 +17,7 @@ use Rattle.i9_turns.proofs.TurnOpen.{open-all_done}
 use Rattle.i9_model.specs.Late.{turns, landed}
 use Rattle.i9_model.specs.declared.need.Cell.{Cell}
 use Rattle.i9_regs.proofs.Shown.{landed_later}
-use Rattle.i9_processor.specs.State.{cells_of}
+use Rattle.i9_processor.specs.State.{cells_of, state_of, cache_of, size_of, IsDrained}
 use Rattle.i9_issue.specs.Room.{IsEarly}
 use Rattle.i9_schedule.specs.Plan.{Plan}
 use Rattle.i9_course.specs.NeedOf.{need_of, need_ahead}
@@ -26,7 +26,6 @@ use Rattle.i9_course.proofs.Ahead.{ahead_by_end, ahead_precise}
 use Rattle.i9_course.proofs.NeedAlike.{next_need_alike}
 use Rattle.i9_course.proofs.Placing.{next_turn}
 use Rattle.i9_course.proofs.Steps.{moves_lands}
-use Rattle.i9_processor.specs.State.{state_of, cache_of, size_of, IsDrained}
 use Rattle.i9_raw.specs.Raw.{IsShaded}
 use Rattle.i9_machine.specs.declared.line.Line.{Line}
 use Rattle.i9_machine.specs.declared.machine.Machine.{Machine}

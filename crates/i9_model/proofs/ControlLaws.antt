@@ -1,6 +1,5 @@
 -- What start-up and the load of a control group leave as it was.
-use Rattle.std.proofs.Common.{◌≡◌, ℕ, Bool, true, false, cond, eqb, List, refl}
-use Rattle.std.proofs.Common.{Option, Some, None, ap, ◌∙◌}
+use Rattle.std.proofs.Common.{◌≡◌, ℕ, Bool, true, false, cond, eqb, List, refl, Option, Some, None, ap, ◌∙◌}
 use Rattle.std.specs.Prelude.{◌-◌, ◌*◌}
 use Rattle.i9_model.specs.Boot.{with_regions}
 use Rattle.i9_model.specs.State.{State, started}

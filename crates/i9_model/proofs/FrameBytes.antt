@@ -10,9 +10,8 @@ use Rattle.i9_model.specs.Frames.{in_bytes}
 use Rattle.i9_model.specs.Step.{bytes_of_words}
 use Rattle.i9_model.proofs.Runs.{is_put-upwards}
 use Rattle.i9_model.proofs.Stored.{stored-cons}
-use Rattle.i9_model.proofs.Lengths.{four_bytes}
+use Rattle.i9_model.proofs.Lengths.{four_bytes, frame_long}
 use Rattle.i9_model.proofs.Storing.{stored_kept, words_as_bytes}
-use Rattle.i9_model.proofs.Lengths.{frame_long}
 
 -- ---- a byte of several that were stored
 

@@ -8,9 +8,8 @@ use Rattle.i9_model.specs.Memory.{in_port_page}
 use Rattle.i9_model.specs.State.{Frames}
 use Rattle.i9_model.specs.Writes.{places_of}
 use Rattle.i9_model.specs.Frames.{places, in_bytes, in_frames, no_frames, has, saved, with_marked, returned, flushed, is_put, wrote, softened}
-use Rattle.i9_model.specs.Hazards.{least, read_hazard, write_hazard, writes_hazard, port_hazard, or_else, save_hazard}
+use Rattle.i9_model.specs.Hazards.{least, read_hazard, write_hazard, writes_hazard, port_hazard, or_else, save_hazard, return_place}
 use Rattle.i9_model.specs.Sound.{AreApart, in_returns, IsSound}
-use Rattle.i9_model.specs.Hazards.{return_place}
 use Rattle.i9_model.proofs.Among.{return-inside}
 
 -- ---- accesses without a hazard

@@ -6,8 +6,7 @@ use Rattle.i9_model.specs.Writes.{wrapped, upwards, last_put, or_earlier}
 use Rattle.i9_model.specs.Memory.{Memory, in_port_page, stored}
 use Rattle.i9_model.specs.Late.{Wait, due_puts, left_waiting, AreDueInOrder}
 use Rattle.i9_model.proofs.Stored.{written-last}
-use Rattle.i9_model.proofs.Queues.{none-due, all-later}
-use Rattle.i9_model.proofs.Queues.{landed_settles}
+use Rattle.i9_model.proofs.Queues.{none-due, all-later, landed_settles}
 use Rattle.i9_memory.specs.declared.memory.Memory.{Memory as Kept}
 use Rattle.i9_memory.specs.Memory.{IsReserved, HasRoom, KeepsRoom}
 use Rattle.i9_queue.specs.Queue.{NoneDue}

@@ -1,6 +1,6 @@
 -- What an allowed instruction does depends on what it reads alone.
 use Rattle.std.proofs.Common.{◌≡◌, ℕ, ◌+◌, ◌*◌, ◌%◌, ◌^◌, ◌<◌, Bool, true, false, cond, ◌||◌, ◌&&◌, List, [], ◌∷◌, ◌++◌, Option, Some, None, refl, sym, ap, ◌∙◌, arith}
-use Rattle.std.specs.Prelude.{◌==◌, nat_le, not}
+use Rattle.std.specs.Prelude.{◌==◌, nat_le, not, replicate}
 use Rattle.std.proofs.lemmas.Bool.{or_left, or_right, or_parts, both_ways, eq-eqb, cond-true}
 use Rattle.std.proofs.lemmas.Bool.Decides.{nat_tests}
 use Rattle.i9_isa.specs.declared.op.Op.{Op}
@@ -28,17 +28,15 @@ use Rattle.i9_model.specs.Memory.{Memory, half_in, half_bytes}
 use Rattle.i9_model.specs.State.{State}
 use Rattle.i9_model.specs.Addresses.{sum_for}
 use Rattle.i9_model.specs.Operands.{value, word_of, source_words, assigned, address}
-use Rattle.i9_model.specs.Results.{Answer}
+use Rattle.i9_model.specs.Results.{Answer, destination_words}
 use Rattle.i9_model.specs.Faults.{is_special}
 use Rattle.i9_model.specs.Stale.{picked, marks_for, legible, loaded_marks, stored_marks, marks_of, registers_of, sources, address_registers, is_marked, moves_words, result_marks, deciding, deciding_by, touches_port, stored_out, goes_out, goes_out_by, reaches_special, destination_marks, misuses}
-use Rattle.i9_model.specs.Results.{destination_words}
 use Rattle.i9_model.specs.Step.{Action, filled, passing, assigning, marking, answering, loaded, stored_of, bytes_of_words, moving, destination, answer_in, values_of, controls_of, resulting, action_by_name, action_by, action_of}
 use Rattle.i9_model.specs.Needs.{is_request_name}
 use Rattle.i9_model.specs.Branches.{is_taken}
 use Rattle.i9_model.specs.declared.faults.TheConstants.{CONSTRAINT, RANGE}
 use Rattle.std.specs.Option.{is_some}
 use Rattle.std.specs.List.{list_any}
-use Rattle.std.specs.Prelude.{replicate}
 use Rattle.std.proofs.lemmas.List.Folds.{list_any-append}
 use Rattle.i9_model.specs.Alike.{with_other}
 use Rattle.i9_model.specs.Access.{NoAccess, access_by_name, access_by, access_of, moved_access}

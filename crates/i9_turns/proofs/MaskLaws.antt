@@ -1,6 +1,6 @@
 -- A record leaves the registers that its need does not write.
 use Rattle.std.proofs.Common.{◌≡◌, ℕ, ◌+◌, ◌*◌, ◌^◌, ◌≤◌, Bool, true, false, cond, ◌&&◌, ◌||◌, List, [], ◌∷◌, length, Option, Some, None, refl, sym, ap, ◌∙◌, arith, ℤ}
-use Rattle.std.specs.Prelude.{◌==◌, nat_le, not, bit_or}
+use Rattle.std.specs.Prelude.{◌==◌, nat_le, not, bit_or, slice_index, ◌+ℤ◌, ◌-ℤ◌, ◌*ℤ◌, pos, ◌/◌, ◌%◌, int_lt}
 use Rattle.std.proofs.lemmas.Bool.{cond-false, le-leb, leb-true, eqb-true}
 use Rattle.std.proofs.lemmas.Bool.Decides.{nat_tests}
 use Rattle.std.proofs.lemmas.List.FromFn.{length-map-range_with_len}
@@ -29,7 +29,6 @@ use Rattle.i9_model.specs.Operands.{assigned, reduced, address}
 use Rattle.i9_model.specs.Memory.{Memory, word_in, words_in}
 use Rattle.i9_model.specs.Numbers.{signed, modulo, complement, highest_one}
 use Rattle.std.specs.Int.RustNames.{int_div, int_rem}
-use Rattle.std.specs.Prelude.{slice_index, ◌+ℤ◌, ◌-ℤ◌, ◌*ℤ◌, pos, ◌/◌, ◌%◌, int_lt}
 use Rattle.i9_isa.specs.Words.{bit}
 use Rattle.i9_model.specs.Results.{Answer, word, words, checked, faulting, code, found, results_by, destination_words, long, long_divided}
 use Rattle.i9_model.specs.Branches.{asks, question_of}

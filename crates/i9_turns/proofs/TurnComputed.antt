@@ -6,8 +6,7 @@ use Rattle.std.proofs.lemmas.Bool.{cases_Bool, cases_lt, cond-true, cond-false, 
 use Rattle.std.proofs.lemmas.List.Sums.{sum_by-cons}
 use Rattle.i9_model.specs.declared.need.Need.{Need}
 use Rattle.i9_model.specs.declared.need.TimedNeed.{TimedNeed}
-use Rattle.i9_model.specs.Turns.{RequestsInOrder}
-use Rattle.i9_model.specs.Turns.{ChangesValue, Permits, CanIssue, IssuesAt, open_requests, last_request, keeps_side, changes_value, changes_words, waits_for, least_turn, turn_from, issue_turn}
+use Rattle.i9_model.specs.Turns.{RequestsInOrder, ChangesValue, Permits, CanIssue, IssuesAt, open_requests, last_request, keeps_side, changes_value, changes_words, waits_for, least_turn, turn_from, issue_turn}
 use Rattle.i9_turns.proofs.TurnDropped.{last_request-yes, last_request-no}
 use Rattle.i9_turns.proofs.TurnTests.{changes_value-from, changes_value-none, changes_words-from, changes_words-true}
 

@@ -6,8 +6,7 @@ use Rattle.std.proofs.lemmas.Bool.{cases_Bool, cond-true, cond-false, cases_lt, 
 use Rattle.std.proofs.lemmas.List.Sums.{sum_by-cons}
 use Rattle.i9_model.specs.declared.need.Need.{Need}
 use Rattle.i9_model.specs.declared.need.TimedNeed.{TimedNeed}
-use Rattle.i9_model.specs.Turns.{RequestsInOrder}
-use Rattle.i9_model.specs.Turns.{Permits, CanIssue, IssuesAt, open_at, done_turn, last_request}
+use Rattle.i9_model.specs.Turns.{RequestsInOrder, Permits, CanIssue, IssuesAt, open_at, done_turn, last_request}
 
 -- each record is done after its issue
 abbrev pub TakeTime : List TimedNeed → Type 0

@@ -5,8 +5,7 @@ use Rattle.std.proofs.lemmas.Bool.{cases_Bool, cond-true, cond-false, cases_lt}
 use Rattle.std.specs.List.{AllByRecursion}
 use Rattle.i9_model.specs.declared.need.Need.{Need}
 use Rattle.i9_model.specs.declared.need.TimedNeed.{TimedNeed}
-use Rattle.i9_model.specs.Turns.{RequestsInOrder}
-use Rattle.i9_model.specs.Turns.{open_at, done_turn, last_request, last_issue, Follows, IsTimed, TakesTurns, pending_of, pending_after, FollowsOpen, IsAllDone, AreAllDone}
+use Rattle.i9_model.specs.Turns.{RequestsInOrder, open_at, done_turn, last_request, last_issue, Follows, IsTimed, TakesTurns, pending_of, pending_after, FollowsOpen, IsAllDone, AreAllDone}
 use Rattle.i9_turns.proofs.TurnDropped.{TakeTime, each-open, open-yes, open-no, issues-open, open-issues, done_turn-open}
 
 -- a record is done after its turn, and a request after the one before it

@@ -3,8 +3,7 @@ use Rattle.std.proofs.Common.{◌≡◌, ℕ, ◌≤◌, List, [], ◌∷◌, re
 use Rattle.i9_model.specs.declared.need.Need.{Need}
 use Rattle.i9_model.specs.declared.need.TimedNeed.{TimedNeed}
 use Rattle.i9_model.specs.Turns.{IssuesAt, IsAllDone, AreAllDone, IsTimed, TakesTurns, Follows, FollowsOpen, Pending, pending_of, pending_after, last_issue, issue_turn, with_need, end_turn, StandsFor}
-use Rattle.i9_turns.proofs.TurnDropped.{open-issues}
-use Rattle.i9_turns.proofs.TurnDropped.{issues-once}
+use Rattle.i9_turns.proofs.TurnDropped.{open-issues, issues-once}
 use Rattle.i9_turns.proofs.TurnWhole.{follows-with_need, timed-issues}
 use Rattle.i9_turns.proofs.TurnFences.{all-end, end-least}
 use Rattle.i9_turns.proofs.TurnOpen.{open-follows, pending-next, timed-take_time, open-all_done, all_done-open}

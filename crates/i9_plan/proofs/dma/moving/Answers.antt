@@ -1,4 +1,4 @@
-use Rattle.std.proofs.Common.{ℕ, Bool, cond, ◌+◌, ap, ◌∙◌}
+use Rattle.std.proofs.Common.{ℕ, Bool, cond, ◌+◌, ap, ◌∙◌, Some}
 use Rattle.i9_model.specs.declared.interrupts.TheConstants.{FIRST_DMA_LINE}
 use Rattle.i9_model.specs.Writes.{upwards}
 use Rattle.i9_model.specs.State.{Interrupts}
@@ -8,7 +8,6 @@ use Rattle.i9_model.specs.Before.{moving_unit, receiving}
 use Rattle.i9_model.specs.Step.{Action, going, moved}
 use Rattle.i9_processor.specs.Effect.{posting_in}
 use Rattle.i9_processor.specs.State.{state_of}
-use Rattle.std.proofs.Common.{Some}
 use Rattle.i9_plan.proofs.Marking.{plain_same, can_keep}
 use Rattle.i9_plan.proofs.dma.moving.Goals as goal
 

@@ -3,8 +3,7 @@ use Rattle.i9_model.specs.Late.{resources}
 use Rattle.i9_regs.specs.File.{cell_in, framed_value}
 use Rattle.i9_model.specs.declared.layout.TheConstants.{LOCALS}
 use Rattle.i9_model.specs.State.{frame_sets}
-use Rattle.i9_processor.proofs.Issued.{locals_set, pointer_set, frame_past}
-use Rattle.i9_processor.proofs.Issued.{registers_issued, arithmetic_issued, cells_issued, latest_issued}
+use Rattle.i9_processor.proofs.Issued.{locals_set, pointer_set, frame_past, registers_issued, arithmetic_issued, cells_issued, latest_issued}
 use Rattle.i9_processor.proofs.registers.issue_frame.Goals as goal
 
 pub issue_frame-requires-clause-locals : goal.issue_frame-requires-clause-locals

@@ -1,8 +1,7 @@
 use Rattle.std.proofs.Common.{ℕ, List, ◌≡◌, ◌∷◌, ◌++◌, length, drop, sym, ap, subst, ◌∙◌}
 use Rattle.i9_model.specs.Memory.{Memory, with_bytes}
 use Rattle.i9_model.specs.Late.{due_puts, left_waiting, all_puts, AreDueInOrder}
-use Rattle.i9_model.proofs.Stored.{stored-append}
-use Rattle.i9_model.proofs.Stored.{stored-none}
+use Rattle.i9_model.proofs.Stored.{stored-append, stored-none}
 use Rattle.i9_model.proofs.Queues.{take-due}
 use Rattle.i9_memory.specs.Memory.{memory_of, HasRoom}
 use Rattle.i9_queue.specs.Queue.{wait_in}
