@@ -58,13 +58,14 @@ fn run_turns<K: Sink>(
         (output (account K.told K.faults K.writes K.sure K.pieces) out.old out.new) (target m.new plan.new) }
 {
     let until = m.at_turn() + count;
+    let mut text = Vec::new(alloc);
     let mut lines = Vec::new(alloc);
     loop {
         lines.clear();
         let Some(turn) = m.proceed_below(until, plan, &mut lines) else {
             return Printed::Done;
         };
-        match print_lines(alloc, &lines, out) {
+        match print_lines(alloc, &mut text, &lines, out) {
             Printed::Done => {}
             Printed::Write => return Printed::Write,
             Printed::Memory => return Printed::Memory,
@@ -92,11 +93,12 @@ fn run_to_stop<K: Sink, F: Fn(&View) -> bool + ViewTest>(
         → Drives (StopsBy result (F.ViewTest.allows s.now) g h) (CutInRun g AtMostOne h) result g
         (output (account K.told K.faults K.writes K.sure K.pieces) out.old out.new) (target m.new plan.new) }
 {
+    let mut text = Vec::new(alloc);
     let mut lines = Vec::new(alloc);
     loop {
         lines.clear();
         let turn = m.proceed(plan, &mut lines);
-        match print_lines(alloc, &lines, out) {
+        match print_lines(alloc, &mut text, &lines, out) {
             Printed::Done => {}
             Printed::Write => return Printed::Write,
             Printed::Memory => return Printed::Memory,

@@ -135,13 +135,12 @@ pub fn print_line<K: Sink>(alloc: Global, l: &Line, out: &mut K) -> Printed
 /// Writes lines in order.
 #[inline(never)]
 #[tactic(auto, using(crate::proofs::Prints::prints_rules))]
-fn print_each<K: Sink>(alloc: Global, lines: &[Line], out: &mut K) -> Printed
+fn print_each<K: Sink>(alloc: Global, text: &mut Vec<u8>, lines: &[Line], out: &mut K) -> Printed
     ensures { Prints result (account K.told K.faults K.writes K.sure K.pieces) out.old out.new
         (flat_map line_text lines.now) }
 {
-    let mut text = Vec::new(alloc);
     for line in lines {
-        match print_by(alloc, &mut text, line, out) {
+        match print_by(alloc, text, line, out) {
             Printed::Done => {}
             Printed::Write => return Printed::Write,
             Printed::Memory => return Printed::Memory,
@@ -150,16 +149,22 @@ fn print_each<K: Sink>(alloc: Global, lines: &[Line], out: &mut K) -> Printed
     Printed::Done
 }
 
-/// Writes lines in order. Most steps have none, and then nothing is called.
+/// Writes lines in order. They are made in a text that is lent, whatever it holds. Most steps have none, and then nothing
+/// is called.
 #[inline(always)]
 #[tactic(auto, using(crate::proofs::Prints::prints_rules))]
-pub fn print_lines<K: Sink>(alloc: Global, lines: &[Line], out: &mut K) -> Printed
+pub fn print_lines<K: Sink>(
+    alloc: Global,
+    text: &mut Vec<u8>,
+    lines: &[Line],
+    out: &mut K,
+) -> Printed
     ensures { Prints result (account K.told K.faults K.writes K.sure K.pieces) out.old out.new
         (flat_map line_text lines.now) }
 {
     if lines.is_empty() {
         Printed::Done
     } else {
-        print_each(alloc, lines, out)
+        print_each(alloc, text, lines, out)
     }
 }

@@ -357,6 +357,9 @@ impl Effect {
     fn byte_at(&self, place: u32) -> Option<u8>
         ensures { result ≡ last_put (writes_in self.now) place }
     {
+        if self.plain {
+            return byte_of_run(self.address, self.bytes.as_slice(), place);
+        }
         match self.requests.byte_at(place) {
             Some(byte) => Some(byte),
             None => byte_of_run(self.address, self.bytes.as_slice(), place),

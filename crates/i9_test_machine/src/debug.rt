@@ -104,7 +104,11 @@ fn done(printed: Printed) -> bool {
 fn prints_each_line(rt: HostRuntime) -> Result<(), Fail> {
     let alloc = rt.alloc();
     let mut sink = sink_failing(alloc, 0)?;
-    must(&rt, done(print_lines(alloc, &lines(alloc)?, &mut sink)));
+    let mut text = Vec::from_slice(alloc, b"left")?;
+    must(
+        &rt,
+        done(print_lines(alloc, &mut text, &lines(alloc)?, &mut sink)),
+    );
     must(&rt, sink.bytes() == LINES.as_bytes());
     Ok(())
 }
@@ -146,9 +150,10 @@ fn prints_the_line_of_a_version(rt: HostRuntime) -> Result<(), Fail> {
 fn a_write_that_fails_leaves_the_lines_before(rt: HostRuntime) -> Result<(), Fail> {
     let alloc = rt.alloc();
     let lines = lines(alloc)?;
+    let mut text = Vec::new(alloc);
     for (failing, front) in FRONTS {
         let mut sink = sink_failing(alloc, failing)?;
-        let printed = print_lines(alloc, &lines, &mut sink);
+        let printed = print_lines(alloc, &mut text, &lines, &mut sink);
         must_at(&rt, matches!(printed, Printed::Write), failing);
         must_at(&rt, sink.bytes() == front.as_bytes(), failing);
     }

@@ -52,11 +52,13 @@ fn print_turn<K: Sink, F: Fn(u32) -> bool + AddressTest>(
     }
 }
 
-/// Prints the lines of a step, and before them that of its instruction where its address passes a filter.
+/// Prints the lines of a step, and before them that of its instruction where its address passes a filter. They are made
+/// in a text that is lent, whatever it holds.
 fn print_step<K: Sink, F: Fn(u32) -> bool + AddressTest>(
     alloc: Global,
     f: &Filter<F>,
     turn: &Turn,
+    text: &mut Vec<u8>,
     lines: &[Line],
     out: &mut K,
 ) -> Printed
@@ -64,7 +66,7 @@ fn print_step<K: Sink, F: Fn(u32) -> bool + AddressTest>(
         (output (account K.told K.faults K.writes K.sure K.pieces) out.old out.new) }
 {
     match print_turn(alloc, f, turn, out) {
-        Printed::Done => print_lines(alloc, lines, out),
+        Printed::Done => print_lines(alloc, text, lines, out),
         Printed::Write => Printed::Write,
         Printed::Memory => Printed::Memory,
     }
@@ -84,11 +86,12 @@ fn run_machine<K: Sink, F: Fn(u32) -> bool + AddressTest>(
         → DrivesBy result (F.AddressTest.allows f.now) g
         (output (account K.told K.faults K.writes K.sure K.pieces) out.old out.new) (target m.new plan.new) }
 {
+    let mut text = Vec::new(alloc);
     let mut lines = Vec::new(alloc);
     loop {
         lines.clear();
         let turn = m.proceed(plan, &mut lines);
-        match print_step(alloc, f, &turn, &lines, out) {
+        match print_step(alloc, f, &turn, &mut text, &lines, out) {
             Printed::Done => {}
             Printed::Write => return Ran::Write,
             Printed::Memory => return Ran::Memory,

@@ -14,4 +14,4 @@ pub returns-in-None : goal.returns-in-None
 returns-in-None c =
     let e = c.args.self.now in
     let place = c.args.place in
-    c.byte_of_run.ensures ∙ ap (λ (bs : List ℕ). last_put (upwards e.address bs) place) c.as_slice.ensures.value ∙ sym (last_append (run_in e) (requests_in e.requests) place ∙ ap (λ (o : Option ℕ). or_earlier o (last_put (run_in e) place)) (sym c.byte_at.ensures ∙ c.in-None.is))
+    c.byte_of_run-in-None.ensures ∙ ap (λ (bs : List ℕ). last_put (upwards e.address bs) place) c.as_slice-in-None.ensures.value ∙ sym (last_append (run_in e) (requests_in e.requests) place ∙ ap (λ (o : Option ℕ). or_earlier o (last_put (run_in e) place)) (sym c.byte_at.ensures ∙ c.in-None.is))
