@@ -149,8 +149,8 @@ fn print_each<K: Sink>(alloc: Global, text: &mut Vec<u8>, lines: &[Line], out: &
     Printed::Done
 }
 
-/// Writes lines in order. They are made in a text that is lent, whatever it holds. Most steps have none, and then nothing
-/// is called.
+/// Writes lines in order. They are made in a text that is lent, whatever it holds. Most steps have none, and then
+/// nothing is called.
 #[inline(always)]
 #[tactic(auto, using(crate::proofs::Prints::prints_rules))]
 pub fn print_lines<K: Sink>(

@@ -271,7 +271,10 @@ interrupt_asked v = if nat_lt v FIRST_VECTOR then AsksCheck else AsksInterrupt
 
 abbrev pub message_kind : ℕ → ℕ → Message
 message_kind n argument =
-    if n == 0 then interrupt_asked argument else if n == 3 then AsksRestart else if n == 4 then AsksGroup else AsksNothing
+    if n == 0 then interrupt_asked argument
+    else if n == 3 then AsksRestart
+    else if n == 4 then AsksGroup
+    else AsksNothing
 
 -- what sysctl asks for
 abbrev pub asked_message : Inst → State → Message

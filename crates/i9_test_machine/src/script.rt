@@ -4,8 +4,9 @@
 //! - `run N S: EVENTS` starts a machine of the image: of at most N instructions, of S sets where these are not those
 //!   of the PRCB, with a schedule. It answers nothing, and neither do `steps N` and `turns N`, which go on.
 //! - `advance`, `turn`, `proceed` and `settle` are calls of the machine, and `step` advances to the next step that is
-//!   no move of the turn. `below N` proceeds below turn N, and answers `none` where nothing comes there. `issue` answers the instruction of that step, `moves` how often the turn moved before it,
-//!   `most N` the most frames that were held in N of them, and `end` how the run ends.
+//!   no move of the turn. `below N` proceeds below turn N, and answers `none` where nothing comes there. `issue` answers
+//!   the instruction of that step, `moves` how often the turn moved before it, `most N` the most frames that were held
+//!   in N of them, and `end` how the run ends.
 //! - `copy` goes on with a copy of the machine, and keeps that.
 //! - A word with a question mark asks for what it names; behind `kept` it asks the machine that was copied last.
 //!
