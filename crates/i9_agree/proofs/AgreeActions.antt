@@ -2,6 +2,7 @@
 use Rattle.std.proofs.Common.{◌≡◌, ℕ, zero, suc, ◌+◌, ◌*◌, ◌%◌, ◌^◌, ◌<◌, Bool, true, false, cond, List, [], ◌∷◌, ◌++◌, refl, sym, ap, ◌∙◌, subst, arith}
 use Rattle.std.specs.Prelude.{not, ◌==◌, ◌&&◌, ◌||◌}
 use Rattle.std.specs.List.{list_any, range_with_len}
+use Rattle.std.proofs.lemmas.List.Folds.{list_any-append}
 use Rattle.std.proofs.lemmas.Bool.{or_right, or_parts, eqb-true}
 use Rattle.i9_isa.specs.declared.size.Size.{Size}
 use Rattle.i9_isa.specs.declared.size.Size.TheVariants.{Byte, Half, Words}
@@ -34,19 +35,11 @@ use Rattle.i9_agree.proofs.AgreeMoves.{open-hard, bytes-alike}
 abbrev pub AreShown : Bool → State → List ℕ → Type 0
 AreShown hides s rs = shows hides (is_marked s rs) ≡ true
 
-any-append : (marks : ℕ → Bool) (xs ys : List ℕ) → list_any marks (xs ++ ys) ≡ (list_any marks xs || list_any marks ys)
-any-append marks [] ys = refl
-any-append marks (x ∷ xs) ys = ap (λ (b : Bool). marks x || b) (any-append marks xs ys) ∙ assoc (marks x) (list_any marks xs) (list_any marks ys)
-  where
-    assoc : (a b c : Bool) → (a || (b || c)) ≡ ((a || b) || c)
-    assoc true b c = refl
-    assoc false b c = refl
-
 pub shown-first : (hides : Bool) (s : State) (xs ys : List ℕ) → AreShown hides s (xs ++ ys) → AreShown hides s xs
-shown-first hides s xs ys h = shows-first hides (is_marked s xs) (is_marked s ys) (ap (shows hides) (sym (any-append s.marks xs ys)) ∙ h)
+shown-first hides s xs ys h = shows-first hides (is_marked s xs) (is_marked s ys) (ap (shows hides) (sym (list_any-append s.marks xs ys)) ∙ h)
 
 pub shown-second : (hides : Bool) (s : State) (xs ys : List ℕ) → AreShown hides s (xs ++ ys) → AreShown hides s ys
-shown-second hides s xs ys h = shows-second hides (is_marked s xs) (is_marked s ys) (ap (shows hides) (sym (any-append s.marks xs ys)) ∙ h)
+shown-second hides s xs ys h = shows-second hides (is_marked s xs) (is_marked s ys) (ap (shows hides) (sym (list_any-append s.marks xs ys)) ∙ h)
 
 -- one of a group
 shown-group : (hides : Bool) (s : State) (r n k : ℕ) → AreShown hides s (range_with_len r n) → k < n → shows hides (s.marks (r + k)) ≡ true

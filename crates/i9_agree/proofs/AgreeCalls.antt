@@ -22,7 +22,7 @@ use Rattle.i9_model.specs.Hazards.{save_hazard, port_hazard, frame_hazard, retur
 use Rattle.i9_model.specs.Requests.{request_writes}
 use Rattle.i9_model.specs.Dma.{set_up}
 use Rattle.i9_model.specs.Faults.{is_special}
-use Rattle.i9_model.specs.Calls.{call_type, system_entered, in_supervisor_mode, leaves_supervisor, without_supervisor, saved_pc, saved_ac, priority_of, takes_record, return_type, controls_hazard, ret_hazard, returned_pc, returned_ac, popped, system_hazard_by}
+use Rattle.i9_model.specs.Calls.{caller_in, call_type, system_entered, in_supervisor_mode, leaves_supervisor, without_supervisor, saved_pc, saved_ac, priority_of, takes_record, return_type, controls_hazard, ret_hazard, returned_pc, returned_ac, popped, system_hazard_by}
 use Rattle.i9_model.specs.Controls.{Restarts, LoadsGroup}
 use Rattle.i9_model.specs.Operands.{value, word_of, source_words, address, target}
 use Rattle.i9_model.specs.Sound.{in_returns}
@@ -33,7 +33,7 @@ use Rattle.i9_model.specs.Alike.{is_hard, AgreeWhere, with_other, shows, with_va
 use Rattle.i9_model.proofs.CallLaws.{first_none, second_none}
 use Rattle.i9_model.proofs.Readings.{in_bytes-has}
 use Rattle.i9_model.proofs.FrameLaws.{read_hazard-none}
-use Rattle.i9_agree.proofs.AlikeActions.{AreKnown, system_by_same, saved_pc_same, saved_ac_same, request_same}
+use Rattle.i9_agree.proofs.AlikeActions.{AreKnown, other_caller, system_by_same, saved_pc_same, saved_ac_same, request_same}
 use Rattle.i9_agree.proofs.Agreeing.{shows-none, shows-first, shows-second, shows-both, values-mapped, writes-append, writes-same, writes-picked}
 use Rattle.i9_agree.proofs.AgreeNames.{AreOther, hard-bytes, pc-alike, moving-agree, atomic-agree, other-agree}
 use Rattle.i9_agree.proofs.AgreeActions.{AreShown, shown-first, shown-second, word-same, operand-same, value-same, address-same, legible-word, shown-word-same, alike-same, alike-by, assigning-alike, pushing-alike}
@@ -75,8 +75,8 @@ calls-agree hides i s regs bytes reading same shown none =
     let y = system_call i s in
     let number = value-same hides s regs bytes reading i.a same.regs shown in
     let enters : system_call i t ≡ y =
-    ap (λ (n : ℕ). system_entered (with_other s.memory bytes) s.tables.system_table n s.pc (regs FP) (regs SP) 0 kind) number
-    ∙ system_by_same s.frames s.memory bytes s.tables.system_table (value s i.a) s.pc (s.regs FP) (s.regs SP) (regs FP) (regs SP) 0 kind (area_hazard s) (hard-bytes hides s regs bytes reading same) (push-known hides s regs same.regs) none in
+    ap (λ (n : ℕ). system_entered (other_caller (caller_in s) bytes (regs FP) (regs SP)) s.tables.system_table n 0 kind) number
+    ∙ system_by_same (caller_in s) bytes s.tables.system_table (value s i.a) (regs FP) (regs SP) 0 kind (area_hazard s) (hard-bytes hides s regs bytes reading same) (push-known hides s regs same.regs) none in
     let all : calls_action i t ≡ record (pushing t y.push (following i s) y.target) { pc = y.pc } = ap (λ (x : Sys). record (pushing t x.push (following i s) x.target) { pc = x.pc }) enters in
     subst (λ (x : Action). AreActionsAlike hides (calls_action i s) x) (sym all) (pc-alike hides (pushing s y.push (following i s) y.target) (pushing t y.push (following i s) y.target) y.pc (pushing-alike hides s regs bytes reading y.push (following i s) y.target same.regs))
 

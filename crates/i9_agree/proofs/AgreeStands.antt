@@ -2,6 +2,7 @@
 use Rattle.std.proofs.Common.{◌≡◌, ℕ, ◌/◌, ◌%◌, ◌^◌, Bool, true, false, cond, List, [], ◌∷◌, ◌++◌, Option, Some, None, Result, Ok, Err, refl, sym, ap, ◌∙◌}
 use Rattle.std.specs.Prelude.{not, ◌==◌, ◌&&◌, ◌||◌, if◌then◌else◌}
 use Rattle.std.specs.List.{list_any}
+use Rattle.std.proofs.lemmas.List.Folds.{list_any-append}
 use Rattle.std.proofs.lemmas.Bool.{or_parts}
 use Rattle.i9_isa.specs.declared.op.Op.{Op}
 use Rattle.i9_isa.specs.declared.op.Op.TheVariants.{Mov, Atadd, Atmod, Call, Callx, Calls, Ret, Modpc, Sdma, Sysctl, Addi, Subi, Muli, Shli, Divo, Remo, Divi, Remi, Modi, Ediv, Concmpo, Concmpi, Spanbit, Scanbit}
@@ -45,14 +46,6 @@ either-same : (b c d : Bool) → (b ≡ false → d ≡ c) → (b || d) ≡ (b |
 either-same true c d h = refl
 either-same false c d h = h refl
 
-any-append : (marks : ℕ → Bool) (xs ys : List ℕ) → list_any marks (xs ++ ys) ≡ (list_any marks xs || list_any marks ys)
-any-append marks [] ys = refl
-any-append marks (x ∷ xs) ys = ap (λ (b : Bool). marks x || b) (any-append marks xs ys) ∙ assoc (marks x) (list_any marks xs) (list_any marks ys)
-  where
-    assoc : (a b c : Bool) → (a || (b || c)) ≡ ((a || b) || c)
-    assoc true b c = refl
-    assoc false b c = refl
-
 name-decides : (hides : Bool) (op : Op) (i : Inst) (s : State) (regs bytes reading : ℕ → ℕ) → AgreeBeside hides s regs → is_marked s (deciding op i (with_values s regs bytes reading)) ≡ is_marked s (deciding op i s)
 name-decides hides Ret i s regs bytes reading same =
     either-same (s.marks PFP) (is_marked s (record_registers s)) (is_marked s (record_registers (with_values s regs bytes reading))) (λ e.
@@ -60,10 +53,10 @@ name-decides hides Ret i s regs bytes reading same =
 name-decides hides Sysctl i s regs bytes reading same =
     let t = with_values s regs bytes reading in
     let rs = registers_of i.a 1 in
-    any-append s.marks rs (restart_registers i t)
+    list_any-append s.marks rs (restart_registers i t)
     ∙ either-same (is_marked s rs) (is_marked s (restart_registers i s)) (is_marked s (restart_registers i t)) (λ e.
     ap (λ (v : ℕ). is_marked s (cond (v / 2 ^ 8 % 2 ^ 8 == 3) (registers_of i.b 1 ++ registers_of i.c 1) [])) (value-same hides s regs bytes reading i.a same (shows-none hides (is_marked s rs) e)))
-    ∙ sym (any-append s.marks rs (restart_registers i s))
+    ∙ sym (list_any-append s.marks rs (restart_registers i s))
 name-decides hides _ i s regs bytes reading same = refl
 
 decides : (hides : Bool) (o : Option Transfer) (i : Inst) (s : State) (regs bytes reading : ℕ → ℕ) → AgreeBeside hides s regs → is_marked s (deciding_by o i (with_values s regs bytes reading)) ≡ is_marked s (deciding_by o i s)

@@ -30,7 +30,7 @@ use Rattle.i9_model.specs.Hazards.{read_hazard, save_hazard, write_hazard}
 use Rattle.i9_model.specs.Operands.{value, address}
 use Rattle.i9_model.specs.Boot.{table_word, setup_of, configured}
 use Rattle.i9_model.specs.Tables.{tables_hazard, group_address, group_hazard, group_words}
-use Rattle.i9_model.specs.Calls.{record_address, in_supervisor_mode, leaves_supervisor, return_type}
+use Rattle.i9_model.specs.Calls.{caller_in, record_address, in_supervisor_mode, leaves_supervisor, return_type}
 use Rattle.i9_model.specs.Controls.{Control, KeepsControls, Restarts, LoadsGroup, with_group, controlled, marks_after}
 use Rattle.i9_model.specs.Step.{Action, Flushes, Message, AsksNothing, AsksCheck, AsksInterrupt, AsksRestart, AsksGroup, passing, moving, entering, argument_of, asked_message, message_action, action_by_name, action_by, action_of, moved, flagged, acted, counted, Move, Stays, Saves, Returns, branching, resulting, answer_in, atomic_address, pushing, frames_after}
 use Rattle.i9_model.specs.declared.trace.Seen.{Seen}
@@ -67,6 +67,7 @@ use Rattle.i9_model.proofs.FrameLaws.{write_hazard-none, save_hazard-none, port_
 use Rattle.i9_model.proofs.Among.{bytes-among, among-bytes, among-address}
 use Rattle.i9_model.proofs.SavedMarks.{picked-among, saved-lost}
 use Rattle.i9_model.proofs.Storing.{stored_words_same}
+use Rattle.i9_agree.proofs.AlikeActions.{other_caller}
 use Rattle.i9_agree.proofs.AlikeFetches.{told_same, planned_fault_by_same}
 use Rattle.i9_agree.proofs.AlikeInterrupts.{choice_same, planned_by_same, entry_writes_same}
 use Rattle.i9_agree.proofs.Agreeing.{shows-none, shows-first, shows-after, writes-same, written-alike}
@@ -249,12 +250,9 @@ acted-agree hides s t a b inside readable alike agree =
 
 -- ---- what is marked of an action is where it may be
 
-past_last : (a n x : ℕ) → in_bytes a n x ≡ true → nat_le address_count x ≡ false
-past_last a n x t = among-address a n x (bytes-among a n x t)
-
 -- beside the port page
 within : (a n x : ℕ) → in_bytes a n x ≡ true → in_port_page x ≡ false → is_beyond x ≡ false
-within a n x t p = or_from (in_port_page x) (nat_le address_count x) p (past_last a n x t)
+within a n x t p = or_from (in_port_page x) (nat_le address_count x) p (among-address a n x (bytes-among a n x t))
 
 save-contained : (v : Move) (f : Frames) (lost : List ℕ) → IsSafe f v → IsLostOf v lost → AreOfSave v lost
 save-contained Stays f lost safe is = tt
@@ -599,12 +597,12 @@ standing-agree hides s regs bytes reading (Runs i) k same known =
 entry-same : (hides : Bool) (s : State) (regs bytes reading : ℕ → ℕ) (fault : Fault) → AreOther hides s regs bytes reading → entry_in (with_values s regs bytes reading) fault ≡ entry_in s fault
 unfolding entry_in
 entry-same hides s regs bytes reading fault same =
-    ap (planned_fault_by (with_other s.memory bytes) s.frames s.tables.fault_table s.tables.system_table fault s.pc s.ac (regs FP) (regs SP)) (areas-same hides s regs bytes reading same.regs)
-    ∙ planned_fault_by_same s.frames s.memory bytes s.tables.fault_table s.tables.system_table fault s.pc s.ac (s.regs FP) (s.regs SP) (regs FP) (regs SP) (area_hazard s) (hard-bytes hides s regs bytes reading same) (push-known hides s regs same.regs)
+    ap (planned_fault_by (other_caller (caller_in s) bytes (regs FP) (regs SP)) s.tables.fault_table s.tables.system_table fault s.ac) (areas-same hides s regs bytes reading same.regs)
+    ∙ planned_fault_by_same (caller_in s) bytes s.tables.fault_table s.tables.system_table fault s.ac (regs FP) (regs SP) (area_hazard s) (hard-bytes hides s regs bytes reading same) (push-known hides s regs same.regs)
 
 entry-safe : (s : State) (fault : Fault) (e : Entry) → entry_in s fault ≡ Ok e → save_hazard s.frames e.push.save ≡ None
 unfolding entry_in
-entry-safe s fault e is = (enters_free_by s.memory s.frames s.tables.fault_table s.tables.system_table fault s.pc s.ac (s.regs FP) (s.regs SP) (area_hazard s) e (area_save s) is).save
+entry-safe s fault e is = (enters_free_by (caller_in s) s.tables.fault_table s.tables.system_table fault s.ac (area_hazard s) e (area_save s) is).save
 
 entry-agree : (hides : Bool) (s : State) (regs bytes reading : ℕ → ℕ) (fault : Fault) (o : Result Entry FaultStop) → entry_in s fault ≡ o → AreOther hides s regs bytes reading → NextsAgree hides (next_by_entry s o) (next_by_entry (with_values s regs bytes reading) o)
 entry-agree hides s regs bytes reading fault (Ok e) is same =
@@ -644,8 +642,8 @@ event-agree hides None s regs bytes reading same known =
 interrupt-same : (hides : Bool) (s : State) (regs bytes reading : ℕ → ℕ) (c : Chosen) → AreOther hides s regs bytes reading → interrupt_in (with_values s regs bytes reading) c ≡ interrupt_in s c
 unfolding interrupt_in
 interrupt-same hides s regs bytes reading c same =
-    ap (planned_interrupt_by (with_other s.memory bytes) s.frames s.tables.interrupt_table s.tables.interrupt_stack c s.pc s.ac (regs FP) (regs SP)) (areas-same hides s regs bytes reading same.regs)
-    ∙ planned_by_same s.frames s.memory bytes s.tables.interrupt_table s.tables.interrupt_stack c s.pc s.ac (s.regs FP) (s.regs SP) (regs FP) (regs SP) (area_hazard s) (hard-bytes hides s regs bytes reading same) (push-known hides s regs same.regs)
+    ap (planned_interrupt_by (other_caller (caller_in s) bytes (regs FP) (regs SP)) s.tables.interrupt_table s.tables.interrupt_stack c s.ac) (areas-same hides s regs bytes reading same.regs)
+    ∙ planned_by_same (caller_in s) bytes s.tables.interrupt_table s.tables.interrupt_stack c s.ac (regs FP) (regs SP) (area_hazard s) (hard-bytes hides s regs bytes reading same) (push-known hides s regs same.regs)
 
 interrupt-agree : (hides : Bool) (s : State) (regs bytes reading : ℕ → ℕ) (c : Chosen) (o : Result Entry ℕ) → interrupt_in s c ≡ o → AreOther hides s regs bytes reading → NextsAgree hides (next_by_interrupt s c o) (next_by_interrupt (with_values s regs bytes reading) c o)
 interrupt-agree hides s regs bytes reading c (Ok e) is same =

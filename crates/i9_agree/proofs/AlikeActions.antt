@@ -9,7 +9,7 @@ use Rattle.i9_model.specs.State.{Frames}
 use Rattle.i9_model.specs.Frames.{in_frames}
 use Rattle.i9_model.specs.Requests.{with_bit, vector_priority, priority_place, pending_place, byte_hazard, request_hazard, request_writes}
 use Rattle.i9_model.specs.Hazards.{or_else, read_hazard}
-use Rattle.i9_model.specs.Calls.{save_area, system_hazard_by, entry_address, stack_address, is_switch, stack_hazard, system_hazard, entered_here, entered_switched, system_entered, record_address, takes_record, record_hazard, controls_hazard, returned_pc, returned_ac, in_supervisor_mode, leaves_supervisor, without_supervisor}
+use Rattle.i9_model.specs.Calls.{Caller, save_area, system_hazard_by, entry_address, stack_address, is_switch, stack_hazard, system_hazard, entered_here, entered_switched, system_entered, record_address, takes_record, record_hazard, controls_hazard, returned_pc, returned_ac, in_supervisor_mode, leaves_supervisor, without_supervisor}
 use Rattle.i9_model.specs.Alike.{is_hard, is_compared, AgreeWhere, with_other}
 use Rattle.i9_model.proofs.CallLaws.{first_none, second_none}
 use Rattle.i9_model.proofs.Readings.{word_same, first_same}
@@ -37,6 +37,10 @@ system_hazard_same f m bytes table n pc fp same = system_hazard_by_same f m byte
 abbrev pub AreKnown : (Bool → Option ℕ) → ℕ → ℕ → ℕ → ℕ → Type 0
 AreKnown area fp sp fp2 sp2 = (b : Bool) → area b ≡ None → (fp2 ≡ fp) × (b ≡ false → sp2 ≡ sp)
 
+-- a caller in a memory with other bytes, and with these pointers
+abbrev pub other_caller : Caller → (ℕ → ℕ) → ℕ → ℕ → Caller
+other_caller c bytes fp sp = record c { memory = with_other c.memory bytes; fp = fp; sp = sp }
+
 entered_same : (f : Frames) (m : Memory) (bytes : ℕ → ℕ) (table entry pc fp sp fp2 sp2 extra : ℕ) (kind : Bool → ℕ) (switched : Bool) → AgreeWhere (is_hard f) m bytes → stack_hazard f table switched ≡ None → fp2 ≡ fp → (switched ≡ false → sp2 ≡ sp)
     → cond switched (entered_switched entry (word_in (with_other m bytes) (stack_address table)) pc fp2 extra (kind true)) (entered_here entry pc fp2 sp2 extra (kind false))
     ≡ cond switched (entered_switched entry (word_in m (stack_address table)) pc fp extra (kind true)) (entered_here entry pc fp sp extra (kind false))
@@ -46,24 +50,26 @@ entered_same f m bytes table entry pc fp sp fp2 sp2 extra kind true same none on
     ap (λ (w : ℕ). entered_switched entry w pc fp2 extra (kind true)) (word_same f m bytes (stack_address table) 4 same none (omega arith))
     ∙ ap (λ (x : ℕ). entered_switched entry (word_in m (stack_address table)) pc x extra (kind true)) one
 
-pub system_by_same : (f : Frames) (m : Memory) (bytes : ℕ → ℕ) (table n pc fp sp fp2 sp2 extra : ℕ) (kind : Bool → ℕ) (area : Bool → Option ℕ) → AgreeWhere (is_hard f) m bytes → AreKnown area fp sp fp2 sp2 → system_hazard_by m f table n pc area ≡ None
-    → system_entered (with_other m bytes) table n pc fp2 sp2 extra kind ≡ system_entered m table n pc fp sp extra kind
+pub system_by_same : (c : Caller) (bytes : ℕ → ℕ) (table n fp sp extra : ℕ) (kind : Bool → ℕ) (area : Bool → Option ℕ) → AgreeWhere (is_hard c.frames) c.memory bytes → AreKnown area c.fp c.sp fp sp → system_hazard_by c.memory c.frames table n c.pc area ≡ None
+    → system_entered (other_caller c bytes fp sp) table n extra kind ≡ system_entered c table n extra kind
 unfolding system_entered
-system_by_same f m bytes table n pc fp sp fp2 sp2 extra kind area same known none =
+system_by_same c bytes table n fp sp extra kind area same known none =
+    let m = c.memory in
+    let f = c.frames in
     let at = entry_address table n in
     let entry = word_in m at in
-    let switched = is_switch entry pc in
+    let switched = is_switch entry c.pc in
     let stack = stack_hazard f table switched in
+    let later = second_none (read_hazard f at 4) (or_else stack (area switched)) none in
     let read = first_none (read_hazard f at 4) (or_else stack (area switched)) none in
-    let stack_read = first_none stack (area switched) (second_none (read_hazard f at 4) (or_else stack (area switched)) none) in
-    let push = known switched (second_none stack (area switched) (second_none (read_hazard f at 4) (or_else stack (area switched)) none)) in
-    ap (λ (w : ℕ). cond (is_switch w pc) (entered_switched w (word_in (with_other m bytes) (stack_address table)) pc fp2 extra (kind true)) (entered_here w pc fp2 sp2 extra (kind false))) (word_same f m bytes at 4 same read (omega arith))
-    ∙ entered_same f m bytes table entry pc fp sp fp2 sp2 extra kind switched same stack_read push.0 push.1
+    let push = known switched (second_none stack (area switched) later) in
+    ap (λ (w : ℕ). cond (is_switch w c.pc) (entered_switched w (word_in (with_other m bytes) (stack_address table)) c.pc fp extra (kind true)) (entered_here w c.pc fp sp extra (kind false))) (word_same f m bytes at 4 same read (omega arith))
+    ∙ entered_same f m bytes table entry c.pc c.fp c.sp fp sp extra kind switched same (first_none stack (area switched) later) push.0 push.1
 
-pub system_same : (f : Frames) (m : Memory) (bytes : ℕ → ℕ) (table n pc fp sp extra : ℕ) (kind : Bool → ℕ) → AgreeWhere (is_hard f) m bytes → system_hazard m f table n pc fp ≡ None
-    → system_entered (with_other m bytes) table n pc fp sp extra kind ≡ system_entered m table n pc fp sp extra kind
+pub system_same : (c : Caller) (bytes : ℕ → ℕ) (table n extra : ℕ) (kind : Bool → ℕ) → AgreeWhere (is_hard c.frames) c.memory bytes → system_hazard c.memory c.frames table n c.pc c.fp ≡ None
+    → system_entered (other_caller c bytes c.fp c.sp) table n extra kind ≡ system_entered c table n extra kind
 unfolding system_hazard
-system_same f m bytes table n pc fp sp extra kind same none = system_by_same f m bytes table n pc fp sp fp sp extra kind (save_area f fp) same (λ b e. (refl, λ d. refl)) none
+system_same c bytes table n extra kind same none = system_by_same c bytes table n c.fp c.sp extra kind (save_area c.frames c.fp) same (λ b e. (refl, λ d. refl)) none
 
 pub saved_pc_same : (f : Frames) (m : Memory) (bytes : ℕ → ℕ) (kind fp pc : ℕ) → AgreeWhere (is_hard f) m bytes → controls_hazard f kind fp ≡ None → returned_pc (with_other m bytes) kind fp pc ≡ returned_pc m kind fp pc
 saved_pc_same f m bytes kind fp pc same none = by_record (in_supervisor_mode pc) (takes_record kind) none

@@ -1,7 +1,7 @@
 -- In states that are alike every hazard is the same, and so is what stands at the instruction address, and how a
 -- fault is entered.
 use Rattle.std.proofs.Common.{◌≡◌, ℕ, ◌+◌, Bool, true, false, cond, eqb, nat_le, Option, Some, None, Result, Ok, Err, refl, sym, ap, ◌∙◌, inl, inr, arith}
-use Rattle.std.specs.Prelude.{not, ◌&&◌, ◌||◌, ◌⊎◌}
+use Rattle.std.specs.Prelude.{◌⊎◌}
 use Rattle.std.proofs.lemmas.Bool.{eqb-true}
 use Rattle.i9_isa.specs.declared.inst.Mode.{Mode}
 use Rattle.i9_isa.specs.declared.inst.Mode.TheVariants.{Offset, BaseOffset, Base, Ip, BaseIndex, Disp, BaseDisp, IndexDisp, BaseIndexDisp}
@@ -19,17 +19,17 @@ use Rattle.i9_model.specs.declared.faults.FaultStop.{FaultStop}
 use Rattle.i9_model.specs.Writes.{wrapped}
 use Rattle.i9_model.specs.Memory.{Memory, word_in}
 use Rattle.i9_model.specs.State.{State, Frames}
-use Rattle.i9_model.specs.Frames.{rounded_down, in_frames, flushed}
+use Rattle.i9_model.specs.Frames.{rounded_down}
 use Rattle.i9_model.specs.Hazards.{unless, read_hazard, return_hazard}
 use Rattle.i9_model.specs.Tables.{tables_hazard}
-use Rattle.i9_model.specs.Calls.{save_area, system_hazard_by, entered_here, system_hazard, system_entered, planned_system, planned_calls, calls_answer, call_type, planned_ret, popped, ret_hazard, return_type, controls_hazard, returned_pc, returned_ac}
+use Rattle.i9_model.specs.Calls.{Caller, save_area, system_hazard_by, entered_here, system_hazard, system_entered, planned_system, planned_calls, calls_answer, call_type, planned_ret, popped, ret_hazard, return_type, controls_hazard, returned_pc, returned_ac}
 use Rattle.i9_model.specs.Faults.{◌>>=◌, or_stop, table_entry, checked_word, planned_handler, planned_frame, planned_fault, planned_fault_by}
 use Rattle.i9_model.specs.Step.{first_word, next_word}
 use Rattle.i9_model.specs.Access.{second_hazard, fetch_hazard}
-use Rattle.i9_model.specs.Alike.{is_beyond, is_hard, is_compared, AgreeWhere, with_other, with_memory, told_words}
+use Rattle.i9_model.specs.Alike.{is_hard, AgreeWhere, with_other, with_memory, told_words}
 use Rattle.i9_model.proofs.CallLaws.{first_none}
 use Rattle.i9_model.proofs.Readings.{read_same, inner_word_same, word_same}
-use Rattle.i9_agree.proofs.AlikeActions.{or_else_same, AreKnown, system_hazard_by_same, system_by_same, system_hazard_same, system_same, saved_pc_same, saved_ac_same}
+use Rattle.i9_agree.proofs.AlikeActions.{or_else_same, AreKnown, other_caller, system_hazard_by_same, system_by_same, system_hazard_same, system_same, saved_pc_same, saved_ac_same}
 use Rattle.i9_agree.proofs.SecondWords.{AreOfWord, decoded_alike}
 use Rattle.i9_past.proofs.Stands.{IsRead}
 
@@ -122,39 +122,44 @@ handler_same f m bytes at same =
     bind_same _ _ _ _ (checked_same f m bytes at same) (λ first.
     bind_same _ _ _ _ (checked_same f m bytes (wrapped (at + 4)) same) (λ second. refl))
 
-pub planned_system_same : (f : Frames) (m : Memory) (bytes : ℕ → ℕ) (table n pc fp sp extra : ℕ) (kind : Bool → ℕ) → AgreeWhere (is_hard f) m bytes
-    → planned_system (with_other m bytes) f table n pc fp sp extra kind ≡ planned_system m f table n pc fp sp extra kind
-planned_system_same f m bytes table n pc fp sp extra kind same =
-    ap (λ (h : Option ℕ). unless h (system_entered (with_other m bytes) table n pc fp sp extra kind)) (system_hazard_same f m bytes table n pc fp same)
-    ∙ unless_same (system_hazard m f table n pc fp) (system_entered m table n pc fp sp extra kind) (system_entered (with_other m bytes) table n pc fp sp extra kind) (λ none. system_same f m bytes table n pc fp sp extra kind same none)
+planned_system_same : (c : Caller) (bytes : ℕ → ℕ) (table n extra : ℕ) (kind : Bool → ℕ) → AgreeWhere (is_hard c.frames) c.memory bytes
+    → planned_system (other_caller c bytes c.fp c.sp) table n extra kind ≡ planned_system c table n extra kind
+planned_system_same c bytes table n extra kind same =
+    let entered = λ (d : Caller). system_entered d table n extra kind in
+    let other = other_caller c bytes c.fp c.sp in
+    ap (λ (h : Option ℕ). unless h (entered other)) (system_hazard_same c.frames c.memory bytes table n c.pc c.fp same)
+    ∙ unless_same (system_hazard c.memory c.frames table n c.pc c.fp) (entered c) (entered other) (λ none. system_same c bytes table n extra kind same none)
 
-planned_frame_same : (f : Frames) (m : Memory) (bytes : ℕ → ℕ) (system pc fp sp fp2 sp2 : ℕ) (area : Bool → Option ℕ) (h : Handler) → AgreeWhere (is_hard f) m bytes → AreKnown area fp sp fp2 sp2 → planned_frame (with_other m bytes) f system pc fp2 sp2 area h ≡ planned_frame m f system pc fp sp area h
+planned_frame_same : (c : Caller) (bytes : ℕ → ℕ) (system fp sp : ℕ) (area : Bool → Option ℕ) (h : Handler) → AgreeWhere (is_hard c.frames) c.memory bytes → AreKnown area c.fp c.sp fp sp → planned_frame (other_caller c bytes fp sp) system area h ≡ planned_frame c system area h
 unfolding planned_frame
-planned_frame_same f m bytes system pc fp sp fp2 sp2 area (Local target) same known =
-    unless_same (area false) (entered_here target pc fp sp RECORD_SIZE FAULT_RETURN) (entered_here target pc fp2 sp2 RECORD_SIZE FAULT_RETURN) (λ none.
+planned_frame_same c bytes system fp sp area (Local target) same known =
+    let here = λ (x y : ℕ). entered_here target c.pc x y RECORD_SIZE FAULT_RETURN in
+    unless_same (area false) (here c.fp c.sp) (here fp sp) (λ none.
     let push = known false none in
-    ap (λ (x : ℕ). entered_here target pc x sp2 RECORD_SIZE FAULT_RETURN) push.0 ∙ ap (λ (x : ℕ). entered_here target pc fp x RECORD_SIZE FAULT_RETURN) (push.1 refl))
-planned_frame_same f m bytes system pc fp sp fp2 sp2 area (System n) same known =
-    ap (λ (h : Option ℕ). unless h (system_entered (with_other m bytes) system n pc fp2 sp2 RECORD_SIZE (λ _. FAULT_RETURN))) (system_hazard_by_same f m bytes system n pc area same)
-    ∙ unless_same (system_hazard_by m f system n pc area) (system_entered m system n pc fp sp RECORD_SIZE (λ _. FAULT_RETURN)) (system_entered (with_other m bytes) system n pc fp2 sp2 RECORD_SIZE (λ _. FAULT_RETURN)) (λ none.
-    system_by_same f m bytes system n pc fp sp fp2 sp2 RECORD_SIZE (λ _. FAULT_RETURN) area same known none)
+    ap (λ (x : ℕ). here x sp) push.0 ∙ ap (here c.fp) (push.1 refl))
+planned_frame_same c bytes system fp sp area (System n) same known =
+    let entered = λ (d : Caller). system_entered d system n RECORD_SIZE (λ _. FAULT_RETURN) in
+    let other = other_caller c bytes fp sp in
+    ap (λ (h : Option ℕ). unless h (entered other)) (system_hazard_by_same c.frames c.memory bytes system n c.pc area same)
+    ∙ unless_same (system_hazard_by c.memory c.frames system n c.pc area) (entered c) (entered other) (λ none.
+    system_by_same c bytes system n fp sp RECORD_SIZE (λ _. FAULT_RETURN) area same known none)
 
-pub planned_fault_by_same : (f : Frames) (m : Memory) (bytes : ℕ → ℕ) (table system : ℕ) (fault : Fault) (pc ac fp sp fp2 sp2 : ℕ) (area : Bool → Option ℕ) → AgreeWhere (is_hard f) m bytes → AreKnown area fp sp fp2 sp2
-    → planned_fault_by (with_other m bytes) f table system fault pc ac fp2 sp2 area ≡ planned_fault_by m f table system fault pc ac fp sp area
+pub planned_fault_by_same : (c : Caller) (bytes : ℕ → ℕ) (table system : ℕ) (fault : Fault) (ac fp sp : ℕ) (area : Bool → Option ℕ) → AgreeWhere (is_hard c.frames) c.memory bytes → AreKnown area c.fp c.sp fp sp
+    → planned_fault_by (other_caller c bytes fp sp) table system fault ac area ≡ planned_fault_by c table system fault ac area
 unfolding planned_fault_by
-planned_fault_by_same f m bytes table system fault pc ac fp sp fp2 sp2 area same known =
-    bind_same _ _ _ _ (handler_same f m bytes (table_entry table fault.kind) same) (λ handler.
-    bind_same _ _ _ _ (ap or_stop (planned_frame_same f m bytes system pc fp sp fp2 sp2 area handler same known)) (λ sys. refl))
+planned_fault_by_same c bytes table system fault ac fp sp area same known =
+    bind_same _ _ _ _ (handler_same c.frames c.memory bytes (table_entry table fault.kind) same) (λ handler.
+    bind_same _ _ _ _ (ap or_stop (planned_frame_same c bytes system fp sp area handler same known)) (λ sys. refl))
 
-pub planned_fault_same : (f : Frames) (m : Memory) (bytes : ℕ → ℕ) (table system : ℕ) (fault : Fault) (pc ac fp sp : ℕ) → AgreeWhere (is_hard f) m bytes
-    → planned_fault (with_other m bytes) f table system fault pc ac fp sp ≡ planned_fault m f table system fault pc ac fp sp
-planned_fault_same f m bytes table system fault pc ac fp sp same = planned_fault_by_same f m bytes table system fault pc ac fp sp fp sp (save_area f fp) same (λ b none. (refl, λ e. refl))
+pub planned_fault_same : (c : Caller) (bytes : ℕ → ℕ) (table system : ℕ) (fault : Fault) (ac : ℕ) → AgreeWhere (is_hard c.frames) c.memory bytes
+    → planned_fault (other_caller c bytes c.fp c.sp) table system fault ac ≡ planned_fault c table system fault ac
+planned_fault_same c bytes table system fault ac same = planned_fault_by_same c bytes table system fault ac c.fp c.sp (save_area c.frames c.fp) same (λ b none. (refl, λ e. refl))
 
 -- ---- calls and returns as they are planned
 
-pub planned_calls_same : (f : Frames) (m : Memory) (bytes : ℕ → ℕ) (table n pc fp sp : ℕ) → AgreeWhere (is_hard f) m bytes → planned_calls (with_other m bytes) f table n pc fp sp ≡ planned_calls m f table n pc fp sp
-planned_calls_same f m bytes table n pc fp sp same =
-    ap (λ (r : Result Sys ℕ). cond (nat_le n MOST_SYSTEM_CALL) (calls_answer r) (Err Length)) (planned_system_same f m bytes table n pc fp sp 0 (call_type pc) same)
+pub planned_calls_same : (c : Caller) (bytes : ℕ → ℕ) (table n : ℕ) → AgreeWhere (is_hard c.frames) c.memory bytes → planned_calls (other_caller c bytes c.fp c.sp) table n ≡ planned_calls c table n
+planned_calls_same c bytes table n same =
+    ap (λ (r : Result Sys ℕ). cond (nat_le n MOST_SYSTEM_CALL) (calls_answer r) (Err Length)) (planned_system_same c bytes table n 0 (call_type c.pc) same)
 
 pub planned_ret_same : (f : Frames) (m : Memory) (bytes : ℕ → ℕ) (pfp fp pc ac : ℕ) → AgreeWhere (is_hard f) m bytes → planned_ret (with_other m bytes) f pfp fp pc ac ≡ planned_ret m f pfp fp pc ac
 unfolding popped ret_hazard

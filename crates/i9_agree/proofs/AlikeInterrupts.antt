@@ -13,7 +13,7 @@ use Rattle.i9_model.specs.Writes.{address_count, upwards}
 use Rattle.i9_model.specs.Memory.{Memory, in_port_page, stored, with_writes}
 use Rattle.i9_model.specs.State.{State, Frames, Interrupts, aligned}
 use Rattle.i9_model.specs.Frames.{in_bytes, is_put, saved, wrote, record_address, pushed}
-use Rattle.i9_model.specs.Calls.{save_area}
+use Rattle.i9_model.specs.Calls.{Caller, save_area}
 use Rattle.i9_model.specs.Hazards.{or_else, unless, read_hazard, record_write_hazard}
 use Rattle.i9_model.specs.Interrupts.{vector_priority, priority_place, pending_place, is_requested, chosen_of, chosen, chosen_soft, without_bit, byte_hazard, left_pending, taken_writes, priority_hazard, taken_hazard, clearing_writes, clearing_hazard, vector_place, interrupt_push, interrupt_record, record_writes, cleared_hazard, interrupt_hazard, interrupt_entry, planned_interrupt, planned_interrupt_by}
 use Rattle.i9_model.specs.Before.{choice_in, entry_writes}
@@ -21,7 +21,7 @@ use Rattle.i9_model.specs.Alike.{is_beyond, is_hard, AgreeWhere, with_other, wit
 use Rattle.i9_model.proofs.CallLaws.{first_none, second_none}
 use Rattle.i9_model.proofs.Readings.{byte_same, first_same, word_same}
 use Rattle.i9_model.proofs.Storing.{stored_agree, stored_words_same}
-use Rattle.i9_agree.proofs.AlikeActions.{or_else_same, AreKnown}
+use Rattle.i9_agree.proofs.AlikeActions.{or_else_same, AreKnown, other_caller}
 use Rattle.i9_agree.proofs.AlikeFetches.{unless_same}
 use Rattle.i9_agree.proofs.AlikeChoices.{chosen_of_same}
 use Rattle.i9_agree.proofs.InterruptsFree.{InterruptsFree}
@@ -131,24 +131,26 @@ planned_memory_same f m bytes table push c words area same =
     ∙ unless_same (or_else vector later) (interrupt_entry m table c push words) (interrupt_entry n table c push words) (λ none.
     ap (λ (w : ℕ). record (interrupt_entry m table c push words) { target = aligned w }) (word_same f m bytes (vector_place table c.vector) 4 same (first_none vector later none) (omega arith)))
 
-pub planned_by_same : (f : Frames) (m : Memory) (bytes : ℕ → ℕ) (table stack : ℕ) (c : Chosen) (pc ac fp sp fp2 sp2 : ℕ) (area : Bool → Option ℕ) → AgreeWhere (is_hard f) m bytes → AreKnown area fp sp fp2 sp2
-    → planned_interrupt_by (with_other m bytes) f table stack c pc ac fp2 sp2 area ≡ planned_interrupt_by m f table stack c pc ac fp sp area
+pub planned_by_same : (from : Caller) (bytes : ℕ → ℕ) (table stack : ℕ) (c : Chosen) (ac fp sp : ℕ) (area : Bool → Option ℕ) → AgreeWhere (is_hard from.frames) from.memory bytes → AreKnown area from.fp from.sp fp sp
+    → planned_interrupt_by (other_caller from bytes fp sp) table stack c ac area ≡ planned_interrupt_by from table stack c ac area
 unfolding planned_interrupt_by interrupt_hazard
-planned_by_same f m bytes table stack c pc ac fp sp fp2 sp2 area same known =
-    let n = with_other m bytes in
-    let words = interrupt_record c.vector pc ac in
-    let here = area (not (bit pc INTERRUPTED_PLACE)) in
+planned_by_same from bytes table stack c ac fp sp area same known =
+    let f = from.frames in
+    let n = with_other from.memory bytes in
+    let words = interrupt_record c.vector from.pc ac in
+    let old_push = interrupt_push stack from.pc from.fp from.sp in
+    let here = area (not (bit from.pc INTERRUPTED_PLACE)) in
     let vector = read_hazard f (vector_place table c.vector) 4 in
-    pushes vector here (interrupt_push stack pc fp sp) (interrupt_push stack pc fp2 sp2) (λ (push : Push). or_else (record_write_hazard f push) (cleared_hazard n f table c push words)) (λ (push : Push). interrupt_entry n table c push words) (λ none. push_same none)
-    ∙ planned_memory_same f m bytes table (interrupt_push stack pc fp sp) c words here same
+    pushes vector here old_push (interrupt_push stack from.pc fp sp) (λ (push : Push). or_else (record_write_hazard f push) (cleared_hazard n f table c push words)) (λ (push : Push). interrupt_entry n table c push words) (λ none. push_same none)
+    ∙ planned_memory_same f from.memory bytes table old_push c words here same
   where
-    push_same : area (not (bit pc INTERRUPTED_PLACE)) ≡ None → interrupt_push stack pc fp2 sp2 ≡ interrupt_push stack pc fp sp
+    push_same : area (not (bit from.pc INTERRUPTED_PLACE)) ≡ None → interrupt_push stack from.pc fp sp ≡ interrupt_push stack from.pc from.fp from.sp
     push_same none =
-        let push = known (not (bit pc INTERRUPTED_PLACE)) none in
-        ap (λ (x : ℕ). interrupt_push stack pc x sp2) push.0 ∙ by_stack (bit pc INTERRUPTED_PLACE) push.1
+        let push = known (not (bit from.pc INTERRUPTED_PLACE)) none in
+        ap (λ (x : ℕ). interrupt_push stack from.pc x sp) push.0 ∙ by_stack (bit from.pc INTERRUPTED_PLACE) push.1
       where
-        by_stack : (b : Bool) → (not b ≡ false → sp2 ≡ sp) → pushed fp (cond b sp2 stack) RECORD_SIZE INTERRUPT_RETURN ≡ pushed fp (cond b sp stack) RECORD_SIZE INTERRUPT_RETURN
-        by_stack true h = ap (λ (x : ℕ). pushed fp x RECORD_SIZE INTERRUPT_RETURN) (h refl)
+        by_stack : (b : Bool) → (not b ≡ false → sp ≡ from.sp) → pushed from.fp (cond b sp stack) RECORD_SIZE INTERRUPT_RETURN ≡ pushed from.fp (cond b from.sp stack) RECORD_SIZE INTERRUPT_RETURN
+        by_stack true h = ap (λ (x : ℕ). pushed from.fp x RECORD_SIZE INTERRUPT_RETURN) (h refl)
         by_stack false h = refl
 
     pushes : (vector here : Option ℕ) (p q : Push) (later : Push → Option ℕ) (entry : Push → Entry) → (here ≡ None → q ≡ p)
@@ -157,8 +159,8 @@ planned_by_same f m bytes table stack c pc ac fp sp fp2 sp2 area same known =
     pushes None (Some a) p q later entry e = refl
     pushes None None p q later entry e = ap (λ (x : Push). unless (later x) (entry x)) (e refl)
 
-pub planned_same : (f : Frames) (m : Memory) (bytes : ℕ → ℕ) (table stack : ℕ) (c : Chosen) (pc ac fp sp : ℕ) → AgreeWhere (is_hard f) m bytes → planned_interrupt (with_other m bytes) f table stack c pc ac fp sp ≡ planned_interrupt m f table stack c pc ac fp sp
-planned_same f m bytes table stack c pc ac fp sp same = planned_by_same f m bytes table stack c pc ac fp sp fp sp (save_area f fp) same (λ b none. (refl, λ e. refl))
+pub planned_same : (from : Caller) (bytes : ℕ → ℕ) (table stack : ℕ) (c : Chosen) (ac : ℕ) → AgreeWhere (is_hard from.frames) from.memory bytes → planned_interrupt (other_caller from bytes from.fp from.sp) table stack c ac ≡ planned_interrupt from table stack c ac
+planned_same from bytes table stack c ac same = planned_by_same from bytes table stack c ac from.fp from.sp (save_area from.frames from.fp) same (λ b none. (refl, λ e. refl))
 
 -- the bytes that clear the request, behind the push and the record
 pub cleared_same : (f : Frames) (m : Memory) (bytes : ℕ → ℕ) (table : ℕ) (c : Chosen) (push : Push) (words : List ℕ) → AgreeWhere (is_hard f) m bytes → cleared_hazard m f table c push words ≡ None

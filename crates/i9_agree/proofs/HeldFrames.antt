@@ -1,13 +1,12 @@
 -- The held frames are the youngest live ones, and laid over memory they stand for it, through each action.
-use Rattle.std.proofs.Common.{◌≡◌, ℕ, zero, suc, ◌+◌, ◌-◌, ◌<◌, Bool, true, false, cond, ltb, ◌||◌, List, [], ◌∷◌, ◌++◌, length, take, drop, None, refl, sym, ap, ◌∙◌, subst, inl, inr, arith, append_assoc, length-append}
+use Rattle.std.proofs.Common.{◌≡◌, ℕ, ◌-◌, Bool, true, false, cond, ltb, ◌||◌, List, [], ◌∷◌, ◌++◌, length, take, drop, None, refl, sym, ap, ◌∙◌, subst, inl, inr, arith, append_assoc, length-append}
 use Rattle.std.proofs.Math.Seq.{take-append_seam}
 use Rattle.std.proofs.lemmas.List.{take-append-drop}
-use Rattle.std.specs.Prelude.{not, nat_le, ◌==◌}
-use Rattle.std.proofs.lemmas.Bool.{or_left, or_right, or_from, cases_Bool, both_ways, eqb-true}
-use Rattle.std.proofs.lemmas.Bool.Decides.{nat_tests}
+use Rattle.std.specs.Prelude.{not, nat_le}
+use Rattle.std.proofs.lemmas.Bool.{or_left, or_right, or_from, cases_Bool, both_ways}
 use Rattle.i9_model.specs.declared.layout.TheConstants.{LOCALS, FRAME_SIZE}
 use Rattle.i9_model.specs.declared.frame.Frame.{Frame}
-use Rattle.i9_model.specs.Writes.{address_count, wrapped}
+use Rattle.i9_model.specs.Writes.{address_count}
 use Rattle.i9_model.specs.Memory.{Memory, in_port_page, with_writes, with_words}
 use Rattle.i9_model.specs.State.{State, Frames}
 use Rattle.i9_model.specs.Frames.{in_bytes, in_frames, is_put, saved, returned, wrote}
@@ -15,6 +14,7 @@ use Rattle.i9_model.specs.Hazards.{writes_hazard}
 use Rattle.i9_model.specs.Sound.{AreApart, IsSound}
 use Rattle.i9_model.specs.Step.{Move, Stays, Saves, Returns, Flushes, Action, memory_after, frames_after, moved}
 use Rattle.i9_model.specs.Alike.{is_beyond, is_hard, is_compared, AgreeWhere}
+use Rattle.i9_model.proofs.Among.{bytes-among, among-address}
 use Rattle.i9_model.specs.HeldFrames.{Cache, frame_at, over, overlaid, spilled, with_room, holding, cache_moved, cache_acted, youngest_first, AreWhole, AreYoungest}
 use Rattle.i9_model.proofs.FrameLaws.{writes_hazard-none}
 use Rattle.i9_model.specs.Free.{IsWhole}
@@ -124,15 +124,7 @@ write_beside f ps hs y none = all_beside ps hs (older_than hs f.live) (λ x t. s
 -- ---- a frame that is returned to leaves the overlay
 
 pub below_all : (a n x : ℕ) → in_bytes a n x ≡ true → nat_le address_count x ≡ false
-unfolding in_bytes
-below_all a zero x t = absurd cc
-below_all a (suc n) x t = elim (cases_Bool (x == wrapped a)) [
-  | inl here ↦ below x (wrapped a) (eqb-true x (wrapped a) here) (omega arith)
-  | inr other ↦ below_all (a + 1) n x (sym (ap (λ (b : Bool). b || in_bytes (a + 1) n x) other) ∙ t)
-]
-  where
-    below : (x y : ℕ) → x ≡ y → y < address_count → nat_le address_count x ≡ false
-    below x y e h = grind (arith, nat_tests, e)
+below_all a n x t = among-address a n x (bytes-among a n x t)
 
 none_of : (beyond soft live : Bool) → beyond ≡ false → soft ≡ true → live ≡ false → ((beyond || not soft) || live) ≡ false
 none_of beyond soft live b s l = rw (b, s, l) refl

@@ -3,7 +3,6 @@ use Rattle.std.proofs.Common.{◌≡◌, ℕ, Bool, true, false, cond, eqb, ltb,
 use Rattle.std.specs.Prelude.{◌⊎◌, unwrap_or}
 use Rattle.i9_model.specs.declared.frame.Frame.{Frame}
 use Rattle.i9_model.specs.declared.event.Event.{Event}
-use Rattle.i9_model.specs.Writes.{written}
 use Rattle.i9_model.specs.declared.setup.Tables.{Tables}
 use Rattle.i9_model.specs.Memory.{Memory, with_writes}
 use Rattle.i9_model.specs.Boot.{setup_of}
@@ -17,6 +16,7 @@ use Rattle.i9_model.specs.declared.run.Due.{Due}
 use Rattle.i9_model.specs.Alike.{is_compared, with_other, with_memory, AreAlike}
 use Rattle.i9_model.specs.HeldFrames.{Cache, cache, spilled, over, overlaid, cache_moved, cache_acted, cache_configured, sets_in, renewed, cache_after, AreYoungest, IsCached}
 use Rattle.i9_model.specs.Free.{ComesAfterFlush, IsFree}
+use Rattle.i9_model.proofs.Stored.{with_none}
 use Rattle.i9_model.proofs.ControlLaws.{by_group, flagged-others, acted-frames}
 use Rattle.i9_past.proofs.Comes.{next_comes}
 use Rattle.i9_agree.proofs.SoundRuns.{kind_clear, sound-after}
@@ -127,10 +127,6 @@ group_tables false true c s group ws = refl
 group_tables false false true s group ws = refl
 group_tables false false false s group ws = refl
 
-no_write : (m : Memory) → with_writes m [] ≡ m
-unfolding written
-no_write m = refl
-
 -- the number changes where the processor starts anew, and there alone
 pub sets_after : (asked : Option ℕ) (s : State) (a : Action) → ComesAfterFlush a.control a.move a.writes → sets_in asked (acted s a) ≡ renewed asked s.memory a.control (sets_in asked s)
 unfolding acted moved started
@@ -142,7 +138,7 @@ sets_after asked s a after = ap (sets_in asked) (flagged-others a.trace (control
         ap (λ (t : Tables). unwrap_or asked t.sets) (group_tables (eqb group 0) (eqb group 1) (eqb group 6) (moved s a) group (group_words (moved s a).memory (moved s a).tables.control_table group))
     by_control (Restarts first prcb) e =
         ap (λ (m : Memory). unwrap_or asked (setup_of m first prcb).sets)
-        (ap (λ (v : Move). with_writes (memory_after s.memory v) a.writes) e.0 ∙ ap (with_writes s.memory) e.1 ∙ no_write s.memory)
+        (ap (λ (v : Move). with_writes (memory_after s.memory v) a.writes) e.0 ∙ ap (with_writes s.memory) e.1 ∙ with_none s.memory)
 
 -- ---- a run
 

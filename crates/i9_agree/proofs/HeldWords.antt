@@ -16,7 +16,7 @@ use Rattle.i9_model.specs.Alike.{with_other, is_hard}
 use Rattle.i9_model.specs.HeldFrames.{over, overlaid, cache_after, youngest_first, AreWhole, AreInMemory}
 use Rattle.i9_model.proofs.Lengths.{four_bytes}
 use Rattle.i9_agree.proofs.SoundRuns.{sound-after}
-use Rattle.i9_model.proofs.Readings.{in_bytes-has}
+use Rattle.i9_model.proofs.Readings.{four, in_bytes-has}
 use Rattle.i9_model.proofs.FrameBytes.{frame_byte}
 use Rattle.i9_agree.proofs.Overlays.{words_mcon, over_kept}
 use Rattle.i9_agree.proofs.HeldFrames.{all_kept, all_live, later_live, older_than}
@@ -36,16 +36,13 @@ pub by_order : (big : Bool) (w : ℕ) → w < 2 ^ 32 → cond big (from_be_bytes
 by_order true w h = from_be_bytes-to_be_bytes_4 w h
 by_order false w h = from_le_bytes-to_le_bytes_4 w h
 
-pub same_four : (m : Memory) (x p q r s v w y z : ℕ) → p ≡ v → q ≡ w → r ≡ y → s ≡ z → ordered_word m x (p ∷ q ∷ r ∷ s ∷ []) ≡ ordered_word m x (v ∷ w ∷ y ∷ z ∷ [])
-same_four m x p q r s v w y z h i j k = rw (h, i, j, k) refl
-
 -- the word whose bytes stand at an address
 word_back : (m : Memory) (g : ℕ → ℕ) (x w : ℕ) → x < address_count → w < 2 ^ 32 → ((j : ℕ) → j < 4 → g (wrapped (x + j)) ≡ get_or (word_bytes m x w) j 0) → word_in (with_other m g) x ≡ w
 unfolding word_in word_bytes
 word_back m g x w low small has =
     let bs = word_bytes m x w in
     let here : wrapped (x + 0) ≡ x = omega arith in
-    same_four m x (g x) (g (wrapped (x + 1))) (g (wrapped (x + 2))) (g (wrapped (x + 3))) (get_or bs 0 0) (get_or bs 1 0) (get_or bs 2 0) (get_or bs 3 0)
+    four m x (g x) (g (wrapped (x + 1))) (g (wrapped (x + 2))) (g (wrapped (x + 3))) (get_or bs 0 0) (get_or bs 1 0) (get_or bs 2 0) (get_or bs 3 0)
     (ap g (sym here) ∙ has 0 (omega arith)) (has 1 (omega arith)) (has 2 (omega arith)) (has 3 (omega arith))
     ∙ ap (ordered_word m x) (four_list bs (four_bytes m x w))
     ∙ by_order (is_big m (region_of x)) w small

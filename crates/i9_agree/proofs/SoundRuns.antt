@@ -22,7 +22,7 @@ use Rattle.std.proofs.lemmas.Bool.{or_left, or_from}
 use Rattle.i9_model.specs.Free.{IsFree}
 use Rattle.i9_model.specs.Run.{Given, Instruction, Faulted, Entered, Interrupted, Reached, Kind, action_by_kind, Record, Does, entry_in, state_after, due_after, next_in, next_with, IsPastOfSome}
 use Rattle.i9_model.specs.declared.run.Due.{Due}
-use Rattle.i9_model.specs.declared.layout.TheConstants.{FP, SP, FRAME_SIZE}
+use Rattle.i9_model.specs.declared.layout.TheConstants.{FP, FRAME_SIZE}
 use Rattle.i9_model.specs.declared.faults.Entry.{Entry}
 use Rattle.i9_model.specs.declared.interrupts.Chosen.{Chosen}
 use Rattle.i9_model.specs.declared.event.Event.{Event}
@@ -32,8 +32,8 @@ use Rattle.i9_model.specs.declared.interrupts.TheConstants.{PENDING_VECTORS}
 use Rattle.i9_model.specs.Frames.{in_bytes, in_frames, has, saved, with_marked, wrote, rounded_down}
 use Rattle.i9_model.specs.Interrupts.{vector_priority, with_bit, without_bit, byte_hazard, request_hazard, request_writes, priority_place, pending_place, left_pending, priority_writes, taken_writes, priority_hazard, taken_hazard, clearing_writes, clearing_hazard, record_writes}
 use Rattle.i9_model.specs.Before.{entry_writes, interrupting}
-use Rattle.i9_model.specs.Calls.{call_type, record_address}
-use Rattle.i9_agree.proofs.Units.{received_free}
+use Rattle.i9_model.specs.Calls.{caller_in, call_type, record_address}
+use Rattle.i9_agree.proofs.Units.{no_writes, received_free}
 use Rattle.i9_model.specs.Stale.{mark_of, legible, push_mark, area_hazard}
 use Rattle.i9_model.proofs.SavedMarks.{IsLost, saved-lost, returns-live}
 use Rattle.i9_model.proofs.CallLaws.{first_none, second_none, system_checks, system_save, EntersFree, enters_free_by}
@@ -60,10 +60,6 @@ IsSafe f Flushes = Unit {0}
 pub record IsClear (s : State) (a : Action) : Type 0 where
   pub save : IsSafe s.frames a.move
   pub free : IsFree s a
-
-no_writes : (f : Frames) → writes_hazard f [] ≡ None
-unfolding writes_hazard
-no_writes f = refl
 
 -- so many bytes are written beside live frames
 run_free : (f : Frames) (a : ℕ) (bs : List ℕ) (n : ℕ) → length bs ≡ n → write_hazard f a n ≡ None → writes_hazard f (upwards a bs) ≡ None
@@ -125,7 +121,7 @@ message_clear AsksGroup i s none = record { save = tt; free = record { whole = t
 
 calls_save : (i : Inst) (s : State) → hazard_in s (access_by_name Calls i s) ≡ None → IsSafe s.frames (action_by_name Calls i s).move
 calls_save i s none =
-    ap (save_hazard s.frames) (system_save s.memory s.tables.system_table (value s i.a) s.pc (s.regs FP) (s.regs SP) 0 (call_type s.pc))
+    ap (save_hazard s.frames) (system_save (caller_in s) s.tables.system_table (value s i.a) 0 (call_type s.pc))
     ∙ area_save s _ (system_checks s.memory s.frames s.tables.system_table (value s i.a) s.pc (area_hazard s) none)
 
 name_clear : (op : Op) (i : Inst) (s : State) → hazard_in s (access_by_name op i s) ≡ None → IsClear s (action_by_name op i s)
@@ -207,7 +203,7 @@ unfolding entry_in
 kind_clear limit due stands (Instruction i) s may = let clear = action_clear i s may.2 in record { save = clear.save; free = record { whole = clear.free.whole; free = clear.free.free; controls = clear.free.controls } }
 kind_clear limit due stands (Faulted inst fault) s may = record { save = tt; free = record { whole = tt; free = no_writes s.frames; controls = tt } }
 kind_clear limit due stands (Entered e) s may =
-    entering_clear s e (enters_free_by s.memory s.frames s.tables.fault_table s.tables.system_table may.0 s.pc s.ac (s.regs FP) (s.regs SP) (area_hazard s) e (area_save s) may.2)
+    entering_clear s e (enters_free_by (caller_in s) s.tables.fault_table s.tables.system_table may.0 s.ac (area_hazard s) e (area_save s) may.2)
 kind_clear limit due stands (Interrupted c e) s may = interrupting_clear s c e (interrupts_free s c e may.3)
 kind_clear limit due stands (Reached e u) s may = record { save = tt; free = record { whole = tt; free = received_free s e u may.3; controls = tt } }
 

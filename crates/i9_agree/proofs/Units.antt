@@ -1,7 +1,5 @@
 -- A unit that meets no hazard sees hard bytes alone, and writes beside live frames.
 use Rattle.std.proofs.Common.{◌≡◌, ℕ, zero, suc, ◌+◌, ◌<◌, Bool, true, false, cond, List, [], ◌∷◌, map, Option, Some, None, Result, Ok, Err, refl, sym, ap, ◌∙◌, subst, arith}
-use Rattle.std.specs.Prelude.{not, ◌||◌, ◌==◌}
-use Rattle.i9_isa.specs.Words.{bit}
 use Rattle.i9_model.specs.declared.event.Event.{Event}
 use Rattle.i9_model.specs.declared.event.Event.TheVariants as events
 use Rattle.i9_model.specs.Writes.{wrapped, upwards}
@@ -9,10 +7,11 @@ use Rattle.i9_model.specs.Memory.{Memory}
 use Rattle.i9_model.specs.State.{State, Frames, Dma, Channel}
 use Rattle.i9_model.specs.Frames.{places}
 use Rattle.i9_model.specs.Hazards.{or_else, unless, read_hazard, write_hazard, port_hazard, writes_hazard}
-use Rattle.i9_model.specs.Dma.{Unit, unit_length, is_fit, is_idle, source_hazard, unit_hazard, unit_bytes, unit, next_unit}
+use Rattle.i9_model.specs.Dma.{Unit, unit_length, is_idle, source_hazard, unit_hazard, unit_bytes, unit, next_unit}
 use Rattle.i9_model.specs.Before.{Received, moving_unit, received_by, received_in}
 use Rattle.i9_model.specs.Alike.{is_hard, AgreeWhere, with_other, with_memory}
 use Rattle.i9_model.proofs.CallLaws.{first_none, second_none, unless_ok}
+use Rattle.i9_model.proofs.FitUnits.{busy_fit}
 use Rattle.i9_model.proofs.Runs.{writes_hazard-upwards}
 use Rattle.i9_model.proofs.Readings.{byte_same}
 use Rattle.i9_agree.proofs.AlikeFetches.{unless_same}
@@ -60,15 +59,6 @@ received_same s bytes (events.Show a n) same = refl
 
 -- ---- beside live frames
 
-idle_fit : (d : Dma) (c : ℕ) (given : Option (List ℕ)) → is_idle d c given ≡ false → is_fit (d.channels c) given ≡ true
-idle_fit d c given busy = by_parts (not (bit d.dmac c)) ((d.channels c).count == 0) (is_fit (d.channels c) given) busy
-  where
-    by_parts : (p q r : Bool) → (p || q || not r) ≡ false → r ≡ true
-    by_parts false false true h = refl
-    by_parts false false false h = absurd cc
-    by_parts false true r h = absurd cc
-    by_parts true q r h = absurd cc
-
 -- a unit that is moved is not idle and meets no hazard
 pub unit_moved : (m : Memory) (f : Frames) (d : Dma) (c : ℕ) (given : Option (List ℕ)) (u : Unit) → next_unit m f d c given ≡ Ok (Some u)
     → (is_idle d c given ≡ false) × (unit_hazard f (d.channels c) given ≡ None) × (unit m d c given ≡ u)
@@ -89,7 +79,7 @@ unfolding unit_hazard
 unit_free m f d c given u is =
     let channel = d.channels c in
     let moved = unit_moved m f d c given u is in
-    let long = bytes_long m channel given (idle_fit d c given moved.0) in
+    let long = bytes_long m channel given (busy_fit d c given moved.0) in
     let port = port_hazard channel.target (unit_length channel) in
     let write = write_hazard f channel.target (unit_length channel) in
     let free = first_none write port (second_none (source_hazard f channel given) (or_else write port) moved.1) in
@@ -97,7 +87,7 @@ unit_free m f d c given u is =
     writes_hazard-upwards f channel.target (unit_bytes m channel given) ∙ ap (write_hazard f channel.target) long ∙ free in
     subst (λ (v : Unit). writes_hazard f v.writes ≡ None) moved.2 here
 
-no_writes : (f : Frames) → writes_hazard f [] ≡ None
+pub no_writes : (f : Frames) → writes_hazard f [] ≡ None
 unfolding writes_hazard
 no_writes f = refl
 

@@ -3,6 +3,7 @@ ghost use Rattle.std.specs.Prelude.{◌≡◌, ◌%◌, None, IfOk};
 ghost use Rattle.i9_model.specs.declared.layout.TheConstants.{PC_MASK};
 ghost use Rattle.i9_model.specs.Hazards.{save_hazard};
 ghost use Rattle.i9_model.specs.Calls.{planned_call, planned_calls};
+ghost use Rattle.i9_entry.specs.Callers.{caller_of};
 ghost use Rattle.i9_memory.specs.Memory.{memory_of};
 ghost use Rattle.i9_watch.specs.Watch.{frames_of};
 ghost use Rattle.i9_model.specs.Numbers.{IsWithin};
@@ -39,7 +40,7 @@ pub fn plan_calls(
     fp: u32,
     sp: u32,
 ) -> Result<Sys, CallsStop>
-    ensures sys { result ≡ planned_calls (memory_of m.now) (frames_of w.now) table n pc fp sp }
+    ensures sys { result ≡ planned_calls (caller_of (memory_of m.now) (frames_of w.now) pc fp sp) table n }
 
     // So the frame can be saved there.
     ensures free { IfOk result (λ s. save_hazard (frames_of w.now) s.push.save ≡ None) }

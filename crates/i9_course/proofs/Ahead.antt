@@ -1,7 +1,7 @@
 -- What lies ahead issues no earlier than what has issued, and which faults are imprecise.
 use Rattle.std.proofs.Common.{◌≡◌, ℕ, ◌<◌, ◌≤◌, max, Bool, true, false, cond, ◌&&◌, ltb, List, [], ◌∷◌, Option, Some, None, refl, ap, ◌⊎◌, inl, inr, arith}
 use Rattle.std.specs.Prelude.{IsTrue, not, ◌==◌}
-use Rattle.std.proofs.lemmas.Bool.{le-ltb}
+use Rattle.std.proofs.lemmas.Bool.{le-ltb, and_parts}
 use Rattle.std.proofs.lemmas.Bool.Decides.{nat_tests}
 use Rattle.i9_isa.specs.declared.inst.Inst.{Inst}
 use Rattle.i9_model.specs.declared.faults.TheConstants.{ARITHMETIC}
@@ -59,17 +59,13 @@ some_both : (b : Bool) (o : Option ℕ) (a : ℕ) → cond b o None ≡ Some a �
 some_both true o a h = (refl, h)
 some_both false o a h = absurd (cc h)
 
-both_true : (b c : Bool) → (b && c) ≡ true → (b ≡ true) × (c ≡ true)
-both_true true c h = (refl, h)
-both_true false c h = absurd (cc h)
-
 -- only one of which the last record is, and which is overtaken, within the length
 pub imprecise_overtaken : (g : Given) (h : List Item) (a : ℕ) → (ahead g h).imprecise ≡ Some a
     → ((ahead g h).turn < last_done (course g h).late) × ((state_after g (records_of h)).count < g.length)
 imprecise_overtaken g h a e =
     let s = state_after g (records_of h) in
     let p = some_both (is_overtaken g h) (last_fault (records_of h)) a e in
-    let q = both_true (ltb s.count g.length)
+    let q = and_parts (ltb s.count g.length)
     (ltb (issue_of_next g h (instruction_ahead s)) (last_done (course g h).late)) p.0 in
     let turn : (ahead g h).turn ≡ issue_of_next g h (instruction_ahead s) =
     ap (λ (o : Option ℕ). issue_of_next g h (to_issue g h o)) e in

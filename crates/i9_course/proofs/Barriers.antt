@@ -1,5 +1,5 @@
 -- What passes nothing issues at the turn at which all records are done.
-use Rattle.std.proofs.Common.{◌≡◌, ℕ, ◌<◌, ◌≤◌, Bool, true, false, ◌||◌, List, [], ◌∷◌, Some, None, refl, ◌⊎◌, inl, arith}
+use Rattle.std.proofs.Common.{◌≡◌, ℕ, ◌≤◌, Bool, true, false, ◌||◌, List, [], ◌∷◌, Some, None, refl, ◌⊎◌, inl, arith}
 use Rattle.std.specs.Prelude.{IsTrue}
 use Rattle.std.specs.List.{AllByRecursion}
 use Rattle.i9_model.specs.declared.need.Need.{Need}
@@ -7,28 +7,18 @@ use Rattle.i9_model.specs.declared.need.TimedNeed.{TimedNeed}
 use Rattle.i9_model.specs.State.{State}
 use Rattle.i9_model.specs.HeldFrames.{Cache, sets_in, cache_after}
 use Rattle.i9_model.specs.Run.{Given, Kind, Instruction, Faulted, Entered, Interrupted, Reached, Next, Does, Ends, Record, Finish}
-use Rattle.i9_model.specs.Turns.{Permits, CanIssue, IsTimed, TakesTurns, AreAllDone, last_issue, open_requests, issue_turn, end_turn, waiting_until}
+use Rattle.i9_model.specs.Turns.{Permits, CanIssue, IsTimed, TakesTurns, AreAllDone, last_issue, issue_turn, end_turn, waiting_until}
 use Rattle.i9_model.specs.Needs.{is_barrier_name, writes_sfr}
 use Rattle.i9_model.specs.Late.{Late, turns}
-use Rattle.i9_turns.proofs.TurnDropped.{permits-done}
 use Rattle.i9_turns.proofs.TurnOpen.{timed-take_time}
-use Rattle.i9_turns.proofs.TurnComputed.{open_requests-cons, one-done}
 use Rattle.i9_turns.proofs.TurnWhole.{timed-issues}
+use Rattle.i9_turns.proofs.Barriers.{none_open, all_permit}
 use Rattle.i9_turns.proofs.TurnFences.{all-end, end-least}
 use Rattle.i9_course.specs.NeedOf.{is_early, facts_of, need_of, is_barrier_kind}
 use Rattle.i9_course.specs.Course.{Item, Step, Fence, records_of, course, issue_after, late_after, need_after, issue_of_next, last_done}
-use Rattle.i9_course.proofs.Timed.{course_timed, course_costs}
+use Rattle.i9_course.proofs.Timed.{course_timed, course_costs, first_of}
 
 -- ---- of a list of needs with their turns
-
-none_open : (t : ℕ) (rs : List TimedNeed) → AllByRecursion (λ r. r.done ≤ t) rs → open_requests t rs ≡ 0
-none_open t [] h = refl
-none_open t (r ∷ rs) h = omega (arith, open_requests-cons t r rs, one-done t r h.0, none_open t rs h.1)
-
-all_permit : (n : Need) (t : ℕ) (rs : List TimedNeed) → AllByRecursion (λ r. r.issue < r.done) rs
-    → AllByRecursion (λ r. r.done ≤ t) rs → AllByRecursion (Permits n t) rs
-all_permit n t [] k h = tt
-all_permit n t (r ∷ rs) k h = (permits-done n t r k.0 h.0, all_permit n t rs k.1 h.1)
 
 -- what passes nothing waits for all
 pub waits_for_all : (n : Need) (t : ℕ) (rs : List TimedNeed) → IsTrue n.barrier ⊎ IsTrue n.alone
@@ -122,10 +112,6 @@ next_barrier g h o b = barrier_after g h (need_after g h o) b (next_unbound g h 
 
 -- ---- which do
 
-by_name : (a b c d e f : Bool) → a ≡ true → (a || b || c || d || e || f) ≡ true
-by_name true b c d e f h = refl
-by_name false b c d e f h = absurd (cc h)
-
 by_fault : (a b c d e f : Bool) → (d || a) ≡ true → (a || b || c || d || e || f) ≡ true
 by_fault true b c d e f h = refl
 by_fault false true c d e f h = refl
@@ -136,7 +122,7 @@ by_fault false false false false e f h = absurd (cc h)
 pub kind_barrier : (n : ℕ) (c : Cache) (s : State) (k : Kind) → IsTrue (is_barrier_kind k)
     → IsTrue (need_of n c s k).barrier
 unfolding need_of
-kind_barrier n c s (Instruction i) b = by_name _ _ _ _ _ _ b
+kind_barrier n c s (Instruction i) b = first_of _ _ _ _ _ _ b
 kind_barrier n c s (Faulted None fault) b = refl
 kind_barrier n c s (Faulted (Some i) fault) b =
     let f = facts_of i s 0 (is_early fault) false in

@@ -4,7 +4,7 @@ use Rattle.std.specs.Int.{bit_at}
 use Rattle.i9_model.specs.declared.faults.Entry.{Entry}
 use Rattle.i9_model.specs.declared.interrupts.Chosen.{Chosen}
 use Rattle.i9_model.specs.State.{State}
-use Rattle.i9_model.specs.Step.{moved, acted, entering, faulting, going}
+use Rattle.i9_model.specs.Step.{moved, acted, entering, faulting}
 use Rattle.i9_model.specs.Before.{Received, interrupting, receiving}
 use Rattle.i9_model.specs.HeldFrames.{Cache}
 use Rattle.i9_model.specs.Run.{Kind, Instruction, Faulted, Entered, Interrupted, Reached, faulted_words, after_kind}

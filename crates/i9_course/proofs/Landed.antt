@@ -1,16 +1,15 @@
 -- What has landed at a turn, and in which order it lands.
-use Rattle.std.proofs.Common.{◌≡◌, ℕ, ◌≤◌, true, List, [], ◌∷◌, ◌++◌, sym, ap, ◌∙◌, subst, inl, inr, arith}
+use Rattle.std.proofs.Common.{◌≡◌, ℕ, ◌≤◌, true, List, [], ◌∷◌, sym, ap, ◌∙◌, subst, arith}
 use Rattle.std.specs.List.{AllByRecursion}
-use Rattle.std.proofs.lemmas.Bool.{cases_Bool, and_parts}
 use Rattle.i9_model.specs.Memory.{stored}
 use Rattle.i9_model.specs.HeldFrames.{cache_after}
 use Rattle.i9_model.specs.Run.{Given, Record}
 use Rattle.i9_model.specs.Turns.{end_turn}
-use Rattle.i9_model.specs.Late.{Late, Wait, turns, wait_of, is_waiting, waiting, all_puts, RequestsDone, AllDone}
+use Rattle.i9_model.specs.Late.{Late, Wait, turns, all_puts, RequestsDone, AllDone}
 use Rattle.i9_turns.proofs.TurnFences.{all-end}
 use Rattle.i9_model.proofs.Stored.{stored-none}
-use Rattle.i9_turns.proofs.LateMemories.{waiting-yes, waiting-no, none-wait, all-requests}
-use Rattle.i9_model.proofs.Queues.{AllBefore}
+use Rattle.i9_turns.proofs.LateQueues.{waits-before}
+use Rattle.i9_turns.proofs.LateMemories.{none-wait, all-requests}
 use Rattle.i9_course.specs.Course.{Item, Step, records_of, course, late_after}
 use Rattle.i9_course.specs.Kernel.{Kernel, Lands}
 use Rattle.i9_course.proofs.Settled.{course_settles}
@@ -32,22 +31,6 @@ done_landed g h k lands le =
 
 -- ---- the order in which requests land
 
-all_append : (P : Wait → Type 0) (vs : List Wait) (w : Wait) → AllByRecursion P vs → P w
-    → AllByRecursion P (vs ++ w ∷ [])
-all_append P [] w h p = (p, tt)
-all_append P (v ∷ vs) w h p = (h.0, all_append P vs w h.1 p)
-
--- where the requests are done by a turn, those that wait are due by then
-waits_before : (t d : ℕ) (xs : List Late) → RequestsDone d xs → AllBefore d (waiting t xs)
-waits_before t d [] h = tt
-waits_before t d (x ∷ xs) h =
-    elim (cases_Bool (is_waiting t x)) [
-      | inl w ↦
-          subst (AllByRecursion (λ (v : Wait). v.due ≤ d)) (sym (waiting-yes t x xs w))
-          (all_append (λ v. v.due ≤ d) (waiting t xs) (wait_of x) (waits_before t d xs h.1) (h.0 (and_parts _ _ w).0))
-      | inr n ↦ subst (AllByRecursion (λ (v : Wait). v.due ≤ d)) (sym (waiting-no t x xs n)) (waits_before t d xs h.1)
-    ]
-
 pub request_last : (g : Given) (h : List Item) (r : Record) (k : Kernel) → Lands g h k
     → (late_after g h r).timed.need.request ≡ true
     → AllByRecursion (λ w. w.due ≤ (late_after g h r).timed.done) k.queue
@@ -55,7 +38,7 @@ request_last g h r k lands request =
     let d = (late_after g h r).timed.done in
     let order : RequestsDone d (course g h).late = (course_orderly g (Step r ∷ h)).0.requests request in
     subst (AllByRecursion (λ (w : Wait). w.due ≤ d)) (sym lands.shows.requests)
-    (waits_before k.turn d (course g h).late order)
+    (waits-before k.turn d (course g h).late order)
 
 -- ---- where nothing waits
 

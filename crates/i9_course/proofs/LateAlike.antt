@@ -1,5 +1,5 @@
 -- Which fault is imprecise depends on the records and the length alone: frames that are moved cost turns in barriers.
-use Rattle.std.proofs.Common.{◌≡◌, ℕ, ◌+◌, ◌*◌, ◌≤◌, max, Bool, true, false, cond, ◌&&◌, ◌||◌, List, [], ◌∷◌, Option, Some, None, refl, sym, ap, ◌∙◌, arith}
+use Rattle.std.proofs.Common.{◌≡◌, ℕ, ◌+◌, ◌*◌, ◌≤◌, max, Bool, false, cond, ◌&&◌, List, [], ◌∷◌, Option, Some, None, refl, sym, ap, ◌∙◌, arith}
 use Rattle.std.specs.Prelude.{nat_lt}
 use Rattle.std.specs.List.{AllZip}
 use Rattle.i9_isa.specs.declared.op.Op.{Op}
@@ -14,6 +14,7 @@ use Rattle.i9_model.specs.Run.{Given, Kind, Instruction, Faulted, Entered, Inter
 use Rattle.i9_model.specs.Turns.{HaveCosts, IsAlike, last_issue, issue_turn, waiting_until, with_need, timed}
 use Rattle.i9_model.specs.Needs.{has_access, moves_frames, is_barrier_name, writes_sfr, is_calm, cost_by, inst_need}
 use Rattle.i9_model.specs.Late.{Late, turns}
+use Rattle.i9_turns.proofs.NeedLaws.{first_false}
 use Rattle.i9_turns.proofs.TurnAlike.{alike-overtakes}
 use Rattle.i9_course.specs.NeedOf.{facts_of, need_of, record_need, need_ahead}
 use Rattle.i9_course.specs.Course.{records_of, course, instruction_ahead, late_fault, last_done, is_overtaken, imprecise_at}
@@ -37,10 +38,6 @@ cost_same op waits a b h =
     let rest = latency_of op + cond (has_access op) waits 0 in
     ap (λ (m : Bool). rest + 16 * cond m a 0) (unmoved op h)
     ∙ sym (ap (λ (m : Bool). rest + 16 * cond m b 0) (unmoved op h))
-
-first_false : (a b c d e f : Bool) → (a || b || c || d || e || f) ≡ false → a ≡ false
-first_false false b c d e f h = refl
-first_false true b c d e f h = absurd (cc h)
 
 -- an instruction that moves so many frames
 frames_alike : (i : Inst) (s : State) (a b : ℕ) (fault trace : Bool)

@@ -1,6 +1,6 @@
 -- What a record does, by what its need says: what is no barrier keeps frames and controls, and leaves the check flag
 -- clear, and what is no request besides writes no memory.
-use Rattle.std.proofs.Common.{◌≡◌, ℕ, Bool, true, false, ◌&&◌, ◌||◌, [], Option, Some, None, refl, sym, ◌∙◌, ◌⊎◌, inl, inr}
+use Rattle.std.proofs.Common.{◌≡◌, ℕ, Bool, true, false, ◌&&◌, [], Option, Some, None, refl, sym, ◌∙◌, ◌⊎◌, inl, inr}
 use Rattle.std.specs.Prelude.{is_some}
 use Rattle.i9_isa.specs.declared.op.Op.{Op}
 use Rattle.i9_isa.specs.declared.op.Op.TheVariants.{Ret, Modpc, Sysctl}
@@ -16,7 +16,7 @@ use Rattle.i9_model.specs.Controls.{KeepsControls}
 use Rattle.i9_model.specs.Step.{Stays, moving, action_by_name, action_by, action_of}
 use Rattle.i9_model.specs.Run.{Kind, Instruction, Faulted, Entered, Interrupted, Reached, action_by_kind}
 use Rattle.i9_model.specs.Needs.{is_request_name, is_barrier_name}
-use Rattle.i9_turns.proofs.NeedLaws.{quiet}
+use Rattle.i9_turns.proofs.NeedLaws.{first_false, quiet}
 use Rattle.i9_course.specs.NeedOf.{need_of}
 
 -- ---- an instruction
@@ -62,10 +62,6 @@ request_keeps i s q = by_transfer (transfer_of i.op) q
 
 -- ---- by the kind
 
-no_name : (a b c d e f : Bool) → (a || b || c || d || e || f) ≡ false → a ≡ false
-no_name false b c d e f h = refl
-no_name true b c d e f h = absurd (cc h)
-
 calm_request : (b : Bool) → (b && true) ≡ b
 calm_request true = refl
 calm_request false = refl
@@ -76,7 +72,7 @@ pub need_still : (n : ℕ) (c : Cache) (s : State) (k : Kind) → (need_of n c s
     × ((action_by_kind k s).control ≡ KeepsControls)
 unfolding need_of
 need_still n c s (Instruction i) q b =
-    let other : is_barrier_name i.op ≡ false = no_name (is_barrier_name i.op) _ _ _ _ _ b in
+    let other : is_barrier_name i.op ≡ false = first_false (is_barrier_name i.op) _ _ _ _ _ b in
     let none = quiet i s (sym (calm_request (is_request_name i.op)) ∙ q) other in
     (none.0, none.1, (instruction_keeps i s other).0)
 need_still n c s (Faulted None fault) q b = (refl, refl, refl)

@@ -54,7 +54,7 @@ course_fenced g (Step r ∷ h) =
 no_puts : (n : ℕ) (c : Cache) (a : Action) → a.writes ≡ [] → a.move ≡ Stays → puts_of n c a ≡ []
 no_puts n c a none stays = ap (λ (v : Move). move_writes n c v ++ a.writes) stays ∙ none
 
-first_of : (a b c d e f : Bool) → a ≡ true → (a || b || c || d || e || f) ≡ true
+pub first_of : (a b c d e f : Bool) → a ≡ true → (a || b || c || d || e || f) ≡ true
 first_of true b c d e f h = refl
 first_of false b c d e f h = absurd (cc h)
 

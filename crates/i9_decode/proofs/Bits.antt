@@ -1,7 +1,7 @@
 -- Words by their fields and by their bits.
-use Rattle.std.proofs.Common.{◌≡◌, ℕ, suc, zero, ◌+◌, ◌-◌, ◌/◌, ◌%◌, ◌^◌, ◌<◌, ◌≤◌, Bool, true, false, not, ◌&&◌, ◌||◌, refl, sym, ap, ◌∙◌, arith, cond, ltb, leb, eqb, List, [], ◌∷◌, inl, inr, ◌⊎◌}
+use Rattle.std.proofs.Common.{◌≡◌, ℕ, suc, zero, ◌+◌, ◌-◌, ◌/◌, ◌%◌, ◌^◌, ◌<◌, ◌≤◌, Bool, true, false, not, ◌&&◌, ◌||◌, refl, sym, ap, ◌∙◌, arith, cond, ltb, leb, eqb, List, [], ◌∷◌, inl, inr}
 use Rattle.std.specs.Int.{bit_at}
-use Rattle.std.proofs.lemmas.Bool.{and_parts, ltb-true, leb-true, eqb-true, cases_eq}
+use Rattle.std.proofs.lemmas.Bool.{and_parts, ltb-true, leb-true, eqb-true, cases_eq, or_cases}
 use Rattle.std.proofs.lemmas.Bool.Decides.{nat_tests}
 use Rattle.std.proofs.lemmas.Nat.{field_of, shr-shr, pow_pos, mod_below}
 use Rattle.std.proofs.Math.Pow.{mod-mod-pow}
@@ -88,10 +88,6 @@ splits s fs (suc k) = cond (eqb (bit_at s k) 0) (is_in true k fs) (is_in false k
 -- the bits of s are exactly those of the fields that don't count
 abbrev pub is_exact : ℕ → List Field → Bool
 is_exact s fs = free_of s fs && splits s fs 32
-
-or_cases : (a b : Bool) → (a || b) ≡ true → (a ≡ true) ⊎ (b ≡ true)
-or_cases true b h = inl refl
-or_cases false b h = inr h
 
 counted : (b : Bool) → cond b true false ≡ true → b ≡ true
 counted true h = refl

@@ -1,10 +1,7 @@
 -- The ignored bits of every format: changing them keeps the instruction, and nothing else does.
-use Rattle.std.proofs.Common.{◌≡◌, ℕ, ◌+◌, Bool, true, false, cond, refl}
+use Rattle.std.proofs.Common.{◌≡◌, ℕ, refl}
 use Rattle.i9_isa.specs.declared.inst.Inst.{Inst}
-use Rattle.i9_isa.specs.declared.inst.Mode.{Mode}
-use Rattle.i9_isa.specs.declared.inst.Mode.TheVariants.{Offset}
 use Rattle.i9_isa.specs.declared.format.Format.{Format}
-use Rattle.i9_isa.specs.Operands.{has_base, has_index, has_offset}
 use Rattle.i9_isa.specs.Table.{row_of}
 use Rattle.i9_isa.specs.Words.{Encodes}
 use Rattle.i9_decode.specs.Ignored.{is_used, fields_of, reg_fields, cobr_fields, ctrl_fields, mem_fields, ignored_in, ignored_bits, SameOutside}

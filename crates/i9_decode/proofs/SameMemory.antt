@@ -92,7 +92,7 @@ mode_bits m w v x y = by (has_offset m) refl
 
 -- ---- addresses
 
-taken : (b : Bool) (x y : Ea) → cond b (Some x) None ≡ Some y → x ≡ y
+pub taken : (b : Bool) (x y : Ea) → cond b (Some x) None ≡ Some y → x ≡ y
 taken true x y h = cc
 taken false x y h = absurd (cc)
 

@@ -1,6 +1,6 @@
 -- The tables of names against the rows.
 use Rattle.std.proofs.Common.{◌≡◌, ℕ, suc, zero, ◌+◌, ◌-◌, ◌*◌, ◌/◌, ◌%◌, ◌<◌, ◌≤◌, Bool, true, false, not, cond, eqb, ltb, ◌&&◌, List, [], ◌∷◌, Option, Some, None, find, get_or, refl, sym, ap, ◌∙◌, arith, add-zero, zero-add}
-use Rattle.std.proofs.lemmas.Bool.{and_parts, eqb-true, ltb-false}
+use Rattle.std.proofs.lemmas.Bool.{and_parts, eqb-true, ltb-false, not-true}
 use Rattle.i9_isa.specs.declared.op.Op.{Op}
 use Rattle.i9_isa.specs.declared.op.Op.TheVariants.{Notbit}
 use Rattle.i9_isa.specs.declared.format.Format.{Format}
@@ -85,15 +85,11 @@ record At (o e : ℕ) (op : Op) : Type 0 where
   opcode : (row_of op).opcode ≡ o
   extension : (row_of op).extension ≡ extension_of (row_of op).format e
 
-is_clear : (b : Bool) → not b ≡ true → b ≡ false
-is_clear true h = cc
-is_clear false h = refl
-
 alone_tells : (first k o e : ℕ) (op : Op) → first + k ≡ o → fits_alone first k (Some op) ≡ true → At o e op
 alone_tells first k o e op is t =
     let p = and_parts (eqb (row_of op).opcode (first + k)) (eqb (row_of op).extension 0 && not (is_reg (row_of op).format)) t in
     let q = and_parts (eqb (row_of op).extension 0) (not (is_reg (row_of op).format)) p.1 in
-    record { opcode = eqb-true _ _ p.0 ∙ is; extension = eqb-true (row_of op).extension 0 q.0 ∙ sym (other_extension (row_of op).format e (is_clear _ q.1)) }
+    record { opcode = eqb-true _ _ p.0 ∙ is; extension = eqb-true (row_of op).extension 0 q.0 ∙ sym (other_extension (row_of op).format e (not-true _ q.1)) }
 
 group_tells : (k o e : ℕ) (op : Op) → 0x58 + k / 16 ≡ o → k % 16 ≡ e → fits_group k (Some op) ≡ true → At o e op
 group_tells k o e op io ie t =

@@ -1,22 +1,15 @@
 -- A unit that is planned is the next one.
-use Rattle.std.proofs.Common.{◌≡◌, ℕ, Bool, true, false, List, length, Option, Some, None, Result, Ok, Err, refl, sym, ap, ◌∙◌, arith}
-use Rattle.std.specs.Prelude.{not, ◌||◌, ◌&&◌, ◌==◌, if◌then◌else◌}
-use Rattle.i9_isa.specs.Words.{bit}
+use Rattle.std.proofs.Common.{◌≡◌, ℕ, Bool, true, false, List, length, Option, Some, None, Result, Ok, Err, refl, sym, ap, ◌∙◌}
+use Rattle.std.specs.Prelude.{◌&&◌, if◌then◌else◌}
+use Rattle.i9_model.proofs.FitUnits.{busy_fit}
 use Rattle.i9_model.specs.Writes.{upwards}
 use Rattle.i9_model.specs.Memory.{Memory}
 use Rattle.i9_model.specs.State.{Frames, Dma, Channel}
 use Rattle.i9_model.specs.Hazards.{unless}
-use Rattle.i9_model.specs.Dma.{Unit, unit_length, is_fit, is_idle, unit_hazard, unit_bytes, dma_behind, is_last, posts_at_end, next_unit}
+use Rattle.i9_model.specs.Dma.{Unit, unit_length, is_idle, unit_hazard, unit_bytes, dma_behind, is_last, posts_at_end, next_unit}
 use Rattle.i9_model.proofs.CallLaws.{unless_ok}
 use Rattle.i9_model.proofs.Lengths.{bytes_long}
 use Rattle.i9_dma.specs.Units.{planned_bytes}
-
--- where something moves, the bytes come from where the control word says
-pub busy_fit : (d : Dma) (c : ℕ) (given : Option (List ℕ)) → is_idle d c given ≡ false → is_fit (d.channels c) given ≡ true
-busy_fit d c given busy = by_parts (not (bit d.dmac c)) ((d.channels c).count == 0) (is_fit (d.channels c) given) busy
-  where
-    by_parts : (p q r : Bool) → (p || q || not r) ≡ false → r ≡ true
-    by_parts p q r h = grind (arith, h)
 
 module _ (d : Dma) (c : ℕ) where
   -- a channel's unit of these bytes

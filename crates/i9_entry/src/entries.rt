@@ -9,6 +9,7 @@ ghost use Rattle.i9_model.specs.Calls.{planned_system};
 ghost use Rattle.i9_memory.specs.Memory.{memory_of};
 ghost use Rattle.i9_watch.specs.Watch.{frames_of};
 ghost use Rattle.i9_model.specs.Numbers.{IsWithin};
+ghost use Rattle.i9_entry.specs.Callers.{caller_of};
 ghost use Rattle.i9_entry.specs.Kinds.{kind_by};
 ghost use Rattle.i9_entry.specs.Switches.{system_switch};
 
@@ -147,7 +148,7 @@ pub fn enter_system(
     requires extra { (extra ≡ 0) ⊎ (extra ≡ 16) }
     requires here { kind_here < 8 }
     requires switched { kind_switched < 8 }
-    ensures sys { result ≡ planned_system (memory_of m.now) (frames_of w.now) table n pc fp sp extra
+    ensures sys { result ≡ planned_system (caller_of (memory_of m.now) (frames_of w.now) pc fp sp) table n extra
         (kind_by kind_here kind_switched) }
 
     // So the frame can be saved there.

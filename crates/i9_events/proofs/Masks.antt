@@ -6,7 +6,8 @@ use Rattle.std.specs.Int.{bit_at}
 use Rattle.std.specs.Int.Bits.{or_zero_l, or_zero_r}
 use Rattle.std.proofs.lemmas.Bool.Decides.{nat_tests}
 use Rattle.std.proofs.lemmas.Nat.{and_comm, and_le_r, le_or_l, or_lt, or_block, pow-add, pow_below, pow_pos}
-use Rattle.std.proofs.lemmas.Nat.Bits.{bit_at_and, bit_at_or, bit_at-lt, and_pow, same_from_bits}
+use Rattle.std.proofs.lemmas.Nat.Bits.{bit_at_or, bit_at-lt, and_pow, same_from_bits}
+use Rattle.i9_model.proofs.KeptBits.{and_or}
 use Rattle.i9_isa.specs.Words.{bit}
 use Rattle.i9_model.specs.Tracing.{with_bits}
 
@@ -30,15 +31,6 @@ or_pairs a x b y = same_from_bits (bit_or (bit_or a x) (bit_or b y)) (bit_or (bi
     let t = bit_at_or a b k in
     let u = bit_at_or x y k in
     omega (arith, p, q, r, s, t, u))
-
-and_or : (a x t : ℕ) → bit_and (bit_or a x) t ≡ bit_or (bit_and a t) (bit_and x t)
-and_or a x t = same_from_bits (bit_and (bit_or a x) t) (bit_or (bit_and a t) (bit_and x t)) (λ k.
-    let p = bit_at_and (bit_or a x) t k in
-    let q = bit_at_or a x k in
-    let r = bit_at_or (bit_and a t) (bit_and x t) k in
-    let s = bit_at_and a t k in
-    let u = bit_at_and x t k in
-    omega (arith, p, q, r, s, u))
 
 -- ---- one bit
 

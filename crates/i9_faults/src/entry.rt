@@ -6,6 +6,7 @@ ghost use Rattle.i9_model.specs.Faults.{without_trace, fault_record, table_entry
 ghost use Rattle.i9_model.specs.Hazards.{record_write_hazard};
 ghost use Rattle.i9_memory.specs.Memory.{memory_of};
 ghost use Rattle.i9_watch.specs.Watch.{frames_of};
+ghost use Rattle.i9_entry.specs.Callers.{caller_of};
 ghost use Rattle.i9_faults.specs.Switches.{handler_switch, fault_switch};
 
 use crate::handlers::plan_handler;
@@ -27,7 +28,7 @@ fn enter_handler(
     fp: u32,
     sp: u32,
 ) -> Result<Sys, u32>
-    ensures sys { result ≡ planned_frame (memory_of m.now) (frames_of w.now) system pc fp sp
+    ensures sys { result ≡ planned_frame (caller_of (memory_of m.now) (frames_of w.now) pc fp sp) system
         (save_area (frames_of w.now) fp) handler }
     ensures free { IfOk result (λ s. save_hazard (frames_of w.now) s.push.save ≡ None) }
     ensures aligned { IfOk result (λ s. s.push.save % 16 ≡ 0) }
@@ -131,7 +132,8 @@ pub fn plan_fault(
     fp: u32,
     sp: u32,
 ) -> Result<Entry, FaultStop>
-    ensures entry { result ≡ planned_fault (memory_of m.now) (frames_of w.now) table system f.now pc ac fp sp }
+    ensures entry { result
+        ≡ planned_fault (caller_of (memory_of m.now) (frames_of w.now) pc fp sp) table system f.now ac }
 
     // So the frame can be saved there.
     ensures free { IfOk result (λ e. save_hazard (frames_of w.now) e.push.save ≡ None) }

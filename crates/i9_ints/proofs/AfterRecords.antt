@@ -1,7 +1,10 @@
 -- A byte once a frame is saved and a record is written.
-use Rattle.std.proofs.Common.{◌≡◌, ℕ, zero, suc, ◌+◌, ◌-◌, ◌*◌, ◌%◌, ◌^◌, ◌<◌, ◌≤◌, Bool, true, false, List, length, get_or, Option, Some, None, refl, sym, ap, ◌∙◌, inl, nat_lt, arith}
+use Rattle.std.proofs.Common.{◌≡◌, ℕ, ◌+◌, ◌-◌, ◌*◌, ◌%◌, ◌^◌, ◌<◌, ◌≤◌, Bool, true, false, List, length, get_or, Option, Some, None, sym, ap, ◌∙◌, inl, nat_lt, arith}
 use Rattle.std.specs.Prelude.{not, ◌&&◌, ◌||◌, if◌then◌else◌}
-use Rattle.std.proofs.lemmas.Bool.Decides.{nat_tests}
+use Rattle.std.proofs.lemmas.Bool.{le-ltb, lt-ltb}
+use Rattle.i9_model.proofs.Among.{in_bytes-has}
+use Rattle.i9_model.proofs.FrameLaws.{least-none}
+use Rattle.i9_model.proofs.CallLaws.{second_none}
 use Rattle.i9_model.specs.declared.layout.TheConstants.{FRAME_SIZE, RECORD_SIZE}
 use Rattle.i9_model.specs.declared.push.Push.{Push}
 use Rattle.i9_model.specs.declared.interrupts.Cause.{Cause}
@@ -19,10 +22,6 @@ use Rattle.i9_model.proofs.Storing.{stored_kept, words_as_bytes}
 use Rattle.i9_model.proofs.FrameBytes.{stored_at, byte_of_words}
 use Rattle.i9_ints.specs.After.{memory_after, frames_after}
 
-found_none : (b : Bool) (x : ℕ) (later : Option ℕ) → (if b then Some x else later) ≡ None → (b ≡ false) × (later ≡ None)
-found_none true x later e = absurd (cc)
-found_none false x later e = (refl, e)
-
 and_none : (b : Bool) → (b && not true) ≡ false
 and_none b = grind arith
 
@@ -31,13 +30,7 @@ and_all b = grind arith
 
 -- where a test finds nothing, it passes nowhere
 least_none : (p : ℕ → Bool) (a n k : ℕ) → least p a n ≡ None → k < n → p (wrapped (a + k)) ≡ false
-least_none p a zero k none few = absurd (omega arith)
-least_none p a (suc n) zero none few =
-    let start : a + 0 ≡ a = omega arith in
-    ap (λ (x : ℕ). p (wrapped x)) start ∙ (found_none (p (wrapped a)) (wrapped a) (least p (a + 1) n) none).0
-least_none p a (suc n) (suc k) none few =
-    let next : a + suc k ≡ a + 1 + k = omega arith in
-    ap (λ (x : ℕ). p (wrapped x)) next ∙ least_none p (a + 1) n k (found_none (p (wrapped a)) (wrapped a) (least p (a + 1) n) none).1 (omega arith)
+least_none p a n k none few = least-none p a n (wrapped (a + k)) none (in_bytes-has a n k few)
 
 -- how far a byte lies above an address
 abbrev above : ℕ → ℕ → ℕ
@@ -45,12 +38,6 @@ above a x = (x + (2 ^ 32 - a)) % 2 ^ 32
 
 at_place : (a x k : ℕ) → a < 2 ^ 32 → x < 2 ^ 32 → above a x ≡ k → x ≡ wrapped (a + k)
 at_place a x k h l e = omega arith
-
-pub is_less : (n k : ℕ) → n < k → nat_lt n k ≡ true
-is_less n k h = grind (arith, nat_tests)
-
-is_not_less : (n k : ℕ) → k ≤ n → nat_lt n k ≡ false
-is_not_less n k h = grind (arith, nat_tests)
 
 module _ (m : Memory) (f : Frames) (push : Push) (words : List ℕ) (x : ℕ) (four : length words ≡ 4) (small : x < 2 ^ 32) where
   abbrev place : ℕ
@@ -70,19 +57,19 @@ module _ (m : Memory) (f : Frames) (push : Push) (words : List ℕ) (x : ℕ) (f
 
   pub soft_in_record : above place x < RECORD_SIZE → (frames_after m f push words).soft x ≡ false
   soft_in_record near =
-      ap (λ (b : Bool). (in_bytes push.save FRAME_SIZE x || f.soft x) && not b) (put_is ∙ is_less (above place x) RECORD_SIZE near)
+      ap (λ (b : Bool). (in_bytes push.save FRAME_SIZE x || f.soft x) && not b) (put_is ∙ lt-ltb (above place x) RECORD_SIZE near)
       ∙ and_none (in_bytes push.save FRAME_SIZE x || f.soft x)
 
   soft_beside : RECORD_SIZE ≤ above place x → (frames_after m f push words).soft x ≡ (in_bytes push.save FRAME_SIZE x || f.soft x)
   soft_beside far =
-      ap (λ (b : Bool). (in_bytes push.save FRAME_SIZE x || f.soft x) && not b) (put_is ∙ is_not_less (above place x) RECORD_SIZE far)
+      ap (λ (b : Bool). (in_bytes push.save FRAME_SIZE x || f.soft x) && not b) (put_is ∙ le-ltb (above place x) RECORD_SIZE far)
       ∙ and_all (in_bytes push.save FRAME_SIZE x || f.soft x)
 
   saved_in : push.save < 2 ^ 32 → above push.save x < FRAME_SIZE → in_bytes push.save FRAME_SIZE x ≡ true
-  saved_in h near = in_bytes-above push.save FRAME_SIZE x h small (omega arith) ∙ is_less (above push.save x) FRAME_SIZE near
+  saved_in h near = in_bytes-above push.save FRAME_SIZE x h small (omega arith) ∙ lt-ltb (above push.save x) FRAME_SIZE near
 
   saved_out : push.save < 2 ^ 32 → FRAME_SIZE ≤ above push.save x → in_bytes push.save FRAME_SIZE x ≡ false
-  saved_out h far = in_bytes-above push.save FRAME_SIZE x h small (omega arith) ∙ is_not_less (above push.save x) FRAME_SIZE far
+  saved_out h far = in_bytes-above push.save FRAME_SIZE x h small (omega arith) ∙ le-ltb (above push.save x) FRAME_SIZE far
 
   pub soft_in_frame : push.save < 2 ^ 32 → RECORD_SIZE ≤ above place x → above push.save x < FRAME_SIZE → (frames_after m f push words).soft x ≡ true
   soft_in_frame h far near = soft_beside far ∙ ap (λ (b : Bool). b || f.soft x) (saved_in h near)
@@ -93,7 +80,7 @@ module _ (m : Memory) (f : Frames) (push : Push) (words : List ℕ) (x : ℕ) (f
   -- ---- bytes
 
   pub byte_beside : RECORD_SIZE ≤ above place x → (memory_after m push words).bytes x ≡ m.bytes x
-  byte_beside far = stored_kept m.bytes (record_writes m push words) x (inl (put_is ∙ is_not_less (above place x) RECORD_SIZE far))
+  byte_beside far = stored_kept m.bytes (record_writes m push words) x (inl (put_is ∙ le-ltb (above place x) RECORD_SIZE far))
 
   pub byte_within : (i j : ℕ) → above place x ≡ 4 * i + j → i < 4 → j < 4 → port_hazard place RECORD_SIZE ≡ None
       → (memory_after m push words).bytes x ≡ get_or (word_bytes m (wrapped (place + 4 * i)) (get_or words i 0)) j 0
@@ -150,13 +137,9 @@ module _ (m : Memory) (f : Frames) (table v : ℕ) where
       ∙ ap (λ (o : Option ℕ). or_else o rest) (read_one (pending_place table v) false (omega arith) d)
 
 -- where the record can be written, it has no byte of the port page
-port_free : (write port : Option ℕ) → or_else write port ≡ None → port ≡ None
-port_free None port e = e
-port_free (Some a) port e = absurd (cc)
-
 pub record_free : (f : Frames) (push : Push) → record_write_hazard f push ≡ None → port_hazard (record_address push.frame) RECORD_SIZE ≡ None
 unfolding record_write_hazard
-record_free f push e = port_free (write_hazard (saved f push.save) (record_address push.frame) RECORD_SIZE) (port_hazard (record_address push.frame) RECORD_SIZE) e
+record_free f push e = second_none (write_hazard (saved f push.save) (record_address push.frame) RECORD_SIZE) (port_hazard (record_address push.frame) RECORD_SIZE) e
 
 -- ---- what was planned for later
 

@@ -4,7 +4,7 @@ use Rattle.std.proofs.Common.{◌≡◌, ℕ, ◌+◌, ◌*◌, ◌<◌, ◌≤�
 use Rattle.std.specs.Prelude.{find, flat_map, nat_le, nat_lt, bit_and, ◌==◌, ◌&&◌, if◌then◌else◌}
 use Rattle.std.specs.Int.{bit_at}
 use Rattle.std.specs.List.{range_with_len}
-use Rattle.std.proofs.lemmas.Bool.{eqb-true, eq-eqb, le-leb, leb-true, ltb-true, ltb-false, and_parts, both_ways}
+use Rattle.std.proofs.lemmas.Bool.{eqb-true, eq-eqb, le-leb, leb-true, ltb-true, ltb-false, and_parts, both_ways, false_from_ne_true}
 use Rattle.std.proofs.lemmas.Bool.Decides.{nat_tests}
 use Rattle.std.proofs.lemmas.Nat.Bits.{bit_at_and, bit_at-zero}
 use Rattle.i9_isa.specs.Words.{bit}
@@ -15,10 +15,6 @@ use Rattle.i9_model.specs.State.{Interrupts}
 use Rattle.i9_model.specs.Interrupts.{pending_word, vector_priority, line_vector, passes, is_open, choice, lines_with, vectors_of, choices_at, choices, is_asked, chosen_of}
 use Rattle.i9_ints.specs.Best.{is_let_in, is_ready, IsBest, IsBestLine, IsTop, IsGreatest, is_wanted, preferred}
 use Rattle.i9_ints.proofs.Firsts.{first_some, first_none, tested_some, tested_none, parts_none, parts_some, below_none, below_some, each_none, each_some, filtered}
-
-false_if : (b : Bool) → (b ≡ true → ⊥) → b ≡ false
-false_if true h = absurd (h refl)
-false_if false h = refl
 
 -- a choice that is asked for and let in
 abbrev counts : Interrupts → (ℕ → Bool) → ℕ → Chosen → Bool
@@ -73,8 +69,8 @@ module _ (s : Interrupts) (soft : ℕ → Bool) (pc : ℕ) where
       let v = line_vector s.maps k in
       let big : 8 ≤ v = ready_big k best.ready in
       below_some (counts s soft pc) (lines_with s.maps) (8 * vector_priority v + 8) 8 v (choice (Line k) v) (omega arith) (omega arith)
-      (lines_some k v big best.within refl best.ready (λ j low e. false_if (is_ready s pc j) (λ t. let less = best.none_lower j low t in omega arith)))
-      (λ u low high. lines_none u (omega arith) (λ j few e. false_if (is_ready s pc j) (λ t. let least = best.none_greater j few t in omega arith)))
+      (lines_some k v big best.within refl best.ready (λ j low e. false_from_ne_true (is_ready s pc j) (λ t. let less = best.none_lower j low t in omega arith)))
+      (λ u low high. lines_none u (omega arith) (λ j few e. false_from_ne_true (is_ready s pc j) (λ t. let least = best.none_greater j few t in omega arith)))
 
   soft_none : (p : ℕ) → 1 ≤ p → ((v : ℕ) → 8 * p ≤ v → v < 8 * p + 8 → is_wanted soft pc v ≡ false) → find (counts s soft pc) (map (choice Soft) (vectors_of p)) ≡ None
   soft_none p first none =
@@ -109,7 +105,7 @@ module _ (s : Interrupts) (soft : ℕ → Bool) (pc : ℕ) where
       below_some (counts s soft pc) (choices_at s.maps) (HIGHEST_PRIORITY + 1) HIGHEST_PRIORITY (vector_priority v) (choice (Line k) v) (omega arith) (omega arith)
       (first_some (counts s soft pc) (flat_map (lines_with s.maps) (vectors_of (vector_priority v))) (map (choice Soft) (vectors_of (vector_priority v))) (choice (Line k) v) (hard_some k best))
       (λ p low high. both_none p (omega arith)
-      (λ j few e. false_if (is_ready s pc j) (λ t. let least = best.none_greater j few t in omega arith))
+      (λ j few e. false_from_ne_true (is_ready s pc j) (λ t. let least = best.none_greater j few t in omega arith))
       (λ u l h. none u (omega arith) (omega arith)))
 
   soft_chosen : (v : ℕ) → IsTop (is_wanted soft pc) 8 256 v → ((k : ℕ) → k < LINES → is_ready s pc k ≡ true → vector_priority (line_vector s.maps k) < vector_priority v)
@@ -120,10 +116,10 @@ module _ (s : Interrupts) (soft : ℕ → Bool) (pc : ℕ) where
       let p = vector_priority v in
       below_some (counts s soft pc) (choices_at s.maps) (HIGHEST_PRIORITY + 1) HIGHEST_PRIORITY p (choice Soft v) (omega arith) (omega arith)
       (first_none (counts s soft pc) (flat_map (lines_with s.maps) (vectors_of p)) (map (choice Soft) (vectors_of p))
-      (hard_none p (omega arith) (λ k few e. false_if (is_ready s pc k) (λ t. let less = lower k few t in omega arith)))
+      (hard_none p (omega arith) (λ k few e. false_from_ne_true (is_ready s pc k) (λ t. let less = lower k few t in omega arith)))
       ∙ soft_some v top)
       (λ q l h. both_none q (omega arith)
-      (λ k few e. false_if (is_ready s pc k) (λ t. let less = lower k few t in omega arith))
+      (λ k few e. false_from_ne_true (is_ready s pc k) (λ t. let less = lower k few t in omega arith))
       (λ u m n. top.none_greater u (omega arith) (omega arith)))
 
   -- ---- the two bests

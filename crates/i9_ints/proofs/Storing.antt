@@ -1,9 +1,10 @@
 -- Bytes of the interrupt table that are stored, one after the other.
-use Rattle.std.proofs.Common.{◌≡◌, ◌⊎◌, inl, inr, ℕ, ◌+◌, ◌/◌, ◌%◌, ◌^◌, ◌<◌, Bool, false, List, [], ◌∷◌, ◌++◌, get_or, Option, Ok, refl, sym, ap, ◌∙◌, subst, arith}
+use Rattle.std.proofs.Common.{◌≡◌, ◌⊎◌, inl, inr, ℕ, ◌+◌, ◌/◌, ◌%◌, ◌^◌, ◌<◌, Bool, false, List, [], ◌∷◌, ◌++◌, get_or, Option, Ok, sym, ap, ◌∙◌, subst, arith}
 use Rattle.std.specs.Prelude.{not, ◌==◌, ◌&&◌, ◌||◌, if◌then◌else◌}
 use Rattle.std.proofs.lemmas.Bool.{eq-eqb, ne_eqb}
+use Rattle.i9_model.proofs.Upwards.{one_write}
 use Rattle.i9_model.specs.declared.interrupts.TheConstants.{PENDING_SIZE, PENDING_VECTORS}
-use Rattle.i9_model.specs.Writes.{wrapped, upwards, written}
+use Rattle.i9_model.specs.Writes.{wrapped}
 use Rattle.i9_model.specs.Memory.{Memory, with_writes, with_bytes}
 use Rattle.i9_model.specs.State.{Frames}
 use Rattle.i9_model.specs.Frames.{is_put, wrote, wrote_run}
@@ -17,9 +18,6 @@ use Rattle.i9_model.proofs.Runs.{wrote-upwards}
 use Rattle.i9_model.proofs.Stored.{stored-cons}
 use Rattle.i9_memory.specs.declared.memory.Memory.{Memory as Kept}
 use Rattle.i9_memory.specs.Memory.{IsReserved, HasRoom, KeepsRoom}
-
-one_write : (a v : ℕ) → a < 2 ^ 32 → upwards a (v ∷ []) ≡ (a, v) ∷ []
-one_write a v h = let same : wrapped a ≡ a = omega arith in ap (λ (x : ℕ). (x, v) ∷ []) same
 
 -- a byte is stored
 pub store_memory : (m n : Memory) (a v : ℕ) → a < 2 ^ 32 → n ≡ with_bytes m a (v ∷ []) → n ≡ with_writes m ((a, v) ∷ [])
@@ -58,10 +56,6 @@ pub room_kept : (m n : Kept) (a : ℕ) → HasRoom m a 1 → KeepsRoom m n → H
 room_kept m n a room keeps = λ k h. keeps (wrapped (a + k)) (room k h)
 
 -- ---- no bytes
-
-pub no_memory_writes : (m : Memory) → m ≡ with_writes m []
-unfolding written
-no_memory_writes m = refl
 
 pub no_frame_writes : (f : Frames) → f ≡ wrote f []
 no_frame_writes f = sym (none_wrote f)

@@ -5,6 +5,7 @@ ghost use Rattle.i9_model.specs.Interrupts.{vector_place, base_for, interrupt_pc
 ghost use Rattle.i9_model.specs.Interrupts.{planned_interrupt};
 ghost use Rattle.i9_memory.specs.Memory.{memory_of};
 ghost use Rattle.i9_watch.specs.Watch.{frames_of};
+ghost use Rattle.i9_entry.specs.Callers.{caller_of};
 ghost use Rattle.i9_ints.specs.After.{memory_after, frames_after};
 
 use crate::after::cleared_hazard;
@@ -78,7 +79,8 @@ impl Ints {
         fp: u32,
         sp: u32,
     ) -> Result<IntEntry, u32>
-        ensures entry { result ≡ planned_interrupt (memory_of m.now) (frames_of w.now) table stack c.now pc ac fp sp }
+        ensures entry { result
+            ≡ planned_interrupt (caller_of (memory_of m.now) (frames_of w.now) pc fp sp) table stack c.now ac }
 
         // So the frame can be saved there.
         ensures free { IfOk result (λ e. save_hazard (frames_of w.now) e.push.save ≡ None) }

@@ -21,7 +21,7 @@ use Rattle.i9_model.specs.State.{State, Frames}
 use Rattle.i9_model.specs.Hazards.{or_else, unless, read_hazard, record_write_hazard}
 use Rattle.i9_model.specs.Stale.{area_hazard}
 use Rattle.i9_model.specs.Operands.{value}
-use Rattle.i9_model.specs.Calls.{entry_address, stack_address, is_switch, call_type, entered_here, entered_switched, system_entered, system_hazard_by}
+use Rattle.i9_model.specs.Calls.{Caller, caller_in, entry_address, stack_address, is_switch, call_type, entered_here, entered_switched, system_entered, system_hazard_by}
 use Rattle.i9_model.specs.Faults.{◌>>=◌, or_stop, table_entry, checked_word, handler_of, planned_handler, planned_frame, entry_of, planned_fault_by}
 use Rattle.i9_model.specs.Step.{system_call}
 use Rattle.i9_model.specs.Run.{entry_in}
@@ -30,30 +30,25 @@ use Rattle.i9_model.specs.Before.{interrupt_in}
 use Rattle.i9_model.proofs.CallLaws.{first_none, second_none, unless_ok, stop_ok, bind_ok}
 
 -- something holds of a procedure that is entered, above a record of so many bytes, in either way
-pub record Ways (P : Sys → Type 0) (m : Memory) (pc fp sp extra : ℕ) (kind : Bool → ℕ) : Type 0 where
-  pub switched : (x y : ℕ) → P (entered_switched (word_in m x) (word_in m y) pc fp extra (kind true))
-  pub here : (x : ℕ) → P (entered_here (word_in m x) pc fp sp extra (kind false))
+pub record Ways (P : Sys → Type 0) (c : Caller) (extra : ℕ) (kind : Bool → ℕ) : Type 0 where
+  pub switched : (x y : ℕ) → P (entered_switched (word_in c.memory x) (word_in c.memory y) c.pc c.fp extra (kind true))
+  pub here : (x : ℕ) → P (entered_here (word_in c.memory x) c.pc c.fp c.sp extra (kind false))
 
-system_by : (P : Sys → Type 0) (m : Memory) (table n pc fp sp extra : ℕ) (kind : Bool → ℕ)
-    → Ways P m pc fp sp extra kind → P (system_entered m table n pc fp sp extra kind)
+system_by : (P : Sys → Type 0) (c : Caller) (table n extra : ℕ) (kind : Bool → ℕ) → Ways P c extra kind → P (system_entered c table n extra kind)
 unfolding system_entered
-system_by P m table n pc fp sp extra kind ways = by_switch (is_switch entry pc)
+system_by P c table n extra kind ways = by_switch (is_switch entry c.pc)
   where
     entry : ℕ
-    entry = word_in m (entry_address table n)
-
-    stack : ℕ
-    stack = word_in m (stack_address table)
+    entry = word_in c.memory (entry_address table n)
 
     by_switch : (b : Bool)
-        → P (cond b (entered_switched entry stack pc fp extra (kind true)) (entered_here entry pc fp sp extra (kind false)))
+        → P (cond b (entered_switched entry (word_in c.memory (stack_address table)) c.pc c.fp extra (kind true)) (entered_here entry c.pc c.fp c.sp extra (kind false)))
     by_switch true = ways.switched (entry_address table n) (stack_address table)
     by_switch false = ways.here (entry_address table n)
 
 -- so it holds of what calls enters
-pub call_by : (P : Sys → Type 0) (i : Inst) (s : State)
-    → Ways P s.memory s.pc (s.regs FP) (s.regs SP) 0 (call_type s.pc) → P (system_call i s)
-call_by P i s ways = system_by P s.memory s.tables.system_table (value s i.a) s.pc (s.regs FP) (s.regs SP) 0 (call_type s.pc) ways
+pub call_by : (P : Sys → Type 0) (i : Inst) (s : State) → Ways P (caller_in s) 0 (call_type s.pc) → P (system_call i s)
+call_by P i s ways = system_by P (caller_in s) s.tables.system_table (value s i.a) 0 (call_type s.pc) ways
 
 -- ---- the entry of a fault
 
@@ -84,28 +79,27 @@ planned_from m f at h ok =
     let word = (unless_ok hazard (word_in m at) a.0 (stop_ok (unless hazard (word_in m at)) a.0 a.1)).1 in
     handler_from m at a.0 b.0 h word b.2
 
-frame_by : (P : Sys → Type 0) (m : Memory) (f : Frames) (system pc fp sp : ℕ) (area : Bool → Option ℕ) (h : Handler) (sys : Sys)
-    → Ways P m pc fp sp RECORD_SIZE (λ _. FAULT_RETURN) → IsFrom m h → planned_frame m f system pc fp sp area h ≡ Ok sys → P sys
+frame_by : (P : Sys → Type 0) (c : Caller) (system : ℕ) (area : Bool → Option ℕ) (h : Handler) (sys : Sys)
+    → Ways P c RECORD_SIZE (λ _. FAULT_RETURN) → IsFrom c.memory h → planned_frame c system area h ≡ Ok sys → P sys
 unfolding planned_frame
-frame_by P m f system pc fp sp area (Local target) sys ways from e =
-    let here : P (entered_here target pc fp sp RECORD_SIZE FAULT_RETURN) =
-    subst (λ (t : ℕ). P (entered_here t pc fp sp RECORD_SIZE FAULT_RETURN)) from.1 (ways.here from.0) in
-    subst P (unless_ok (area false) (entered_here target pc fp sp RECORD_SIZE FAULT_RETURN) sys e).1 here
-frame_by P m f system pc fp sp area (System n) sys ways from e =
-    let entered = system_entered m system n pc fp sp RECORD_SIZE (λ _. FAULT_RETURN) in
-    subst P (unless_ok (system_hazard_by m f system n pc area) entered sys e).1
-    (system_by P m system n pc fp sp RECORD_SIZE (λ _. FAULT_RETURN) ways)
+frame_by P c system area (Local target) sys ways from e =
+    let here = λ (t : ℕ). entered_here t c.pc c.fp c.sp RECORD_SIZE FAULT_RETURN in
+    subst P (unless_ok (area false) (here target) sys e).1 (subst (λ (t : ℕ). P (here t)) from.1 (ways.here from.0))
+frame_by P c system area (System n) sys ways from e =
+    let entered = system_entered c system n RECORD_SIZE (λ _. FAULT_RETURN) in
+    subst P (unless_ok (system_hazard_by c.memory c.frames system n c.pc area) entered sys e).1
+    (system_by P c system n RECORD_SIZE (λ _. FAULT_RETURN) ways)
 
 -- and it holds of what the entry of a fault enters, whose record meets no hazard
 pub entry_by : (P : Sys → Type 0) (s : State) (fault : Fault) (e : Entry)
-    → Ways P s.memory s.pc (s.regs FP) (s.regs SP) RECORD_SIZE (λ _. FAULT_RETURN)
+    → Ways P (caller_in s) RECORD_SIZE (λ _. FAULT_RETURN)
     → entry_in s fault ≡ Ok e → (sys : Sys) × P sys × (entry_of fault s.pc s.ac sys ≡ e) × (record_write_hazard s.frames sys.push ≡ None)
 unfolding entry_in planned_fault_by
 entry_by P s fault e ways ok =
     let m = s.memory in
     let f = s.frames in
     let made = λ (sys : Sys). or_stop (unless (record_write_hazard f sys.push) (entry_of fault s.pc s.ac sys)) in
-    let frame = λ (h : Handler). planned_frame m f s.tables.system_table s.pc (s.regs FP) (s.regs SP) (area_hazard s) h in
+    let frame = planned_frame (caller_in s) s.tables.system_table (area_hazard s) in
     let at = table_entry s.tables.fault_table fault.kind in
     let a = bind_ok (planned_handler m f at) (λ h. or_stop (frame h) >>= made) e ok in
     let b = bind_ok (or_stop (frame a.0)) made e a.2 in
@@ -113,7 +107,7 @@ entry_by P s fault e ways ok =
     let plan = unless (record_write_hazard f b.0.push) (entry_of fault s.pc s.ac b.0) in
     let done = unless_ok (record_write_hazard f b.0.push) (entry_of fault s.pc s.ac b.0) e (stop_ok plan e b.2) in (
       b.0,
-      frame_by P m f s.tables.system_table s.pc (s.regs FP) (s.regs SP) (area_hazard s) a.0 b.0 ways from (stop_ok (frame a.0) b.0 b.1),
+      frame_by P (caller_in s) s.tables.system_table (area_hazard s) a.0 b.0 ways from (stop_ok (frame a.0) b.0 b.1),
       done.1,
       done.0,
     )

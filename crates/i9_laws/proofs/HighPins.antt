@@ -42,7 +42,7 @@ use Rattle.i9_laws.proofs.EventCases.{IsByUnit, IsByEvent, received_as}
 
 -- ---- the event that stands is of the version of its plan
 
-plan_of_version : (version : ℕ) (plan : List Timed) (place : ℕ) (t : Timed) → AreOfVersion version plan → slice_get plan place ≡ Some t
+pub plan_of_version : (version : ℕ) (plan : List Timed) (place : ℕ) (t : Timed) → AreOfVersion version plan → slice_get plan place ≡ Some t
     → IsOfVersion version t.event
 plan_of_version version [] place t all is = absurd cc
 plan_of_version version (x ∷ plan) zero t all is = let same : x ≡ t = cc in subst (λ (y : Timed). IsOfVersion version y.event) same all.0

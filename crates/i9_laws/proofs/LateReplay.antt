@@ -2,6 +2,9 @@
 -- them, and with them and any number of sets it is the same run.
 use Rattle.std.proofs.Common.{◌≡◌, ℕ, zero, suc, ◌<◌, ◌≤◌, true, List, [], ◌∷◌, ◌++◌, length, Option, Some, None, refl, sym, ◌∙◌, subst, inl, inr, length-append, arith, ap}
 use Rattle.std.specs.List.{slice_get, AllByRecursion}
+use Rattle.i9_laws.proofs.HighPins.{plan_of_version}
+use Rattle.i9_replay.proofs.Plans.{AreOfVersion-push, AllTimedInRange-push, InOrder-push, last_time, last_time-push}
+use Rattle.i9_past.proofs.Unique.{does_is, ends_is}
 use Rattle.i9_model.specs.declared.event.Event.{Event}
 use Rattle.i9_model.specs.declared.event.Timed.{Timed}
 use Rattle.i9_model.specs.declared.layout.TheConstants.{MAX_LENGTH}
@@ -12,7 +15,6 @@ use Rattle.i9_model.specs.Run.{Given, Record, Does, next_with, reached_after, st
 use Rattle.i9_model.specs.PrintedText.{run_text}
 use Rattle.i9_past.proofs.Heedful.{heedful, counted, with_plan}
 use Rattle.i9_past.proofs.Left.{standing_by_place}
-use Rattle.i9_replay.proofs.Plans.{last_time, last_time-push}
 use Rattle.i9_course.specs.Course.{records_of, event_ahead, instruction_turn, comes_next}
 use Rattle.i9_course.specs.LateRun.{steps, IsLatePast, IsLateRun}
 use Rattle.i9_course.proofs.LateRuns.{records_of-steps, next_of_steps, late_next, late_within, run_cases, run_ends}
@@ -20,22 +22,7 @@ use Rattle.i9_course.proofs.LateSame.{run_again, run_sets, in_counted}
 use Rattle.i9_laws.proofs.RunsAgain.{SaysReached, text_says}
 use Rattle.std.proofs.lemmas.List.{append-nil}
 
--- ---- one event more
-
-each_more : (ts : List Timed) (t : Timed) → AllByRecursion IsTimedInRange ts → IsTimedInRange t
-    → AllByRecursion IsTimedInRange (ts ++ t ∷ [])
-each_more [] t h new = (new, tt)
-each_more (x ∷ ts) t h new = (h.0, each_more ts t h.1 new)
-
-version_more : (version : ℕ) (ts : List Timed) (t : Timed) → AreOfVersion version ts → IsOfVersion version t.event
-    → AreOfVersion version (ts ++ t ∷ [])
-version_more version [] t h new = (new, tt)
-version_more version (x ∷ ts) t h new = (h.0, version_more version ts t h.1 new)
-
-order_more : (time : ℕ) (ts : List Timed) (t : Timed) → InOrder time ts → last_time time ts ≤ time_of t
-    → InOrder time (ts ++ t ∷ [])
-order_more time [] t h new = (new, tt)
-order_more time (x ∷ ts) t h new = (h.0, order_more (time_of x) ts t h.1 new)
+-- ---- an event of a plan
 
 -- an event at a place of a plan
 planned : (ts : List Timed) (k : ℕ) (t : Timed) → AllByRecursion IsTimedInRange ts → slice_get ts k ≡ Some t
@@ -43,13 +30,6 @@ planned : (ts : List Timed) (k : ℕ) (t : Timed) → AllByRecursion IsTimedInRa
 planned [] k t each is = absurd cc
 planned (x ∷ ts) zero t each is = let same : x ≡ t = cc in (subst IsTimedInRange same each.0, omega arith)
 planned (x ∷ ts) (suc k) t each is = let p = planned ts k t each.1 is in (p.0, omega (arith, p.1))
-
--- and it is of its version
-of_version : (version : ℕ) (ts : List Timed) (k : ℕ) (t : Timed) → AreOfVersion version ts → slice_get ts k ≡ Some t
-    → IsOfVersion version t.event
-of_version version [] k t each is = absurd cc
-of_version version (x ∷ ts) zero t each is = let same : x ≡ t = cc in subst (λ (y : Timed). IsOfVersion version y.event) same each.0
-of_version version (x ∷ ts) (suc k) t each is = of_version version ts k t each.1 is
 
 -- ---- along a late run
 
@@ -86,19 +66,13 @@ more_fits g rs r t f grown fine after before room of =
     let here = reached_after rs in
     let long = length-append here (t ∷ []) in
     record {
-      each = subst (λ (ts : List Timed). AllByRecursion IsTimedInRange ts) (sym grown) (each_more here t f.each fine);
-      order = subst (λ (ts : List Timed). InOrder 0 ts) (sym grown) (order_more 0 here t f.order after);
+      each = subst (λ (ts : List Timed). AllByRecursion IsTimedInRange ts) (sym grown) (AllTimedInRange-push here t f.each fine);
+      order = subst (λ (ts : List Timed). InOrder 0 ts) (sym grown) (InOrder-push 0 here t f.order after);
       last = subst (λ (ts : List Timed). last_time 0 ts ≤ r.after.count) (sym grown)
           (subst (λ (n : ℕ). n ≤ r.after.count) (sym (last_time-push 0 here t)) before);
       few = subst (λ (ts : List Timed). length ts ≤ length g.plan) (sym grown) (omega (arith, long, room));
-      version = subst (KeepsVersion g) (sym grown) (λ version plan. version_more version here t (f.version version plan) (of version plan));
+      version = subst (KeepsVersion g) (sym grown) (λ version plan. AreOfVersion-push version here t (f.version version plan) (of version plan));
     }
-
-same_record : (r q : Record) → Does r ≡ Does q → r ≡ q
-same_record r q e = cc
-
-same_finish : (f k : Finish) → Ends f ≡ Ends k → f ≡ k
-same_finish f k e = cc
 
 -- the event that stands is one of the plan, at the place behind those that were reached
 stands : (g : Given) (rs : List Record) (e : Event) → IsPlan g.plan → event_ahead g (steps rs) ≡ Some e
@@ -110,7 +84,7 @@ stands g rs e plan at =
     let p = planned g.plan (length (reached_after past)) there.0 plan.each there.1 in (
       subst IsInRange there.2 p.0.event,
       subst (λ (qs : List Record). length (reached_after qs) < length g.plan) (records_of-steps rs) p.1,
-      λ version of. subst (IsOfVersion version) there.2 (of_version version g.plan (length (reached_after past)) there.0 of there.1),
+      λ version of. subst (IsOfVersion version) there.2 (plan_of_version version g.plan (length (reached_after past)) there.0 of there.1),
     )
 
 fits : (g : Given) (rs : List Record) → IsPlan g.plan → g.length ≤ MAX_LENGTH → IsLatePast g rs → Fits g rs
@@ -126,7 +100,7 @@ fits g (r ∷ rs) plan short past =
           | inl same ↦ same_fits g rs r before ((heedful g).quiet rs r (sym same ∙ is)) grows
           | inr (inl found) ↦
               let t = timed_at (state_after g rs).count e in
-              let grown = subst (λ (x : Record). reached_after (x ∷ rs) ≡ reached_after rs ++ t ∷ []) (same_record found.0 r (sym found.1 ∙ is)) found.2 in
+              let grown = subst (λ (x : Record). reached_after (x ∷ rs) ≡ reached_after rs ++ t ∷ []) (does_is found.0 r (sym found.1 ∙ is)) found.2 in
               let one = stands g rs e plan at in
               let within = late_within g rs past.0 in
               let most : MAX_LENGTH ≡ 10000000 = refl in
@@ -158,10 +132,10 @@ fits_one g rs e plan short past at =
     let fine : IsTimedInRange t = record { time = omega (arith, within, short, most); event = one.0 } in
     let long = length-append (reached_after rs) (t ∷ []) in
     record {
-      each = each_more (reached_after rs) t f.each fine;
-      order = order_more 0 (reached_after rs) t f.order f.last;
+      each = AllTimedInRange-push (reached_after rs) t f.each fine;
+      order = InOrder-push 0 (reached_after rs) t f.order f.last;
       few = omega (arith, long, room);
-      version = λ version plan. version_more version (reached_after rs) t (f.version version plan) (one.2 version plan);
+      version = λ version plan. AreOfVersion-push version (reached_after rs) t (f.version version plan) (one.2 version plan);
     }
 
 -- an end that comes next reached nothing, or the event that stood there
@@ -183,7 +157,7 @@ end_fits g rs f plan short past ends = by_event (event_ahead g (steps rs)) refl 
       | inl same ↦ silent ((heedful g).silent rs f (sym same ∙ is))
       | inr (inl found) ↦ absurd (cc (sym found.1 ∙ is))
       | inr (inr found) ↦
-          let one : found.0 ≡ f = same_finish found.0 f (sym found.1 ∙ is) in
+          let one : found.0 ≡ f = ends_is found.0 f (sym found.1 ∙ is) in
           let reached : f.event ≡ Some e = ap (λ (x : Finish). x.event) (sym one) ∙ found.2 in
           subst (λ (x : Option Event). FitsTo g rs (reached_after rs ++ reached_last count x)) (sym reached)
           (fits_one g rs e plan short past at)

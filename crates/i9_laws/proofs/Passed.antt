@@ -2,6 +2,7 @@
 use Rattle.std.proofs.Common.{◌≡◌, ◌⊎◌, ℕ, zero, suc, ◌+◌, ◌≤◌, Bool, true, false, cond, eqb, List, [], ◌∷◌, length, drop, Option, Some, None, Result, Ok, Err, refl, sym, ap, ◌∙◌, subst, inl, inr, length-append, arith}
 use Rattle.std.specs.Prelude.{◌==◌}
 use Rattle.std.proofs.lemmas.Bool.{eqb-false}
+use Rattle.i9_past.proofs.Ends.{boot_count}
 use Rattle.i9_model.specs.declared.faults.FaultStop.{FaultStop}
 use Rattle.i9_model.specs.declared.faults.FaultStop.TheVariants as stops
 use Rattle.i9_model.specs.declared.faults.Entry.{Entry}
@@ -13,7 +14,7 @@ use Rattle.i9_model.specs.declared.interrupts.Chosen.{Chosen}
 use Rattle.i9_model.specs.declared.run.Due.{Due}
 use Rattle.i9_model.specs.declared.run.Due.TheVariants as dues
 use Rattle.i9_model.specs.declared.run.End.TheVariants.{Limit}
-use Rattle.i9_model.specs.State.{State, started, boot}
+use Rattle.i9_model.specs.State.{State}
 use Rattle.i9_model.specs.ScheduleText.{at_time, time_of, is_counted, has_come_at, InOrder, IsPlan, IsByCounts, standing}
 use Rattle.i9_model.specs.Before.{Received, choice_in, interrupt_in, received_in}
 use Rattle.i9_model.specs.Run.{Given, Kind, Instruction, Faulted, Entered, Interrupted, Reached, Record, record_of, counts_of, action_by_kind, Does, Ends, next_by_entry, entry_in, next_by_event, next_by_interrupt, next_by_choice, next_in, due_after, reached_by, reached_after, event_after, state_after, IsPast, finish, next_by_received}
@@ -114,10 +115,6 @@ next_counts limit dues.Nothing stands s r e = by_length (eqb s.count limit) e
     by_length false h = choice_counts stands s (choice_in s) r h
 
 -- ---- a run
-
-boot_count : (image : List (ℕ × ℕ)) → (boot image).count ≡ 0
-unfolding boot started
-boot_count image = refl
 
 pub none_passed : (g : Given) (rs : List Record) → IsPlan g.plan → IsByCounts g.plan → IsPast g rs
     → InOrder (state_after g rs).count (drop (length (reached_after rs)) g.plan)

@@ -3,6 +3,7 @@ use Rattle.std.proofs.Common.{◌≡◌, ◌≢◌, ℕ, zero, suc, ◌+◌, ◌
 use Rattle.std.specs.Prelude.{IsTrue, ◌==◌, ◌&&◌, not}
 use Rattle.std.proofs.lemmas.Bool.{ne_eqb, eqb-true}
 use Rattle.std.proofs.lemmas.List.FromFn.{get_or-map-range_with_len}
+use Rattle.i9_laws.proofs.Undoing.{either}
 use Rattle.i9_isa.specs.declared.op.Op.{Op}
 use Rattle.i9_isa.specs.declared.op.Op.TheVariants.{Calls, Ret}
 use Rattle.i9_isa.specs.declared.inst.Inst.{Inst}
@@ -96,10 +97,6 @@ first_live f pfp fp save rest live none =
     by_test a false e h = absurd cc
 
 -- ---- the controls
-
-either : (b : Bool) (n : ℕ) → cond b n n ≡ n
-either true n = refl
-either false n = refl
 
 -- types 010 and 011 leave supervisor mode
 left_pc : (pc w t : ℕ) (b : Bool) → t < 2

@@ -1,7 +1,8 @@
 -- A return right after a system call undoes it.
 use Rattle.std.proofs.Common.{◌≡◌, ℕ, zero, suc, ◌+◌, ◌/◌, ◌%◌, ◌<◌, Bool, true, false, cond, List, ◌∷◌, length, Option, Some, None, Result, Ok, Err, refl, ap, subst, ◌∙◌, arith, bit_and}
 use Rattle.std.specs.Prelude.{nat_le, nat_lt, ◌==◌, not, if◌then◌else◌}
-use Rattle.std.proofs.lemmas.Bool.{and_parts, eqb-false}
+use Rattle.std.proofs.lemmas.Bool.{and_parts, eqb-false, not-true}
+use Rattle.i9_model.proofs.CallLaws.{second_none}
 use Rattle.i9_model.specs.declared.layout.TheConstants.{FRAME_SIZE, MOST_SYSTEM_CALL, PC_MASK, AC_MASK}
 use Rattle.i9_model.specs.declared.calls.Sys.{Sys}
 use Rattle.i9_model.specs.declared.calls.CallsStop.TheVariants.{Length}
@@ -10,17 +11,13 @@ use Rattle.i9_model.specs.Memory.{Memory, word_in}
 use Rattle.i9_model.specs.State.{Frames}
 use Rattle.i9_model.specs.Frames.{rounded_down, pushed, saved}
 use Rattle.i9_model.specs.Hazards.{or_else, unless, port_hazard, save_hazard, write_hazard, read_hazard, return_hazard}
-use Rattle.i9_model.specs.Calls.{in_supervisor_mode, with_supervisor, entry_address, stack_address, is_switch, stack_hazard, system_hazard, entered_here, entered_switched, system_entered, call_type, calls_answer, planned_calls, return_type, takes_record, leaves_supervisor, without_supervisor, record_hazard, controls_hazard, returned_pc, returned_ac, saved_pc, saved_ac, ret_hazard, return_marks, popped, planned_ret, Undoes}
+use Rattle.i9_model.specs.Calls.{Caller, in_supervisor_mode, with_supervisor, entry_address, stack_address, is_switch, stack_hazard, system_hazard, entered_here, entered_switched, system_entered, call_type, calls_answer, planned_calls, return_type, takes_record, leaves_supervisor, without_supervisor, record_hazard, controls_hazard, returned_pc, returned_ac, saved_pc, saved_ac, ret_hazard, return_marks, popped, planned_ret, Undoes}
 
 -- a system call that is planned meets no hazard
 made : (b : Bool) (o : Option ℕ) (p s : Sys) → (if b then calls_answer (unless o p) else Err Length) ≡ Ok s → (o ≡ None) × (p ≡ s)
 made true None p s e = (refl, cc)
 made true (Some a) p s e = absurd (cc)
 made false o p s e = absurd (cc)
-
-later_none : (o p : Option ℕ) → or_else o p ≡ None → p ≡ None
-later_none None p e = e
-later_none (Some a) p e = absurd (cc)
 
 -- so its save area meets none, and is outside the port page
 saves : (m : Memory) (f : Frames) (table n pc fp : ℕ) → system_hazard m f table n pc fp ≡ None → port_hazard (rounded_down fp) FRAME_SIZE ≡ None
@@ -29,8 +26,8 @@ saves m f table n pc fp e =
     let entry = entry_address table n in
     let stack = stack_hazard f table (is_switch (word_in m entry) pc) in
     let save = save_hazard f (rounded_down fp) in
-    later_none (write_hazard f (rounded_down fp) FRAME_SIZE) (port_hazard (rounded_down fp) FRAME_SIZE)
-    (later_none stack save (later_none (read_hazard f entry 4) (or_else stack save) e))
+    second_none (write_hazard f (rounded_down fp) FRAME_SIZE) (port_hazard (rounded_down fp) FRAME_SIZE)
+    (second_none stack save (second_none (read_hazard f entry 4) (or_else stack save) e))
 
 same : (a : ℕ) → (a == a) ≡ true
 same a = grind arith
@@ -66,7 +63,7 @@ undoes m f a kind fp new pc ac low small t k e none =
 
 -- ---- the controls
 
-either : (b : Bool) (n : ℕ) → cond b n n ≡ n
+pub either : (b : Bool) (n : ℕ) → cond b n n ≡ n
 either true n = refl
 either false n = refl
 
@@ -119,23 +116,19 @@ switched : (later : Memory) (f : Frames) (entry stack pc fp ac : ℕ) → in_sup
 switched later f entry stack pc fp ac user none =
     undoes later f (rounded_down fp) (2 + pc % 2) _ _ pc ac (omega arith) (omega arith) (two_more (pc % 2) (omega arith)) (no_check (pc % 2) (omega arith)) (switched_pc later _ pc (stack % 2) user (omega arith)) none
 
-not_true : (b : Bool) → not b ≡ true → b ≡ false
-not_true true e = absurd (cc)
-not_true false e = refl
-
 by_switch : (b : Bool) (later : Memory) (f : Frames) (entry stack pc fp sp ac : ℕ) → (b ≡ true → in_supervisor_mode pc ≡ false) → port_hazard (rounded_down fp) FRAME_SIZE ≡ None →
     Undoes later f pc ac (if b then entered_switched entry stack pc fp 0 (2 + pc % 2) else entered_here entry pc fp sp 0 0)
 by_switch true later f entry stack pc fp sp ac user none = switched later f entry stack pc fp ac (user refl) none
 by_switch false later f entry stack pc fp sp ac user none = here later f entry pc fp sp ac none
 
-entered : (m later : Memory) (f : Frames) (table n pc ac fp sp : ℕ) → port_hazard (rounded_down fp) FRAME_SIZE ≡ None → Undoes later f pc ac (system_entered m table n pc fp sp 0 (call_type pc))
+entered : (c : Caller) (later : Memory) (table n ac : ℕ) → port_hazard (rounded_down c.fp) FRAME_SIZE ≡ None → Undoes later c.frames c.pc ac (system_entered c table n 0 (call_type c.pc))
 unfolding system_entered
-entered m later f table n pc ac fp sp none =
-    let entry : ℕ = word_in m (entry_address table n) in
-    by_switch (is_switch entry pc) later f entry (word_in m (stack_address table)) pc fp sp ac (λ e. not_true _ (and_parts _ _ e).1) none
+entered c later table n ac none =
+    let entry : ℕ = word_in c.memory (entry_address table n) in
+    by_switch (is_switch entry c.pc) later c.frames entry (word_in c.memory (stack_address table)) c.pc c.fp c.sp ac (λ e. not-true _ (and_parts _ _ e).1) none
 
 -- a return right after a system call undoes it
-pub call-undone : (m later : Memory) (f : Frames) (table n pc ac fp sp : ℕ) (s : Sys) → planned_calls m f table n pc fp sp ≡ Ok s → Undoes later f pc ac s
-call-undone m later f table n pc ac fp sp s e =
-    let both = made (nat_le n MOST_SYSTEM_CALL) (system_hazard m f table n pc fp) (system_entered m table n pc fp sp 0 (call_type pc)) s e in
-    subst (Undoes later f pc ac) both.1 (entered m later f table n pc ac fp sp (saves m f table n pc fp both.0))
+pub call-undone : (c : Caller) (later : Memory) (table n ac : ℕ) (s : Sys) → planned_calls c table n ≡ Ok s → Undoes later c.frames c.pc ac s
+call-undone c later table n ac s e =
+    let both = made (nat_le n MOST_SYSTEM_CALL) (system_hazard c.memory c.frames table n c.pc c.fp) (system_entered c table n 0 (call_type c.pc)) s e in
+    subst (Undoes later c.frames c.pc ac) both.1 (entered c later table n ac (saves c.memory c.frames table n c.pc c.fp both.0))

@@ -7,8 +7,7 @@ ghost use Rattle.i9_model.specs.Image.{Part, pairs_of, AreParts};
 ghost use Rattle.i9_model.specs.declared.interrupts.TheConstants.{LINE_MASK};
 ghost use Rattle.i9_model.specs.declared.dma.TheConstants.{COMMAND_MASK};
 ghost use Rattle.i9_model.specs.Memory.{Memory};
-ghost use Rattle.i9_model.specs.State.{Frames};
-ghost use Rattle.i9_model.specs.Calls.{planned_calls, Undoes};
+ghost use Rattle.i9_model.specs.Calls.{Caller, planned_calls, Undoes};
 ghost use Rattle.i9_model.specs.ScheduleText.{IsPlan};
 ghost use Rattle.i9_model.specs.Run.{Given, Record, IsPast, state_after};
 ghost use Rattle.i9_model.specs.HeldFrames.{AreInMemory};
@@ -83,6 +82,6 @@ pub fn a_return_undoes_a_call()
 /// A return right after a system call undoes it, whatever is in memory then: it meets no hazard,
 /// goes to the frame that the call saved, and gives back the process controls.
 pub fn returns_undo_system_calls()
-    ensures { (m later : Memory) (f : Frames) (table n pc ac fp sp : ℕ) (s : Sys)
-        → planned_calls m f table n pc fp sp ≡ Ok s → Undoes later f pc ac s }
+    ensures { (c : Caller) (later : Memory) (table n ac : ℕ) (s : Sys)
+        → planned_calls c table n ≡ Ok s → Undoes later c.frames c.pc ac s }
 {}

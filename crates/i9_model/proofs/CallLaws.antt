@@ -11,8 +11,8 @@ use Rattle.i9_model.specs.Memory.{Memory, word_in}
 use Rattle.i9_model.specs.State.{Frames}
 use Rattle.i9_model.specs.Frames.{rounded_down, saved}
 use Rattle.i9_model.specs.Hazards.{or_else, unless, read_hazard, write_hazard, port_hazard, save_hazard, record_write_hazard}
-use Rattle.i9_model.specs.Calls.{save_area, system_hazard_by, entry_address, stack_address, is_switch, stack_hazard, system_hazard, entered_here, entered_switched, system_entered, record_address}
-use Rattle.i9_model.specs.Faults.{◌>>=◌, or_stop, table_entry, planned_handler, planned_frame, entry_of, planned_fault, planned_fault_by}
+use Rattle.i9_model.specs.Calls.{Caller, system_hazard_by, entry_address, stack_address, is_switch, stack_hazard, entered_here, entered_switched, system_entered, record_address}
+use Rattle.i9_model.specs.Faults.{◌>>=◌, or_stop, table_entry, planned_handler, planned_frame, entry_of, planned_fault_by}
 
 pub first_none : (o p : Option ℕ) → or_else o p ≡ None → o ≡ None
 first_none None p e = refl
@@ -29,11 +29,11 @@ save_by true entry stack pc fp sp extra kind = refl
 save_by false entry stack pc fp sp extra kind = refl
 
 -- the locals are saved at fp
-pub system_save : (m : Memory) (table n pc fp sp extra : ℕ) (kind : Bool → ℕ) → (system_entered m table n pc fp sp extra kind).push.save ≡ rounded_down fp
+pub system_save : (c : Caller) (table n extra : ℕ) (kind : Bool → ℕ) → (system_entered c table n extra kind).push.save ≡ rounded_down c.fp
 unfolding system_entered
-system_save m table n pc fp sp extra kind =
-    let entry = word_in m (entry_address table n) in
-    save_by (is_switch entry pc) entry (word_in m (stack_address table)) pc fp sp extra kind
+system_save c table n extra kind =
+    let entry = word_in c.memory (entry_address table n) in
+    save_by (is_switch entry c.pc) entry (word_in c.memory (stack_address table)) c.pc c.fp c.sp extra kind
 
 -- ---- the entry of a fault
 
@@ -60,17 +60,16 @@ system_checks m f table n pc area e =
     let switched = is_switch (word_in m at) pc in
     second_none (stack_hazard f table switched) (area switched) (second_none (read_hazard f at 4) (or_else (stack_hazard f table switched) (area switched)) e)
 
-frame_free : (m : Memory) (f : Frames) (system pc fp sp : ℕ) (area : Bool → Option ℕ) (h : Handler) (s : Sys) → ChecksSave f fp area → planned_frame m f system pc fp sp area h ≡ Ok s → save_hazard f s.push.save ≡ None
+frame_free : (c : Caller) (system : ℕ) (area : Bool → Option ℕ) (h : Handler) (s : Sys) → ChecksSave c.frames c.fp area → planned_frame c system area h ≡ Ok s → save_hazard c.frames s.push.save ≡ None
 unfolding planned_frame
-frame_free m f system pc fp sp area (Local target) s checks e =
-    let u = unless_ok (area false) (entered_here target pc fp sp RECORD_SIZE 1) s e in
-    ap (λ (x : Sys). save_hazard f x.push.save) (sym u.1) ∙ checks false u.0
-frame_free m f system pc fp sp area (System n) s checks e =
-    let t = system_entered m system n pc fp sp RECORD_SIZE (λ _. 1) in
-    let u = unless_ok (system_hazard_by m f system n pc area) t s e in
-    ap (λ (x : Sys). save_hazard f x.push.save) (sym u.1)
-    ∙ ap (save_hazard f) (system_save m system n pc fp sp RECORD_SIZE (λ _. 1))
-    ∙ checks (is_switch (word_in m (entry_address system n)) pc) (system_checks m f system n pc area u.0)
+frame_free c system area (Local target) s checks e =
+    let u = unless_ok (area false) (entered_here target c.pc c.fp c.sp RECORD_SIZE 1) s e in
+    ap (λ (x : Sys). save_hazard c.frames x.push.save) (sym u.1) ∙ checks false u.0
+frame_free c system area (System n) s checks e =
+    let u = unless_ok (system_hazard_by c.memory c.frames system n c.pc area) (system_entered c system n RECORD_SIZE (λ _. 1)) s e in
+    ap (λ (x : Sys). save_hazard c.frames x.push.save) (sym u.1)
+    ∙ ap (save_hazard c.frames) (system_save c system n RECORD_SIZE (λ _. 1))
+    ∙ checks (is_switch (word_in c.memory (entry_address system n)) c.pc) (system_checks c.memory c.frames system n c.pc area u.0)
 
 -- the save area and the record of an entry meet no hazard, and the record has four words
 pub record EntersFree (f : Frames) (e : Entry) : Type 0 where
@@ -88,10 +87,12 @@ record_of_entry f fault pc ac s e save none same =
     } in
     subst (EntersFree f) same here
 
-pub enters_free_by : (m : Memory) (f : Frames) (table system : ℕ) (fault : Fault) (pc ac fp sp : ℕ) (area : Bool → Option ℕ) (e : Entry) → ChecksSave f fp area → planned_fault_by m f table system fault pc ac fp sp area ≡ Ok e → EntersFree f e
+pub enters_free_by : (c : Caller) (table system : ℕ) (fault : Fault) (ac : ℕ) (area : Bool → Option ℕ) (e : Entry) → ChecksSave c.frames c.fp area → planned_fault_by c table system fault ac area ≡ Ok e → EntersFree c.frames e
 unfolding planned_fault_by
-enters_free_by m f table system fault pc ac fp sp area e checks ok =
-    let a = bind_ok (planned_handler m f (table_entry table fault.kind)) (λ h. or_stop (planned_frame m f system pc fp sp area h) >>= (λ s. or_stop (unless (record_write_hazard f s.push) (entry_of fault pc ac s)))) e ok in
-    let b = bind_ok (or_stop (planned_frame m f system pc fp sp area a.0)) (λ s. or_stop (unless (record_write_hazard f s.push) (entry_of fault pc ac s))) e a.2 in
-    let c = unless_ok (record_write_hazard f b.0.push) (entry_of fault pc ac b.0) e (stop_ok (unless (record_write_hazard f b.0.push) (entry_of fault pc ac b.0)) e b.2) in
-    record_of_entry f fault pc ac b.0 e (frame_free m f system pc fp sp area a.0 b.0 checks (stop_ok (planned_frame m f system pc fp sp area a.0) b.0 b.1)) c.0 c.1
+enters_free_by c table system fault ac area e checks ok =
+    let made = λ (s : Sys). unless (record_write_hazard c.frames s.push) (entry_of fault c.pc ac s) in
+    let recorded = λ (s : Sys). or_stop (made s) in
+    let a = bind_ok (planned_handler c.memory c.frames (table_entry table fault.kind)) (λ h. or_stop (planned_frame c system area h) >>= recorded) e ok in
+    let b = bind_ok (or_stop (planned_frame c system area a.0)) recorded e a.2 in
+    let d = unless_ok (record_write_hazard c.frames b.0.push) (entry_of fault c.pc ac b.0) e (stop_ok (made b.0) e b.2) in
+    record_of_entry c.frames fault c.pc ac b.0 e (frame_free c system area a.0 b.0 checks (stop_ok (planned_frame c system area a.0) b.0 b.1)) d.0 d.1

@@ -2,7 +2,7 @@
 use Rattle.std.proofs.Common.{◌≡◌, ℕ, Bool, true, false, cond, List, [], ◌∷◌, Option, Some, None, drop, refl, sym, ap, ◌∙◌}
 use Rattle.std.specs.Prelude.{◌==◌, ◌&&◌, ◌||◌, not}
 use Rattle.std.specs.List.{list_any, find}
-use Rattle.std.proofs.lemmas.Bool.{eqb-true}
+use Rattle.std.proofs.lemmas.Bool.{and_parts, eqb-true, or_right}
 use Rattle.i9_model.specs.declared.layout.TheConstants.{FRAME_SIZE}
 use Rattle.i9_model.specs.Memory.{in_port_page}
 use Rattle.i9_model.specs.State.{Frames}
@@ -14,9 +14,9 @@ use Rattle.i9_model.proofs.Among.{return-inside}
 
 -- ---- accesses without a hazard
 
-passed : (b : Bool) (y : ℕ) (o : Option ℕ) → cond b (Some y) o ≡ None → (b ≡ false) × (o ≡ None)
-passed true y o e = absurd (cc)
-passed false y o e = (refl, e)
+pub if_none : (b : Bool) (y : ℕ) (o : Option ℕ) → cond b (Some y) o ≡ None → (b ≡ false) × (o ≡ None)
+if_none true y o e = absurd (cc)
+if_none false y o e = (refl, e)
 
 here_or_later : (test : ℕ → Bool) (x y : ℕ) (here later : Bool) → (x == y) ≡ here → test y ≡ false → (later ≡ true → test x ≡ false) → (here || later) ≡ true → test x ≡ false
 here_or_later test x y true later e fails h t = ap test (eqb-true x y e) ∙ fails
@@ -25,7 +25,7 @@ here_or_later test x y false later e fails h t = h t
 none_found : (test : ℕ → Bool) (ys : List ℕ) (x : ℕ) → find test ys ≡ None → list_any (λ (y : ℕ). x == y) ys ≡ true → test x ≡ false
 none_found test [] x none t = absurd (cc)
 none_found test (y ∷ ys) x none t =
-    let both = passed (test y) y (find test ys) none in
+    let both = if_none (test y) y (find test ys) none in
     here_or_later test x y (x == y) (list_any (λ (z : ℕ). x == z) ys) refl both.0 (none_found test ys x both.1) t
 
 -- where no byte of an access passes, none of its bytes does
@@ -73,31 +73,19 @@ apart-returned s apart = apart_rest s.live apart
 
 -- ---- marks
 
-and_second : (b c : Bool) → (b && c) ≡ true → c ≡ true
-and_second true c t = t
-and_second false c t = absurd cc
-
 unmarked : (m live : Bool) → live ≡ false → (m ≡ true → live ≡ true) → m ≡ false
 unmarked false live l h = refl
 unmarked true live l h = let no : false ≡ true = sym l ∙ h refl in absurd (cc no)
 
-by_return : (here later m : Bool) → (here ≡ true → m ≡ false) → (later ≡ true → m ≡ false) → (here || later) ≡ true → m ≡ false
-by_return true later m h k t = h refl
-by_return false later m h k t = k t
+by_either : {P : Type 0} (here later : Bool) → (here ≡ true → P) → (later ≡ true → P) → (here || later) ≡ true → P
+by_either true later h k t = h refl
+by_either false later h k t = k t
 
 returns_rest : (live : List ℕ) (x : ℕ) → in_returns (drop 1 live) x ≡ true → in_returns live x ≡ true
 returns_rest [] x t = t
-returns_rest (f ∷ live) x t = or_second (in_bytes (return_place f) 4 x) (in_returns live x) t
-  where
-    or_second : (b c : Bool) → c ≡ true → (b || c) ≡ true
-    or_second true c t = refl
-    or_second false c t = t
+returns_rest (f ∷ live) x t = or_right (in_bytes (return_place f) 4 x) (in_returns live x) t
 
 -- ---- frames are sound
-
-or_right : (b c : Bool) → c ≡ true → (b || c) ≡ true
-or_right true c t = refl
-or_right false c t = t
 
 in_rest : (live : List ℕ) (x : ℕ) → in_frames (drop 1 live) x ≡ true → in_frames live x ≡ true
 in_rest [] x t = t
@@ -106,10 +94,6 @@ in_rest (f ∷ live) x t = or_right (in_bytes f FRAME_SIZE x) (in_frames live x)
 either_soft : (here live soft : Bool) → (live ≡ true → soft ≡ true) → (here || live) ≡ true → (here || soft) ≡ true
 either_soft true live soft h t = refl
 either_soft false live soft h t = h t
-
-either_outside : (here live port : Bool) → (here ≡ true → port ≡ false) → (live ≡ true → port ≡ false) → (here || live) ≡ true → port ≡ false
-either_outside true live port g h t = g refl
-either_outside false live port g h t = h t
 
 still_soft : (live soft here : Bool) → live ≡ true → (live ≡ true → soft ≡ true) → (here ≡ true → live ≡ false) → (soft && not here) ≡ true
 still_soft live soft true l s h = absurd (cc (h refl))
@@ -124,9 +108,9 @@ sound-saved s a sound none =
     record {
       apart = apart-saved s a sound.apart none;
       soft = λ x t. either_soft (in_bytes a FRAME_SIZE x) (in_frames s.live x) (s.soft x) (sound.soft x) t;
-      outside = λ x t. either_outside (in_bytes a FRAME_SIZE x) (in_frames s.live x) (in_port_page x) (port_hazard-none a FRAME_SIZE x safe.1) (sound.outside x) t;
+      outside = λ x t. by_either (in_bytes a FRAME_SIZE x) (in_frames s.live x) (port_hazard-none a FRAME_SIZE x safe.1) (sound.outside x) t;
       within = λ x t. or_right (in_bytes a FRAME_SIZE x) (in_frames s.live x) (sound.within x t);
-      known = λ x t. by_return (in_bytes (return_place a) 4 x) (in_returns s.live x) (s.marked x) (λ r. unmarked (s.marked x) (in_frames s.live x) (write_hazard-none s a FRAME_SIZE x safe.0 (return-inside a x r)) (sound.within x)) (sound.known x) t;
+      known = λ x t. by_either (in_bytes (return_place a) 4 x) (in_returns s.live x) (λ r. unmarked (s.marked x) (in_frames s.live x) (write_hazard-none s a FRAME_SIZE x safe.0 (return-inside a x r)) (sound.within x)) (sound.known x) t;
     }
 
 pub sound-returned : (s : Frames) → IsSound s → IsSound (returned s)
@@ -134,7 +118,7 @@ sound-returned s sound = record {
   apart = apart-returned s sound.apart;
   soft = λ x t. sound.soft x (in_rest s.live x t);
   outside = λ x t. sound.outside x (in_rest s.live x t);
-  within = λ x t. and_second (s.marked x) (in_frames (drop 1 s.live) x) t;
+  within = λ x t. (and_parts (s.marked x) (in_frames (drop 1 s.live) x) t).1;
   known = λ x t. ap (λ (b : Bool). b && in_frames (drop 1 s.live) x) (sound.known x (returns_rest s.live x t));
 }
 
@@ -166,14 +150,10 @@ sound-marked s lost inside sound = record {
   apart = sound.apart;
   soft = sound.soft;
   outside = sound.outside;
-  within = λ x t. by_lost (has lost x) (s.marked x) (in_frames s.live x) (λ l. (inside x l).0) (sound.within x) t;
+  within = λ x t. by_either (has lost x) (s.marked x) (λ l. (inside x l).0) (sound.within x) t;
   known = λ x t. neither (has lost x) (s.marked x) (in_returns s.live x) (λ l. (inside x l).1) t (sound.known x t);
 }
   where
-    by_lost : (l m live : Bool) → (l ≡ true → live ≡ true) → (m ≡ true → live ≡ true) → (l || m) ≡ true → live ≡ true
-    by_lost true m live h k t = h refl
-    by_lost false m live h k t = k t
-
     neither : (l m r : Bool) → (l ≡ true → r ≡ false) → r ≡ true → m ≡ false → (l || m) ≡ false
     neither false m r h t n = n
     neither true m r h t n = let no : true ≡ false = sym t ∙ h refl in absurd (cc no)

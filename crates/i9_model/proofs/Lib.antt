@@ -17,3 +17,6 @@ pub mod Stored
 pub mod SetLaws
 pub mod KeptBits
 pub mod Legible
+pub mod WordBytes
+pub mod FitUnits
+pub mod Reading

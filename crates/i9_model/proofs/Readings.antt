@@ -2,7 +2,7 @@
 use Rattle.std.proofs.Common.{◌≡◌, ℕ, zero, suc, ◌+◌, ◌*◌, ◌<◌, ◌≤◌, Bool, true, false, cond, List, [], ◌∷◌, map, None, refl, sym, ap, ◌∙◌, arith}
 use Rattle.std.specs.Prelude.{not, nat_le}
 use Rattle.std.specs.List.{range_with_len}
-use Rattle.std.proofs.lemmas.Bool.{or_left, or_right}
+use Rattle.std.proofs.lemmas.Bool.{not_from_false, or_left, or_right}
 use Rattle.std.proofs.lemmas.Bool.Decides.{nat_tests}
 use Rattle.std.specs.Int.{w16, from_le_bytes, from_be_bytes}
 use Rattle.i9_model.specs.Writes.{address_count, wrapped}
@@ -13,16 +13,13 @@ use Rattle.i9_model.specs.Alike.{is_beyond, is_hard, AgreeWhere, with_other}
 use Rattle.i9_model.proofs.FrameLaws.{read_hazard-none}
 pub use Rattle.i9_model.proofs.Among.{in_bytes-has}
 
-not_soft : (b : Bool) → b ≡ false → not b ≡ true
-not_soft b e = ap not e
-
 -- ---- bytes
 
 -- a byte of a read
 pub byte_same : (f : Frames) (m : Memory) (bytes : ℕ → ℕ) (a n k : ℕ) → AgreeWhere (is_hard f) m bytes → read_hazard f a n ≡ None → k < n → bytes (wrapped (a + k)) ≡ m.bytes (wrapped (a + k))
 byte_same f m bytes a n k same none h =
     let x = wrapped (a + k) in
-    same x (or_right (is_beyond x) (not (f.soft x)) (not_soft (f.soft x) (read_hazard-none f a n x none (in_bytes-has a n k h))))
+    same x (or_right (is_beyond x) (not (f.soft x)) (not_from_false (f.soft x) (read_hazard-none f a n x none (in_bytes-has a n k h))))
 
 is_wrapped : (a : ℕ) → a < address_count → wrapped (a + 0) ≡ a
 is_wrapped a h = omega arith
@@ -49,7 +46,7 @@ SameBytes m bytes a n = (k : ℕ) → k < n → bytes (wrapped (a + k)) ≡ m.by
 pub read_same : (f : Frames) (m : Memory) (bytes : ℕ → ℕ) (a n : ℕ) → AgreeWhere (is_hard f) m bytes → read_hazard f a n ≡ None → SameBytes m bytes a n
 read_same f m bytes a n same none = λ k h. byte_same f m bytes a n k same none h
 
-next_place : (a k j : ℕ) → wrapped (wrapped (a + k) + j) ≡ wrapped (a + (k + j))
+pub next_place : (a k j : ℕ) → wrapped (wrapped (a + k) + j) ≡ wrapped (a + (k + j))
 next_place a k j = omega arith
 
 at_place : (m : Memory) (bytes : ℕ → ℕ) (a n k j : ℕ) → SameBytes m bytes a n → k + j < n → bytes (wrapped (wrapped (a + k) + j)) ≡ m.bytes (wrapped (wrapped (a + k) + j))

@@ -2,7 +2,7 @@
 use Rattle.std.proofs.Common.{◌≡◌, ℕ, Bool, true, false, cond, eqb, List, [], ◌∷◌, ◌++◌, Option, Some, None, unwrap_or, refl, sym, ap, ◌∙◌}
 use Rattle.std.specs.Prelude.{not, filter}
 use Rattle.i9_model.specs.Writes.{put, written, or_earlier, last_put}
-use Rattle.i9_model.specs.Memory.{in_port_page, stored}
+use Rattle.i9_model.specs.Memory.{Memory, in_port_page, stored, with_writes}
 
 pub written-append : (f : ℕ → ℕ) (ps qs : List (ℕ × ℕ)) → written f (ps ++ qs) ≡ written (written f ps) qs
 unfolding written
@@ -38,3 +38,7 @@ written-last f (p ∷ ps) x = written-last (put f p.0 p.1) ps x ∙ unwrap-earli
 pub stored-none : (m : ℕ → ℕ) → stored m [] ≡ m
 unfolding written
 stored-none m = refl
+
+pub with_none : (m : Memory) → with_writes m [] ≡ m
+unfolding written
+with_none m = refl

@@ -6,7 +6,7 @@ use Rattle.std.proofs.lemmas.Bool.Decides.{nat_tests}
 use Rattle.i9_model.specs.Writes.{wrapped, or_earlier, last_put, upwards}
 
 -- how far a place lies above an address
-abbrev above : ℕ → ℕ → ℕ
+abbrev pub above : ℕ → ℕ → ℕ
 above a x = (x + (2 ^ 32 - wrapped a)) % 2 ^ 32
 
 pub or_none : (o : Option ℕ) → or_earlier o None ≡ o
@@ -16,7 +16,7 @@ or_none (Some v) = refl
 first_place : (a : ℕ) → above a (wrapped a) ≡ 0
 first_place a = omega arith
 
-before_first : (a : ℕ) → above (a + 1) (wrapped a) ≡ 2 ^ 32 - 1
+pub before_first : (a : ℕ) → above (a + 1) (wrapped a) ≡ 2 ^ 32 - 1
 before_first a = omega arith
 
 later_place : (a x : ℕ) → x < 2 ^ 32 → x ≢ wrapped a → above a x ≡ above (a + 1) x + 1
@@ -57,3 +57,6 @@ upwards-wrapped a b [] e = refl
 upwards-wrapped a b (v ∷ vs) e =
     let next : wrapped (a + 1) ≡ wrapped (b + 1) = omega arith in
     ap (λ (x : ℕ). (x, v) ∷ upwards (a + 1) vs) e ∙ ap (λ (ps : List (ℕ × ℕ)). (wrapped b, v) ∷ ps) (upwards-wrapped (a + 1) (b + 1) vs next)
+
+pub one_write : (a v : ℕ) → a < 2 ^ 32 → upwards a (v ∷ []) ≡ (a, v) ∷ []
+one_write a v h = let same : wrapped a ≡ a = omega arith in ap (λ (x : ℕ). (x, v) ∷ []) same

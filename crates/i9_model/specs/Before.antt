@@ -1,6 +1,5 @@
 -- What comes before the next instruction: the entry of an interrupt that is chosen, or an event from outside.
 use Rattle.std.specs.Prelude.{ℕ, ◌+◌, ◌++◌, if◌then◌else◌, List, [], Option, Some, None, Result, Ok, Err}
-use Rattle.i9_model.specs.declared.layout.TheConstants.{FP, SP}
 use Rattle.i9_model.specs.declared.interrupts.TheConstants.{FIRST_DMA_LINE}
 use Rattle.i9_model.specs.declared.interrupts.Chosen.{Chosen}
 use Rattle.i9_model.specs.declared.faults.Entry.{Entry}
@@ -10,6 +9,7 @@ use Rattle.i9_model.specs.Memory.{with_writes}
 use Rattle.i9_model.specs.State.{State, Interrupts}
 use Rattle.i9_model.specs.State as states
 use Rattle.i9_model.specs.Dma.{Unit, next_unit}
+use Rattle.i9_model.specs.Calls.{caller_in}
 use Rattle.i9_model.specs.Interrupts.{posted, posted_nmi, lowered, raised, chosen, chosen_soft, cleared}
 use Rattle.i9_model.specs.Interrupts.{clearing_writes, record_writes, planned_interrupt_by}
 use Rattle.i9_model.specs.Stale.{area_hazard}
@@ -26,8 +26,7 @@ choice_in s =
 -- its entry, or the hazard that this meets
 unfoldable pub interrupt_in : State → Chosen → Result Entry ℕ
 interrupt_in s c =
-    planned_interrupt_by s.memory s.frames s.tables.interrupt_table s.tables.interrupt_stack c s.pc s.ac (s.regs FP)
-    (s.regs SP) (area_hazard s)
+    planned_interrupt_by (caller_in s) s.tables.interrupt_table s.tables.interrupt_stack c s.ac (area_hazard s)
 
 -- the bytes that it writes: those of its record, and then those that clear the request
 abbrev pub entry_writes : State → Chosen → Entry → List (ℕ × ℕ)

@@ -3,7 +3,7 @@ use Rattle.std.specs.Prelude.{◌≡◌, ℕ, ◌+◌, ◌*◌, ◌%◌, ◌^◌
 use Rattle.std.specs.Prelude.{if◌then◌else◌, bit_and, length, Option, None, Result, Ok, Err}
 use Rattle.i9_isa.specs.Words.{bit, field}
 use Rattle.i9_model.specs.declared.interrupts.TheConstants.{PRIORITY_PLACE}
-use Rattle.i9_model.specs.declared.layout.TheConstants.{LOCALS, SUPERVISOR_PLACE, SUPERVISOR_STACK}
+use Rattle.i9_model.specs.declared.layout.TheConstants.{LOCALS, FP, SP, SUPERVISOR_PLACE, SUPERVISOR_STACK}
 use Rattle.i9_model.specs.declared.layout.TheConstants.{SYSTEM_TABLE_ENTRIES, MOST_SYSTEM_CALL, ASKS_SUPERVISOR_PLACE}
 use Rattle.i9_model.specs.declared.layout.TheConstants.{LOCAL_RETURN, FAULT_RETURN, SUPERVISOR_RETURN, INTERRUPT_RETURN}
 use Rattle.i9_model.specs.declared.layout.TheConstants.{PC_MASK, AC_MASK}
@@ -14,7 +14,7 @@ use Rattle.i9_model.specs.declared.calls.CallsStop.TheVariants.{Hazard, Length}
 use Rattle.i9_model.specs.declared.calls.Pop.{Pop}
 use Rattle.i9_model.specs.Writes.{wrapped}
 use Rattle.i9_model.specs.Memory.{Memory, word_in}
-use Rattle.i9_model.specs.State.{Frames, aligned}
+use Rattle.i9_model.specs.State.{State, Frames, aligned}
 use Rattle.i9_model.specs.Frames.{rounded_down, pushed, saved, word_mark, left_stale}
 use Rattle.i9_model.specs.Needs.{set_below}
 pub use Rattle.i9_model.specs.Frames.{record_address}
@@ -43,6 +43,19 @@ abbrev pub without_supervisor : ℕ → ℕ → ℕ
 without_supervisor pc trace = aligned pc + trace
 
 -- ---- calls
+
+-- what a procedure or a handler is entered from: memory and frames, the process controls, and the frame and the stack
+-- pointer
+pub record Caller : Type 0 where
+  pub memory : Memory
+  pub frames : Frames
+  pub pc : ℕ
+  pub fp : ℕ
+  pub sp : ℕ
+
+-- the caller in a state
+abbrev pub caller_in : State → Caller
+caller_in s = record { memory = s.memory; frames = s.frames; pc = s.pc; fp = s.regs FP; sp = s.regs SP }
 
 -- a call to an address makes a frame above sp
 abbrev pub planned_call : Frames → ℕ → ℕ → Result Push ℕ
@@ -97,21 +110,20 @@ entered_switched entry stack pc fp extra kind = record {
 }
 
 -- a procedure is entered by its word in the table; the return type goes by whether stacks are switched
-abbrev pub entered_by : Memory → ℕ → ℕ → ℕ → ℕ → ℕ → ℕ → (Bool → ℕ) → Sys
-entered_by m table entry pc fp sp extra kind =
-    if is_switch entry pc
-    then entered_switched entry (word_in m (stack_address table)) pc fp extra (kind true)
-    else entered_here entry pc fp sp extra (kind false)
+abbrev pub entered_by : Caller → ℕ → ℕ → ℕ → (Bool → ℕ) → Sys
+entered_by c table entry extra kind =
+    if is_switch entry c.pc
+    then entered_switched entry (word_in c.memory (stack_address table)) c.pc c.fp extra (kind true)
+    else entered_here entry c.pc c.fp c.sp extra (kind false)
 
 -- procedure n is entered, above a record of so many bytes
-unfoldable pub system_entered : Memory → ℕ → ℕ → ℕ → ℕ → ℕ → ℕ → (Bool → ℕ) → Sys
-system_entered m table n pc fp sp extra kind = entered_by m table
-    (word_in m (entry_address table n)) pc fp sp extra kind
+unfoldable pub system_entered : Caller → ℕ → ℕ → ℕ → (Bool → ℕ) → Sys
+system_entered c table n extra kind = entered_by c table (word_in c.memory (entry_address table n)) extra kind
 
 -- what is planned of procedure n, or the hazard that it meets
-abbrev pub planned_system : Memory → Frames → ℕ → ℕ → ℕ → ℕ → ℕ → ℕ → (Bool → ℕ) → Result Sys ℕ
-planned_system m f table n pc fp sp extra kind = unless (system_hazard m f table n pc fp)
-    (system_entered m table n pc fp sp extra kind)
+abbrev pub planned_system : Caller → ℕ → ℕ → ℕ → (Bool → ℕ) → Result Sys ℕ
+planned_system c table n extra kind =
+    unless (system_hazard c.memory c.frames table n c.pc c.fp) (system_entered c table n extra kind)
 
 -- the return type of a system call: 000, or where stacks are switched 010 plus the old trace enable
 abbrev pub call_type : ℕ → Bool → ℕ
@@ -123,10 +135,9 @@ calls_answer (Ok s) = Ok s
 calls_answer (Err a) = Err (Hazard a)
 
 -- a system call, of a number that is not too great
-abbrev pub planned_calls : Memory → Frames → ℕ → ℕ → ℕ → ℕ → ℕ → Result Sys CallsStop
-planned_calls m f table n pc fp sp =
-    if nat_le n MOST_SYSTEM_CALL then calls_answer
-    (planned_system m f table n pc fp sp 0 (call_type pc)) else Err Length
+abbrev pub planned_calls : Caller → ℕ → ℕ → Result Sys CallsStop
+planned_calls c table n =
+    if nat_le n MOST_SYSTEM_CALL then calls_answer (planned_system c table n 0 (call_type c.pc)) else Err Length
 
 -- ---- returns
 

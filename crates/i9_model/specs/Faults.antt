@@ -24,7 +24,8 @@ use Rattle.i9_model.specs.Memory.{Memory, word_in}
 use Rattle.i9_model.specs.State.{Frames}
 use Rattle.i9_model.specs.Hazards.{unless, read_hazard, record_write_hazard}
 use Rattle.i9_model.specs.Numbers.{complement}
-use Rattle.i9_model.specs.Calls.{in_supervisor_mode, save_area, system_hazard_by, entered_here, system_entered}
+use Rattle.i9_model.specs.Calls.{in_supervisor_mode, Caller, save_area, system_hazard_by, entered_here}
+use Rattle.i9_model.specs.Calls.{system_entered}
 
 -- ---- the faults of an instruction
 
@@ -128,11 +129,12 @@ planned_handler m f at = do
 
 -- The handler is entered above a record and with the return type of a fault: on the stack in use, or as by a system
 -- call. What is checked of the push goes by whether stacks are switched.
-unfoldable pub planned_frame : Memory → Frames → ℕ → ℕ → ℕ → ℕ → (Bool → Option ℕ) → Handler → Result Sys ℕ
-planned_frame m f system pc fp sp area (Local target) = unless (area false)
-    (entered_here target pc fp sp RECORD_SIZE FAULT_RETURN)
-planned_frame m f system pc fp sp area (System n) =
-    unless (system_hazard_by m f system n pc area) (system_entered m system n pc fp sp RECORD_SIZE (λ _. FAULT_RETURN))
+unfoldable pub planned_frame : Caller → ℕ → (Bool → Option ℕ) → Handler → Result Sys ℕ
+planned_frame c system area (Local target) =
+    unless (area false) (entered_here target c.pc c.fp c.sp RECORD_SIZE FAULT_RETURN)
+planned_frame c system area (System n) =
+    unless (system_hazard_by c.memory c.frames system n c.pc area)
+    (system_entered c system n RECORD_SIZE (λ _. FAULT_RETURN))
 
 -- trace enable and trace fault pending are cleared
 abbrev pub without_trace : ℕ → ℕ
@@ -146,15 +148,15 @@ abbrev pub entry_of : Fault → ℕ → ℕ → Sys → Entry
 entry_of fault pc ac s = record
     { push = s.push; target = s.target; pc = without_trace s.pc; words = fault_record fault pc ac }
 
--- The entry of a fault by a fault table and a system procedure table, or what stops it first: the entry's words are
--- read, then what a system procedure needs, then the frame is saved, and then the record is written.
-unfoldable pub planned_fault_by : Memory → Frames → ℕ → ℕ → Fault → ℕ → ℕ → ℕ → ℕ → (Bool → Option ℕ)
-    → Result Entry FaultStop
-planned_fault_by m f table system fault pc ac fp sp area = do
-  handler ← planned_handler m f (table_entry table fault.kind)
-  sys ← or_stop (planned_frame m f system pc fp sp area handler)
-  or_stop (unless (record_write_hazard f sys.push) (entry_of fault pc ac sys))
+-- The entry of a fault by a fault table and a system procedure table, with these arithmetic controls, or what stops it
+-- first: the entry's words are read, then what a system procedure needs, then the frame is saved, and then the record
+-- is written.
+unfoldable pub planned_fault_by : Caller → ℕ → ℕ → Fault → ℕ → (Bool → Option ℕ) → Result Entry FaultStop
+planned_fault_by c table system fault ac area = do
+  handler ← planned_handler c.memory c.frames (table_entry table fault.kind)
+  sys ← or_stop (planned_frame c system area handler)
+  or_stop (unless (record_write_hazard c.frames sys.push) (entry_of fault c.pc ac sys))
 
 -- of the push, the save area is checked alone
-abbrev pub planned_fault : Memory → Frames → ℕ → ℕ → Fault → ℕ → ℕ → ℕ → ℕ → Result Entry FaultStop
-planned_fault m f table system fault pc ac fp sp = planned_fault_by m f table system fault pc ac fp sp (save_area f fp)
+abbrev pub planned_fault : Caller → ℕ → ℕ → Fault → ℕ → Result Entry FaultStop
+planned_fault c table system fault ac = planned_fault_by c table system fault ac (save_area c.frames c.fp)

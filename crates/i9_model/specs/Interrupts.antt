@@ -21,7 +21,7 @@ use Rattle.i9_model.specs.Hazards.{or_else, unless, read_hazard, record_write_ha
 pub use Rattle.i9_model.specs.Requests.{with_bit, without_bit, vector_priority, priority_place, pending_place}
 pub use Rattle.i9_model.specs.Requests.{byte_hazard}
 unfoldable pub use Rattle.i9_model.specs.Requests.{request_hazard, request_writes}
-use Rattle.i9_model.specs.Calls.{save_area}
+use Rattle.i9_model.specs.Calls.{Caller, save_area}
 pub use Rattle.i9_model.specs.Calls.{priority_of}
 use Rattle.i9_model.specs.Step.{bytes_of_words}
 
@@ -196,15 +196,14 @@ interrupt_entry m table c push words = record {
   words = words;
 }
 
--- what the entry of an interrupt makes, or the hazard that it meets
-unfoldable pub planned_interrupt_by : Memory → Frames → ℕ → ℕ → Chosen → ℕ → ℕ → ℕ → ℕ → (Bool → Option ℕ)
-    → Result Entry ℕ
-planned_interrupt_by m f table stack c pc ac fp sp area =
-    let push = interrupt_push stack pc fp sp in
-    let words = interrupt_record c.vector pc ac in
-    unless (interrupt_hazard m f table c push words (area (not (bit pc INTERRUPTED_PLACE))))
-    (interrupt_entry m table c push words)
+-- what the entry of an interrupt makes, with these arithmetic controls, or the hazard that it meets
+unfoldable pub planned_interrupt_by : Caller → ℕ → ℕ → Chosen → ℕ → (Bool → Option ℕ) → Result Entry ℕ
+planned_interrupt_by from table stack c ac area =
+    let push = interrupt_push stack from.pc from.fp from.sp in
+    let words = interrupt_record c.vector from.pc ac in
+    unless (interrupt_hazard from.memory from.frames table c push words (area (not (bit from.pc INTERRUPTED_PLACE))))
+    (interrupt_entry from.memory table c push words)
 
 -- of the push, the save area is checked alone
-abbrev pub planned_interrupt : Memory → Frames → ℕ → ℕ → Chosen → ℕ → ℕ → ℕ → ℕ → Result Entry ℕ
-planned_interrupt m f table stack c pc ac fp sp = planned_interrupt_by m f table stack c pc ac fp sp (save_area f fp)
+abbrev pub planned_interrupt : Caller → ℕ → ℕ → Chosen → ℕ → Result Entry ℕ
+planned_interrupt from table stack c ac = planned_interrupt_by from table stack c ac (save_area from.frames from.fp)

@@ -6,7 +6,6 @@ use Rattle.i9_isa.specs.declared.op.Op.{Op}
 use Rattle.i9_isa.specs.declared.op.Op.TheVariants.{Flushreg, Syncf}
 use Rattle.i9_isa.specs.declared.inst.Inst.{Inst}
 use Rattle.i9_isa.specs.Words.{words_of}
-use Rattle.i9_model.specs.declared.layout.TheConstants.{FP, SP}
 use Rattle.i9_model.specs.declared.faults.TheConstants.{TRACE}
 use Rattle.i9_model.specs.declared.faults.Fault.{Fault}
 use Rattle.i9_model.specs.declared.faults.Entry.{Entry}
@@ -24,6 +23,7 @@ use Rattle.i9_model.specs.Before.{Received, choice_in, interrupt_in, interruptin
 use Rattle.i9_model.specs.ScheduleText.{timed_at, standing}
 use Rattle.i9_model.specs.Standing.{Standing, Meets, Refused, Faults, Runs, stands_at}
 use Rattle.i9_model.specs.Stale.{area_hazard}
+use Rattle.i9_model.specs.Calls.{caller_in}
 use Rattle.i9_model.specs.Faults.{planned_fault_by}
 pub use Rattle.i9_model.specs.Given.{Given}
 pub use Rattle.i9_model.specs.declared.run.End.{End}
@@ -162,8 +162,8 @@ next_by_entry s (Err (stops.Dead code a)) = Ends (finish (Dead code a))
 
 -- the entry of a fault in a state
 unfoldable pub entry_in : State → Fault → Result Entry FaultStop
-entry_in s fault = planned_fault_by s.memory s.frames s.tables.fault_table s.tables.system_table fault s.pc s.ac
-    (s.regs FP) (s.regs SP) (area_hazard s)
+entry_in s fault =
+    planned_fault_by (caller_in s) s.tables.fault_table s.tables.system_table fault s.ac (area_hazard s)
 
 -- an event does what it does, unless that meets a hazard; it is reached in either case
 abbrev pub next_by_received : State → Event → Result Received ℕ → Next

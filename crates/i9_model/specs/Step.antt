@@ -37,7 +37,7 @@ use Rattle.i9_model.specs.Stale.{stored_marks, saved_marks, left_memory, left_st
 use Rattle.i9_model.specs.Stale.{result_marks}
 use Rattle.i9_model.specs.Requests.{request_writes}
 use Rattle.i9_model.specs.Dma.{set_up}
-use Rattle.i9_model.specs.Calls.{priority_of, call_type, system_entered, record_address, popped}
+use Rattle.i9_model.specs.Calls.{priority_of, caller_in, call_type, system_entered, record_address, popped}
 use Rattle.i9_model.specs.Operands.{value, word_of, source_words, assigned, interrupts_assigned, dma_assigned, address}
 use Rattle.i9_model.specs.Operands.{target}
 use Rattle.i9_model.specs.Numbers.{complement}
@@ -333,8 +333,7 @@ call_action i s to = pushing s (pushed (s.regs FP) (s.regs SP) 0 LOCAL_RETURN) (
 
 -- the procedure that calls enters
 abbrev pub system_call : Inst → State → Sys
-system_call i s = system_entered s.memory s.tables.system_table (value s i.a) s.pc (s.regs FP) (s.regs SP) 0
-    (call_type s.pc)
+system_call i s = system_entered (caller_in s) s.tables.system_table (value s i.a) 0 (call_type s.pc)
 
 abbrev pub calls_action : Inst → State → Action
 calls_action i s = record (pushing s (system_call i s).push (following i s) (system_call i s).target)

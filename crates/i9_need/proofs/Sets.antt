@@ -1,5 +1,5 @@
 -- Sets of resources as numbers, and which instructions have a data access.
-use Rattle.std.proofs.Common.{◌≡◌, ℕ, zero, suc, ◌+◌, ◌%◌, ◌^◌, ◌<◌, ◌≤◌, Bool, true, false, cond, ◌&&◌, leb, refl, sym, ap, inl, inr, ◌∙◌, arith, lit<}
+use Rattle.std.proofs.Common.{◌≡◌, ℕ, ◌+◌, ◌%◌, ◌^◌, ◌<◌, ◌≤◌, Bool, true, false, cond, ◌&&◌, leb, refl, sym, ap, inl, inr, ◌∙◌, arith}
 use Rattle.std.specs.Prelude.{◌==◌, nat_lt}
 use Rattle.std.specs.Int.{from_bool}
 use Rattle.std.proofs.lemmas.Bool.{cases_lt, or_from, and_parts}
@@ -20,18 +20,9 @@ use Rattle.i9_isa.specs.Resources.{IsSetOf, is_in_group, is_in_operand, is_in_fr
 use Rattle.i9_isa.specs.Table.{row_of}
 use Rattle.i9_isa.specs.Valid.{IsValid, FitsAddress}
 use Rattle.i9_model.specs.Needs.{set_below, set_of, is_store_name, has_access}
-use Rattle.i9_model.proofs.SetLaws.{set_bits}
+use Rattle.i9_model.proofs.SetLaws.{set_bits, below_pow}
 
 -- ---- two numbers with the same bits
-
-pow_cases : (b : Bool) (x n : ℕ) → x < 2 ^ n → x + cond b (2 ^ n) 0 < 2 ^ suc n
-pow_cases true x n h = omega (arith, h)
-pow_cases false x n h = omega (arith, h)
-
-below_pow : (n : ℕ) (p : ℕ → Bool) → set_below n p < 2 ^ n
-unfolding set_below
-below_pow zero p = lit< tt
-below_pow (suc n) p = pow_cases (p n) (set_below n p) n (below_pow n p)
 
 -- a number with the bits of a set of resources is its number
 pub same_set : (x : ℕ) (p : ℕ → Bool) → x < 2 ^ 64 → IsSetOf x p → ((k : ℕ) → 33 ≤ k → p k ≡ false) → x ≡ set_of p

@@ -12,9 +12,9 @@ use Rattle.i9_past.proofs.Left.{IsAtPlace, standing_at_place, next_leaves}
 
 -- ---- no run counts beyond its length
 
-boot-count : (image : List (ℕ × ℕ)) → (boot image).count ≡ 0
+pub boot_count : (image : List (ℕ × ℕ)) → (boot image).count ≡ 0
 unfolding boot started
-boot-count image = refl
+boot_count image = refl
 
 -- some plan has the event that stands
 plan_of : Option Event → List Timed
@@ -31,7 +31,7 @@ pub within_next : (limit : ℕ) (due : Due) (o : Option Event) (s : State) (r : 
 within_next limit due o s r e = (next_leaves limit (plan_of o) 0 due o s r (in_plan_of o) e).within
 
 pub some_within : (g : Given) (rs : List Record) → IsPastOfSome (next_with g) rs → (state_after g rs).count ≤ g.length
-some_within g [] past = omega (arith, boot-count g.image)
+some_within g [] past = omega (arith, boot_count g.image)
 some_within g (r ∷ rs) past =
     within_next g.length (due_after rs) past.1.0 (state_after g rs) r past.1.1 (some_within g rs past.0)
 

@@ -17,6 +17,7 @@ use Rattle.i9_model.specs.Run.{Given, Kind, Instruction, Faulted, Entered, Inter
 use Rattle.i9_model.specs.declared.run.End.{End}
 use Rattle.i9_model.specs.declared.run.End.TheVariants.{Limit, Hazard, Dead}
 use Rattle.i9_model.specs.PlannedRuns.{Tally, IsHeedful, IsCounted, next_by, IsPastBy}
+use Rattle.i9_past.proofs.Unique.{does_is}
 use Rattle.i9_past.proofs.Comes.{MayCome, next_comes}
 use Rattle.i9_past.proofs.Left.{counts_after}
 use Rattle.i9_past.proofs.PlannedRuns.{past_of_reached, past_with_end, end_of_reached}
@@ -168,9 +169,6 @@ count_after g o rs r e =
     let comes = next_comes g.length (due_after rs) o s r e in
     ap (λ (q : Record). q.after.count) comes.0 ∙ counts_after r.kind s
 
-same_done : (q r : Record) → Does q ≡ Does r → q ≡ r
-same_done q r e = cc
-
 one_more : (xs : List Timed) (x : Timed) → xs ++ x ∷ [] ≡ xs → ⊥
 one_more xs x e =
     let longer : length (xs ++ x ∷ []) ≡ length xs + 1 = length-append xs (x ∷ []) in
@@ -182,7 +180,7 @@ counted g = record {
   grows = λ o rs r e. let count = count_after g o rs r e in omega (arith, count);
   counts = λ rs e q r with_event reaches without. elim (due_displaces g.length (due_after rs) (state_after g rs) e) [
     | inl same ↦
-        let one : q ≡ r = same_done q r (sym with_event ∙ same ∙ without) in
+        let one : q ≡ r = does_is q r (sym with_event ∙ same ∙ without) in
         let none = reaches_none g rs r without in
         let also : reached_after (q ∷ rs) ≡ reached_after (r ∷ rs) = ap (λ (x : Record). reached_after (x ∷ rs)) one in
         absurd (one_more (reached_after rs) (timed_at (state_after g rs).count e) (sym reaches ∙ also ∙ none))

@@ -1,8 +1,8 @@
 -- Each record leaves less of a run, and none counts beyond the length.
-use Rattle.std.proofs.Common.{◌≡◌, ◌≢◌, ℕ, zero, suc, ◌+◌, ◌-◌, ◌*◌, ◌/◌, ◌%◌, ◌^◌, ◌<◌, ◌≤◌, Bool, true, false, cond, eqb, List, [], ◌∷◌, ◌++◌, length, drop, Result, Ok, Err, Option, Some, None, find, refl, sym, ap, subst, ◌∙◌, inl, inr, arith}
+use Rattle.std.proofs.Common.{◌≡◌, ◌≢◌, ℕ, zero, suc, ◌+◌, ◌-◌, ◌*◌, ◌/◌, ◌<◌, ◌≤◌, Bool, true, false, cond, eqb, List, [], ◌∷◌, ◌++◌, length, drop, Result, Ok, Err, Option, Some, None, find, refl, sym, ap, subst, ◌∙◌, inl, inr, arith}
 use Rattle.std.specs.Prelude.{◌&&◌, ◌==◌, ◌⊎◌, not, map, filter, flat_map}
 use Rattle.std.specs.List.{slice_get, range_with_len, AllByRecursion}
-use Rattle.std.proofs.lemmas.Bool.{cases_Bool, eqb-true}
+use Rattle.std.proofs.lemmas.Bool.{and_parts, cases_Bool, eqb-true}
 use Rattle.i9_isa.specs.declared.inst.Inst.{Inst}
 use Rattle.i9_isa.specs.declared.op.Op.{Op}
 use Rattle.i9_isa.specs.declared.op.Op.TheVariants.{Lda, Atadd, Atmod, Bx, Balx, Bal, Call, Callx, Calls, Ret, Flushreg, Modac, Modtc, Modpc, Sdma, Sysctl}
@@ -106,10 +106,6 @@ find_both P test (y ∷ ys) x all found = by_test (test y) refl found (find_both
     by_test true is e later = let same : y ≡ x = cc in (subst P same all.0, ap test (sym same) ∙ is)
     by_test false is e later = later e
 
-both_hold : (a b : Bool) → (a && b) ≡ true → (a ≡ true) × (b ≡ true)
-both_hold true b h = (refl, h)
-both_hold false b h = absurd cc
-
 -- the priority that an entry leaves
 entry_room : (v : ℕ) → v < 256 → room_of (interrupt_pc v) ≡ 31 - v / 8
 entry_room v small = omega arith
@@ -153,7 +149,7 @@ chosen_asked i soft pc c is = by_nmi i.nmi refl is
     by_nmi true n e = let same : choice Nmi NMI_VECTOR ≡ c = cc in subst (λ (x : Chosen). WasAsked i soft pc x.cause x.vector) same (n, omega arith)
     by_nmi false n e =
         let passed = find_both HasVector (λ (x : Chosen). is_asked i soft x.cause x.vector && passes pc (vector_priority x.vector)) (choices i.maps) c (all_choices i.maps) e in
-        let both = both_hold (is_asked i soft c.cause c.vector) (passes pc (vector_priority c.vector)) passed.1 in
+        let both = and_parts (is_asked i soft c.cause c.vector) (passes pc (vector_priority c.vector)) passed.1 in
         asked_by i soft pc c.cause c.vector passed.0 both.0 both.1
 
 -- an entry asks for less

@@ -11,6 +11,7 @@ use Rattle.i9_model.specs.declared.event.When.TheVariants.{At, Turn}
 use Rattle.i9_model.specs.declared.event.Timed.{Timed}
 use Rattle.i9_model.specs.ScheduleText.{timed_at, has_come_at, event_at, standing}
 use Rattle.i9_model.specs.Run.{Record, Finish, Does, Ends, IsPastOfSome, reached_last}
+use Rattle.i9_past.proofs.Unique.{does_is, ends_is}
 use Rattle.i9_model.specs.PlannedRuns.{Stepping, Tally, IsHeedful, IsCounted, next_by, reached_with, IsPastBy}
 
 at_seam : (xs ys : List Timed) → slice_get (xs ++ ys) (length xs) ≡ slice_get ys 0
@@ -36,12 +37,6 @@ first_left k (t ∷ ts) e h = (ts, ap (λ (x : Timed). x ∷ ts) (stands k t.whe
 same_count : (n : ℕ) → eqb n n ≡ true
 same_count n = grind (arith)
 
-same_record : (r q : Record) → Does r ≡ Does q → r ≡ q
-same_record r q e = cc
-
-same_finish : (f k : Finish) → Ends f ≡ Ends k → f ≡ k
-same_finish f k e = cc
-
 module _ (next : Stepping) (tally : Tally) (heeds : IsHeedful next tally) where
   -- a record reaches nothing, or the event that stands there
   grown : (rs : List Record) (r : Record) (o : Option Event) → next o rs ≡ Does r
@@ -50,7 +45,7 @@ module _ (next : Stepping) (tally : Tally) (heeds : IsHeedful next tally) where
   grown rs r (Some e) h = elim (heeds.heard rs e) [
     | inl same ↦ let n = sym same ∙ h in inl (heeds.quiet rs r n, n)
     | inr (inl found) ↦
-        let q = same_record found.0 r (sym found.1 ∙ h) in
+        let q = does_is found.0 r (sym found.1 ∙ h) in
         inr (e, refl, subst (λ (x : Record). tally.reached (x ∷ rs) ≡ tally.reached rs ++ timed_at (tally.count rs) e ∷ []) q found.2)
     | inr (inr ends) ↦ absurd (cc (sym ends.1 ∙ h))
   ]
@@ -113,7 +108,7 @@ module _ (next : Stepping) (tally : Tally) (heeds : IsHeedful next tally) where
     | inl same ↦ let n = sym same ∙ h in inl (heeds.silent rs f n, n)
     | inr (inl found) ↦ absurd (cc (sym found.1 ∙ h))
     | inr (inr ends) ↦
-        let one : ends.0 ≡ f = same_finish ends.0 f (sym ends.1 ∙ h) in
+        let one : ends.0 ≡ f = ends_is ends.0 f (sym ends.1 ∙ h) in
         inr (e, refl, subst (λ (x : Finish). x.event ≡ Some e) one ends.2)
   ]
 

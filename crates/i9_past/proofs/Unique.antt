@@ -2,10 +2,10 @@
 use Rattle.std.proofs.Common.{◌≡◌, ℕ, ◌<◌, ◌≤◌, ◌⊎◌, inl, inr, List, [], ◌∷◌, length, refl, sym, ap, ◌∙◌, arith}
 use Rattle.i9_model.specs.Run.{Given, Record, Next, Does, Ends, next, IsPastOf, IsRun, Finish}
 
-does_is : (r q : Record) → Does r ≡ Does q → r ≡ q
+pub does_is : (r q : Record) → Does r ≡ Does q → r ≡ q
 does_is r q e = cc
 
-ends_is : (e f : Finish) → Ends e ≡ Ends f → e ≡ f
+pub ends_is : (e f : Finish) → Ends e ≡ Ends f → e ≡ f
 ends_is e f h = cc
 
 module _ (comes : List Record → Next) where

@@ -1,12 +1,11 @@
 -- Bytes that are stored after others, one by one.
-use Rattle.std.proofs.Common.{◌≡◌, ℕ, ◌+◌, ◌-◌, ◌%◌, ◌<◌, ◌^◌, ◌||◌, ◌&&◌, ◌==◌, Bool, true, false, cond, List, [], ◌∷◌, ◌++◌, length, length-append, append-nil, take, ◌≤◌, ◌⊎◌, inl, inr, find, Some, None, refl, sym, ap, ◌∙◌, arith}
+use Rattle.std.proofs.Common.{◌≡◌, ℕ, ◌+◌, ◌-◌, ◌%◌, ◌<◌, ◌^◌, ◌||◌, ◌&&◌, ◌==◌, Bool, true, false, cond, List, [], ◌∷◌, ◌++◌, length, length-append, append-nil, ◌≤◌, ◌⊎◌, inl, inr, find, Some, None, refl, sym, ap, ◌∙◌, arith}
 use Rattle.std.specs.Prelude.{not}
 use Rattle.std.specs.List.{slice_get}
-use Rattle.std.proofs.lemmas.List.{take_all}
 use Rattle.std.proofs.lemmas.Option.{slice_get_past}
 use Rattle.std.proofs.lemmas.Bool.{eqb-true}
 use Rattle.std.proofs.lemmas.Bool.Decides.{nat_tests}
-use Rattle.i9_model.specs.declared.layout.TheConstants.{LOCALS, PORT_PAGE, CONSOLE, EXIT_WORD}
+use Rattle.i9_model.specs.declared.layout.TheConstants.{PORT_PAGE, CONSOLE, EXIT_WORD}
 use Rattle.i9_model.specs.Writes.{wrapped, places_of, upwards, last_put, written}
 use Rattle.i9_model.specs.Memory.{Memory, with_writes, console_byte, exit_word}
 use Rattle.i9_model.specs.State.{Frames}
@@ -18,13 +17,11 @@ use Rattle.i9_processor.specs.declared.effect.Effect.{Effect}
 use Rattle.i9_model.specs.Hazards.{writes_hazard}
 use Rattle.i9_model.specs.HeldFrames.{Cache, cache_stored}
 use Rattle.i9_model.proofs.Stored.{stored-append}
-use Rattle.i9_model.proofs.Upwards.{last_put-from}
+use Rattle.i9_model.proofs.Upwards.{last_put-from, one_write}
 use Rattle.i9_model.proofs.FrameLaws.{none_wrote}
 use Rattle.i9_storage.specs.declared.storage.Storage.{Storage}
 use Rattle.i9_storage.specs.Storage.{KeepsSpace}
-use Rattle.i9_processor.specs.declared.effect.Move.{Move}
-use Rattle.i9_processor.specs.declared.effect.Move.TheVariants as moves
-use Rattle.i9_processor.specs.Effect.{one_in, requests_in, run_in, writes_in, marked_by, marked_in, stale_in, AreBelowPort, AreSpacious}
+use Rattle.i9_processor.specs.Effect.{one_in, requests_in, run_in, writes_in, stale_in, AreBelowPort, AreSpacious}
 
 -- ---- writes after others
 
@@ -107,9 +104,6 @@ later_free f (p ∷ ps) qs rs none = by_live (in_frames f.live p.0) none (later_
     by_live false e later = later e
 
 -- ---- one byte
-
-pub one_write : (a v : ℕ) → a < 2 ^ 32 → upwards a (v ∷ []) ≡ (a, v) ∷ []
-one_write a v h = let same : wrapped a ≡ a = omega arith in ap (λ (x : ℕ). (x, v) ∷ []) same
 
 -- ---- no byte
 
@@ -203,8 +197,3 @@ two_listed (x ∷ y ∷ z ∷ xs) few = absurd (omega (arith, few))
 pub ruleset listed_rules = (two_listed)
 
 -- ---- all bytes of a run
-
-pub first_all : (bs : List ℕ) (n : ℕ) → length bs ≡ n → take n bs ≡ bs
-first_all bs n long = take_all n bs (omega (arith, long))
-
-pub ruleset first_rules = (first_all)

@@ -1,18 +1,9 @@
 -- A set of registers that is filled from the lowest one up.
-use Rattle.std.proofs.Common.{◌≡◌, ℕ, zero, suc, ◌+◌, ◌*◌, ◌%◌, ◌^◌, ◌<◌, ◌≤◌, Bool, true, false, cond, arith, lit<, ap, ◌∙◌, add-one}
+use Rattle.std.proofs.Common.{◌≡◌, ℕ, suc, ◌+◌, ◌*◌, ◌%◌, ◌^◌, ◌<◌, ◌≤◌, Bool, true, false, cond, arith, ap, ◌∙◌, add-one}
+use Rattle.i9_model.proofs.SetLaws.{below_pow}
 use Rattle.std.proofs.Math.Nat.{mod-eq_of_lt}
 use Rattle.std.proofs.Math.Pow.{pow-lt, pow_mono}
 use Rattle.i9_model.specs.Needs.{set_below}
-
-pow_cases : (b : Bool) (x n : ℕ) → x < 2 ^ n → x + cond b (2 ^ n) 0 < 2 ^ suc n
-pow_cases true x n h = omega (arith, h)
-pow_cases false x n h = omega (arith, h)
-
--- a set of those below n is below 2^n
-pub set_small : (n : ℕ) (p : ℕ → Bool) → set_below n p < 2 ^ n
-unfolding set_below
-set_small zero p = lit< tt
-set_small (suc n) p = pow_cases (p n) (set_below n p) n (set_small n p)
 
 one_more : (n : ℕ) (p : ℕ → Bool) → set_below (n + 1) p ≡ set_below n p + cond (p n) (2 ^ n) 0
 unfolding set_below
@@ -37,7 +28,7 @@ bit_is n low =
 
 pub bit_fits : (n : ℕ) (p : ℕ → Bool) → n < 32 → set_below n p + 2 ^ n < 2 ^ 32
 bit_fits n p low =
-    let small : set_below n p < 2 ^ n = set_small n p in
+    let small : set_below n p < 2 ^ n = below_pow n p in
     let next : suc n ≤ 32 = omega (arith, low) in
     let top : 2 ^ suc n ≤ 2 ^ 32 = pow_mono next in
     omega (arith, small, top)

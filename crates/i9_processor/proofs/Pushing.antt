@@ -1,7 +1,6 @@
 -- What a push by marked pointers meets before its save area, and that one by others meets nothing else.
-use Rattle.std.proofs.Common.{◌≡◌, ℕ, ◌<◌, ◌≤◌, Bool, true, false, cond, List, Option, Some, None, Result, Ok, Err, refl, sym, ap, ◌∙◌, arith}
+use Rattle.std.proofs.Common.{◌≡◌, ℕ, Bool, true, false, cond, List, Option, Some, None, Result, Ok, Err, refl, sym, ap, ◌∙◌}
 use Rattle.std.specs.Prelude.{◌||◌, ◌&&◌, not, nat_le, unwrap_or}
-use Rattle.std.proofs.lemmas.Bool.Decides.{nat_tests}
 use Rattle.i9_isa.specs.Words.{bit}
 use Rattle.i9_model.specs.declared.layout.TheConstants.{FP, SP, MOST_SYSTEM_CALL, LOCAL_RETURN}
 use Rattle.i9_model.specs.declared.interrupts.TheConstants.{INTERRUPTED_PLACE}
@@ -18,13 +17,13 @@ use Rattle.i9_model.specs.State.{State}
 use Rattle.i9_model.specs.Frames.{rounded_down, pushed}
 use Rattle.i9_model.specs.Hazards.{or_else, unless, read_hazard, save_hazard, record_write_hazard}
 use Rattle.i9_model.specs.Stale.{push_mark, area_hazard}
-use Rattle.i9_model.specs.Calls.{save_area, system_hazard_by, system_hazard, system_entered, call_type, calls_answer, planned_call, planned_calls}
+use Rattle.i9_model.specs.Calls.{caller_in, save_area, system_hazard_by, system_hazard, system_entered, call_type, calls_answer, planned_call, planned_calls}
 use Rattle.i9_model.specs.Faults.{planned_fault_by}
 use Rattle.i9_model.specs.Interrupts.{vector_place, interrupt_push, interrupt_record, cleared_hazard, interrupt_hazard, interrupt_entry, planned_interrupt, planned_interrupt_by}
 use Rattle.i9_model.specs.Before.{interrupt_in}
 use Rattle.i9_model.specs.Run.{entry_in}
 use Rattle.i9_entry.specs.Switches.{system_switch}
-use Rattle.i9_entry.proofs.Switching.{system-stops, system-goes_on}
+use Rattle.i9_entry.proofs.Switching.{system-goes_on}
 use Rattle.i9_faults.specs.Switches.{fault_switch}
 use Rattle.i9_faults.proofs.Switching.{fault-stops, fault-alike, fault-refused}
 use Rattle.i9_processor.specs.Entries.{call_in, calls_in}
@@ -65,17 +64,14 @@ pub ruleset call_rules = (call_plain, call_marked)
 
 -- by what is checked of its push
 abbrev calls_by : State → ℕ → Option ℕ → Result Sys CallsStop
-calls_by s n hazard = cond (nat_le n MOST_SYSTEM_CALL) (calls_answer (unless hazard (system_entered s.memory s.tables.system_table n s.pc (s.regs FP) (s.regs SP) 0 (call_type s.pc)))) (Err calls.Length)
+calls_by s n hazard = cond (nat_le n MOST_SYSTEM_CALL) (calls_answer (unless hazard (system_entered (caller_in s) s.tables.system_table n 0 (call_type s.pc)))) (Err calls.Length)
 
-most : (n : ℕ) → n ≤ MOST_SYSTEM_CALL → nat_le n MOST_SYSTEM_CALL ≡ true
-most n h = grind (arith, nat_tests, h)
-
-pub calls_plain : (s : State) (n : ℕ) → (s.marks FP || s.marks SP) ≡ false → planned_calls s.memory s.frames s.tables.system_table n s.pc (s.regs FP) (s.regs SP) ≡ calls_in s n
+pub calls_plain : (s : State) (n : ℕ) → (s.marks FP || s.marks SP) ≡ false → planned_calls (caller_in s) s.tables.system_table n ≡ calls_in s n
 unfolding system_hazard
 calls_plain s n none = sym (ap (λ (area : Bool → Option ℕ). calls_by s n (system_hazard_by s.memory s.frames s.tables.system_table n s.pc area)) (area_of s none))
 
 pub calls_goes_on : (s : State) (n : ℕ) (b : Bool) → system_switch s.memory s.frames s.tables.system_table n s.pc ≡ Ok b → push_mark s b ≡ None
-    → planned_calls s.memory s.frames s.tables.system_table n s.pc (s.regs FP) (s.regs SP) ≡ calls_in s n
+    → planned_calls (caller_in s) s.tables.system_table n ≡ calls_in s n
 unfolding system_hazard
 calls_goes_on s n b e none =
     ap (calls_by s n)
@@ -87,7 +83,7 @@ calls_goes_on s n b e none =
 
 -- what it makes where a push is checked so
 abbrev fault_by : State → Fault → (Bool → Option ℕ) → Result Entry FaultStop
-fault_by s fault area = planned_fault_by s.memory s.frames s.tables.fault_table s.tables.system_table fault s.pc s.ac (s.regs FP) (s.regs SP) area
+fault_by s fault area = planned_fault_by (caller_in s) s.tables.fault_table s.tables.system_table fault s.ac area
 
 -- whether it switches stacks
 abbrev fault_switches : State → Fault → Result Bool FaultStop
@@ -95,17 +91,17 @@ fault_switches s fault = fault_switch s.memory s.frames s.tables.fault_table s.t
 
 pub fault_stop : (s : State) (fault : Fault) (stop : FaultStop) → fault_switches s fault ≡ Err stop → Err stop ≡ entry_in s fault
 unfolding entry_in
-fault_stop s fault stop e = sym (fault-stops s.memory s.frames s.tables.fault_table s.tables.system_table fault s.pc s.ac (s.regs FP) (s.regs SP) (area_hazard s) stop e)
+fault_stop s fault stop e = sym (fault-stops (caller_in s) s.tables.fault_table s.tables.system_table fault s.ac (area_hazard s) stop e)
 
 pub fault_marked : (s : State) (fault : Fault) (b : Bool) (a : ℕ) → fault_switches s fault ≡ Ok b → push_mark s b ≡ Some a → Err (faults.Hazard a) ≡ entry_in s fault
 unfolding entry_in
 fault_marked s fault b a e some =
-    sym (fault-refused s.memory s.frames s.tables.fault_table s.tables.system_table fault s.pc s.ac (s.regs FP) (s.regs SP) (area_hazard s) b a e (area_marked s b a some))
+    sym (fault-refused (caller_in s) s.tables.fault_table s.tables.system_table fault s.ac (area_hazard s) b a e (area_marked s b a some))
 
 pub fault_goes_on : (s : State) (fault : Fault) (b : Bool) → fault_switches s fault ≡ Ok b → push_mark s b ≡ None → fault_by s fault (save_area s.frames (s.regs FP)) ≡ entry_in s fault
 unfolding entry_in
 fault_goes_on s fault b e none =
-    sym (fault-alike s.memory s.frames s.tables.fault_table s.tables.system_table fault s.pc s.ac (s.regs FP) (s.regs SP) (area_hazard s) (save_area s.frames (s.regs FP)) b e (area_plain s b none))
+    sym (fault-alike (caller_in s) s.tables.fault_table s.tables.system_table fault s.ac (area_hazard s) (save_area s.frames (s.regs FP)) b e (area_plain s b none))
 
 -- ---- the entry of an interrupt
 
@@ -121,7 +117,7 @@ interrupt_by s c area =
     unless (interrupt_hazard s.memory s.frames s.tables.interrupt_table c push words area) (interrupt_entry s.memory s.tables.interrupt_table c push words)
 
 pub interrupt_plain : (s : State) (c : Chosen) → push_mark s (leaves_stack s) ≡ None
-    → planned_interrupt s.memory s.frames s.tables.interrupt_table s.tables.interrupt_stack c s.pc s.ac (s.regs FP) (s.regs SP) ≡ interrupt_in s c
+    → planned_interrupt (caller_in s) s.tables.interrupt_table s.tables.interrupt_stack c s.ac ≡ interrupt_in s c
 unfolding interrupt_in planned_interrupt_by
 interrupt_plain s c none = sym (ap (interrupt_by s c) (area_plain s (leaves_stack s) none))
 

@@ -12,8 +12,8 @@ use Rattle.i9_processor.specs.declared.effect.Effect.{Effect}
 use Rattle.i9_processor.specs.declared.effect.Move.{Move}
 use Rattle.i9_processor.specs.declared.effect.Move.TheVariants as moves
 use Rattle.i9_processor.specs.declared.processor.Processor.{Processor}
-use Rattle.i9_processor.proofs.Appending.{first_spacious, later_spacious}
-use Rattle.i9_processor.specs.Effect.{action_in, run_in, requests_in, move_in, HasMoveSpace, HasRunSpace, HasSpaceFor, HasRoomToMove, HasRoomFor, AreSpacious, AreMarkable, KeepsRoom}
+use Rattle.i9_processor.proofs.Appending.{first_spacious, later_spacious, spacious_kept}
+use Rattle.i9_processor.specs.Effect.{action_in, run_in, requests_in, move_in, HasMoveSpace, HasSpaceFor, HasRoomToMove, HasRoomFor, AreMarkable, KeepsRoom}
 use Rattle.i9_processor.proofs.MarkBits.{some_stale}
 
 -- bytes one by one are bytes in a row
@@ -49,10 +49,6 @@ move_kept s t (moves.Returns frame) keeps space = tt
 move_kept s t moves.Flushes keeps space = tt
 
 -- what could be written still can be
-spacious_kept : (s t : Storage) (ps : List (ℕ × ℕ)) → KeepsSpace s t → AreSpacious s ps → AreSpacious t ps
-spacious_kept s t [] keeps all = tt
-spacious_kept s t (p ∷ ps) keeps all = ((λ k lt. keeps (wrapped (p.0 + k)) (all.0 k lt)), spacious_kept s t ps keeps all.1)
-
 save_kept : (s t : Storage) (m : plain.Move) → KeepsFrameSpace s t → HasRoomToMove s m → HasRoomToMove t m
 save_kept s t plain.Stays keeps room = tt
 save_kept s t (plain.Saves save words) keeps room = keeps save room

@@ -9,7 +9,7 @@ use Rattle.i9_model.specs.State.{State}
 use Rattle.i9_model.specs.Frames.{pushed}
 use Rattle.i9_model.specs.Hazards.{unless}
 use Rattle.i9_model.specs.Stale.{area_hazard}
-use Rattle.i9_model.specs.Calls.{system_hazard_by, system_entered, call_type, calls_answer}
+use Rattle.i9_model.specs.Calls.{caller_in, system_hazard_by, system_entered, call_type, calls_answer}
 
 -- a call to an address
 abbrev pub call_in : State → Result Push ℕ
@@ -20,5 +20,5 @@ abbrev pub calls_in : State → ℕ → Result Sys CallsStop
 calls_in s n =
     if nat_le n MOST_SYSTEM_CALL
     then calls_answer (unless (system_hazard_by s.memory s.frames s.tables.system_table n s.pc (area_hazard s))
-    (system_entered s.memory s.tables.system_table n s.pc (s.regs FP) (s.regs SP) 0 (call_type s.pc)))
+    (system_entered (caller_in s) s.tables.system_table n 0 (call_type s.pc)))
     else Err Length

@@ -196,7 +196,7 @@ fn listed_all(bytes: &[u8]) -> ArrayVec<u8, MOST_BYTES>
 /// The same. A byte, a word and four words have code of their own, since a copy is a move or two where its length is
 /// known.
 #[inline(always)]
-#[tactic(auto, using(crate::proofs::Appending::first_rules))]
+#[tactic(auto, using(i9_memory::proofs::Runs::first_rules))]
 fn listed(bytes: &[u8]) -> ArrayVec<u8, MOST_BYTES>
     requires { length bytes.now ≤ MOST_BYTES }
     ensures { result.items ≡ bytes.now }

@@ -1,12 +1,12 @@
 -- Reads beside what waits.
-use Rattle.std.proofs.Common.{◌≡◌, ℕ, ◌+◌, ◌-◌, ◌*◌, ◌%◌, ◌^◌, ◌<◌, ◌≤◌, List, [], ◌∷◌, length, get_or, drop, cond, Option, Some, None, refl, sym, ap, ◌∙◌, inl, inr, arith}
+use Rattle.std.proofs.Common.{◌≡◌, ℕ, ◌+◌, ◌-◌, ◌*◌, ◌%◌, ◌^◌, ◌<◌, ◌≤◌, List, [], ◌∷◌, length, get_or, drop, cond, Option, None, sym, ap, ◌∙◌, inl, inr, arith}
 use Rattle.std.specs.Int.{w16, from_le_bytes, from_be_bytes}
 use Rattle.std.proofs.lemmas.Bool.{cases_Bool}
 use Rattle.std.proofs.lemmas.Option.{slice_get_past}
 use Rattle.i9_model.specs.Writes.{wrapped, upwards, last_put, or_earlier}
 use Rattle.i9_model.specs.Memory.{Memory, in_port_page, region_of, is_big, stored, half_in, word_in, words_in}
 use Rattle.i9_model.specs.Late.{all_puts}
-use Rattle.i9_model.proofs.Upwards.{last_put-from}
+use Rattle.i9_model.proofs.Upwards.{or_none, last_put-from}
 use Rattle.i9_model.proofs.Readings.{SameBytes, inner_word_same, words_same}
 use Rattle.i9_queue.specs.declared.queue.Request.{Request}
 use Rattle.i9_queue.specs.Queue.{waits_in}
@@ -22,20 +22,16 @@ run_beside r a n bs h g some few above k lt =
     let past : length bs ≤ (x + (2 ^ 32 - r)) % 2 ^ 32 = omega (arith, above, lt) in
     last_put-from r bs x h (omega arith) few ∙ slice_get_past bs ((x + (2 ^ 32 - r)) % 2 ^ 32) past
 
-none_earlier : (o : Option ℕ) → or_earlier o None ≡ o
-none_earlier None = refl
-none_earlier (Some v) = refl
-
 -- one request
 pub request_beside : (rs : List Request) (i : ℕ) (r : Request) (x : ℕ) → i < length rs
     → last_put (upwards (get_or rs i r).address (get_or rs i r).bytes.items) x ≡ None
     → last_put (all_puts (waits_in (drop (i + 1) rs))) x ≡ last_put (all_puts (waits_in (drop i rs))) x
 request_beside rs i r x h none =
     let later = last_put (all_puts (waits_in (drop (i + 1) rs))) x in
-    sym (sym (none_earlier (last_put (all_puts (waits_in (drop i rs))) x))
+    sym (sym (or_none (last_put (all_puts (waits_in (drop i rs))) x))
     ∙ request_more None x rs i r h
     ∙ ap (λ (o : Option ℕ). or_earlier later (or_earlier o None)) none
-    ∙ none_earlier later)
+    ∙ or_none later)
 
 -- a byte
 other_byte : (m : ℕ → ℕ) (ps : List (ℕ × ℕ)) (x : ℕ) → last_put ps x ≡ None → stored m ps x ≡ m x

@@ -1,9 +1,10 @@
 -- The last byte that is written at an address.
-use Rattle.std.proofs.Common.{◌≡◌, ℕ, ◌+◌, ◌<◌, ◌≤◌, List, [], ◌∷◌, ◌++◌, length, get_or, drop, Option, Some, None, refl, ap, ◌∙◌, arith}
+use Rattle.std.proofs.Common.{◌≡◌, ℕ, ◌+◌, ◌<◌, ◌≤◌, List, [], ◌∷◌, ◌++◌, length, get_or, drop, Option, None, refl, ap, ◌∙◌, arith}
 use Rattle.std.proofs.lemmas.List.{at_drop_more, at_drop_all}
 use Rattle.i9_model.specs.Writes.{upwards, last_put, or_earlier}
 use Rattle.i9_model.specs.Late.{all_puts}
 use Rattle.i9_model.proofs.LastPuts.{last_append, or_none}
+use Rattle.i9_model.proofs.Upwards.{or_none as none_last}
 use Rattle.i9_queue.specs.declared.queue.Request.{Request}
 use Rattle.i9_queue.specs.Queue.{wait_in, waits_in}
 
@@ -12,10 +13,6 @@ request_more found a rs i r h =
     at_drop_more (λ zs. or_earlier (last_put (all_puts (waits_in zs)) a) found) rs i r h
     ∙ ap (λ (o : Option ℕ). or_earlier o found) (last_append (upwards (get_or rs i r).address (get_or rs i r).bytes.items) (all_puts (waits_in (drop (i + 1) rs))) a)
     ∙ or_none (last_put (all_puts (waits_in (drop (i + 1) rs))) a) (last_put (upwards (get_or rs i r).address (get_or rs i r).bytes.items) a) found
-
-none_last : (o : Option ℕ) → or_earlier o None ≡ o
-none_last None = refl
-none_last (Some v) = refl
 
 pub request_none : (rs : List Request) (a : ℕ) → or_earlier (last_put (all_puts (waits_in rs)) a) None ≡ last_put (all_puts (waits_in rs)) a
 request_none rs a = none_last (last_put (all_puts (waits_in rs)) a)

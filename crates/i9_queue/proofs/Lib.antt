@@ -1,5 +1,4 @@
 pub mod Bytes
-pub mod Copies
 pub mod Settled
 pub mod Enqueued
 pub mod Groups

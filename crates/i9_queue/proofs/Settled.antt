@@ -2,6 +2,7 @@
 use Rattle.std.proofs.Common.{◌≡◌, ℕ, zero, suc, ◌+◌, Bool, true, false, cond, List, [], ◌∷◌, ◌++◌, length, Option, Some, None, unwrap_or, refl, sym, ap, ◌∙◌, subst, inl, inr, arith}
 use Rattle.std.specs.Prelude.{not, filter, ◌==◌}
 use Rattle.std.proofs.lemmas.Bool.{cases_Bool, eqb-true}
+use Rattle.i9_model.proofs.Upwards.{or_none}
 use Rattle.i9_model.specs.Writes.{wrapped, upwards, last_put, or_earlier}
 use Rattle.i9_model.specs.Memory.{Memory, in_port_page, stored}
 use Rattle.i9_model.specs.Late.{Wait, due_puts, left_waiting, AreDueInOrder}
@@ -25,10 +26,6 @@ pub ruleset land_rules = (settles)
 abbrev outside : List (ℕ × ℕ) → List (ℕ × ℕ)
 outside ps = filter (λ (p : ℕ × ℕ). not (in_port_page p.0)) ps
 
-none_last : (o : Option ℕ) → o ≡ or_earlier o None
-none_last None = refl
-none_last (Some v) = refl
-
 other_place : (a y : ℕ) (e b c : Bool) → (a == y) ≡ e → in_port_page a ≡ b → in_port_page y ≡ c → (b ≡ c → ⊥) → e ≡ false
 other_place a y false b c t p q apart = refl
 other_place a y true b c t p q apart = absurd (apart (sym p ∙ ap in_port_page (eqb-true a y t) ∙ q))
@@ -41,7 +38,7 @@ kept_last (p ∷ ps) a h = elim (cases_Bool (in_port_page p.0)) [
       let other : (a == p.0) ≡ false = other_place a p.0 (a == p.0) false true refl h t (λ e. cc e) in
       ap (λ (b : Bool). last_put (cond (not b) (p ∷ outside ps) (outside ps)) a) t
       ∙ kept_last ps a h
-      ∙ none_last (last_put ps a)
+      ∙ sym (or_none (last_put ps a))
       ∙ ap (λ (b : Bool). or_earlier (last_put ps a) (cond b (Some p.1) None)) (sym other)
   | inr f ↦
       ap (λ (b : Bool). last_put (cond (not b) (p ∷ outside ps) (outside ps)) a) f

@@ -44,7 +44,7 @@ fn listed(value: &[u8]) -> Bytes
 }
 
 /// The bytes of the first words of a group, each in the order of its own region.
-#[tactic(auto, using(crate::proofs::Groups::group_rules))]
+#[tactic(auto, using(i9_model::proofs::WordBytes::word_rules))]
 fn group_bytes(m: &Memory, a: u32, words: &[u32; MOST_WORDS], n: usize) -> Bytes
     ensures { result.items ≡ bytes_of_words (memory_of m.now) a (take n words.now) }
 {

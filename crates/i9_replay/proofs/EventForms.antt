@@ -17,13 +17,13 @@ and_then_ok : {A B P : Type 0} (r : Result A ℕ) (f : A → Result B ℕ) (y : 
 and_then_ok (Ok x) f y h k = k x refl h
 and_then_ok (Err e) f y h k = absurd cc
 
-same_some : {A : Type 0} (x y : A) → ◌≡◌ {A = Option A} (Some x) (Some y) → x ≡ y
+pub same_some : {A : Type 0} (x y : A) → ◌≡◌ {A = Option A} (Some x) (Some y) → x ≡ y
 same_some x y h = cc
 
-same_ok : {A : Type 0} (x y : A) → ◌≡◌ {A = Result A ℕ} (Ok x) (Ok y) → x ≡ y
+pub same_ok : {A : Type 0} (x y : A) → ◌≡◌ {A = Result A ℕ} (Ok x) (Ok y) → x ≡ y
 same_ok x y h = cc
 
-ok_or_ok : {A : Type 0} (o : Option A) (k : ℕ) (x : A) → ok_or o k ≡ Ok x → o ≡ Some x
+pub ok_or_ok : {A : Type 0} (o : Option A) (k : ℕ) (x : A) → ok_or o k ≡ Ok x → o ≡ Some x
 ok_or_ok (Some y) k x h = ap Some (same_ok y x h)
 ok_or_ok None k x h = absurd cc
 

@@ -98,7 +98,7 @@ levels_have_all : (version : ℕ) (ts : List Timed) → AreOfVersion version ts 
 levels_have_all version [] h = tt
 levels_have_all version (t ∷ ts) h = (levels_have version t.event h.0, levels_have_all version ts h.1)
 
-AreOfVersion-push : (version : ℕ) (ts : List Timed) (t : Timed) → AreOfVersion version ts → IsOfVersion version t.event → AreOfVersion version (ts ++ t ∷ [])
+pub AreOfVersion-push : (version : ℕ) (ts : List Timed) (t : Timed) → AreOfVersion version ts → IsOfVersion version t.event → AreOfVersion version (ts ++ t ∷ [])
 AreOfVersion-push version [] t h new = (new, tt)
 AreOfVersion-push version (x ∷ ts) t h new = (h.0, AreOfVersion-push version ts t h.1 new)
 
@@ -188,7 +188,7 @@ fine_alike (x ∷ ts) t b h alike =
 
 -- ---- one event more
 
-AllTimedInRange-push : (ts : List Timed) (t : Timed) → AllByRecursion IsTimedInRange ts → IsTimedInRange t → AllByRecursion IsTimedInRange (ts ++ t ∷ [])
+pub AllTimedInRange-push : (ts : List Timed) (t : Timed) → AllByRecursion IsTimedInRange ts → IsTimedInRange t → AllByRecursion IsTimedInRange (ts ++ t ∷ [])
 AllTimedInRange-push [] t h new = (new, tt)
 AllTimedInRange-push (x ∷ ts) t h new = (h.0, AllTimedInRange-push ts t h.1 new)
 
@@ -196,7 +196,7 @@ pub AreCounted-push : (b : Bool) (ts : List Timed) (t : Timed) → AreCounted b 
 AreCounted-push b [] t h new = (new, tt)
 AreCounted-push b (x ∷ ts) t h new = (h.0, AreCounted-push b ts t h.1 new)
 
-InOrder-push : (time : ℕ) (ts : List Timed) (t : Timed) → InOrder time ts → last_time time ts ≤ time_of t → InOrder time (ts ++ t ∷ [])
+pub InOrder-push : (time : ℕ) (ts : List Timed) (t : Timed) → InOrder time ts → last_time time ts ≤ time_of t → InOrder time (ts ++ t ∷ [])
 InOrder-push time [] t h new = (new, tt)
 InOrder-push time (x ∷ ts) t h new = (h.0, InOrder-push (time_of x) ts t h.1 new)
 

@@ -83,14 +83,14 @@ passes_point k v =
     let c = plain-append (codes "#point " ++ decimal v.count ++ codes " ") (drained_text k) b (plain_drained k) in
     passes_words (codes "#point " ++ decimal v.count ++ codes " " ++ drained_text k) (v.ip ∷ v.ac ∷ v.pc ∷ []) c refl
 
-plain_register : (v : View) (r : ℕ) → is_plain (spaced_register v r) ≡ true
+pub plain_register : (v : View) (r : ℕ) → is_plain (spaced_register v r) ≡ true
 plain_register v r = by_mark (bit v.marks r)
   where
     by_mark : (b : Bool) → is_plain (cond b (codes " --------") (spaced (slice_index v.regs r))) ≡ true
     by_mark true = refl
     by_mark false = plain-word_text (slice_index v.regs r)
 
-plain_registers : (v : View) (rs : List ℕ) → is_plain (flat_map (spaced_register v) rs) ≡ true
+pub plain_registers : (v : View) (rs : List ℕ) → is_plain (flat_map (spaced_register v) rs) ≡ true
 plain_registers v [] = refl
 plain_registers v (r ∷ rs) = plain-append (spaced_register v r) (flat_map (spaced_register v) rs) (plain_register v r) (plain_registers v rs)
 

@@ -6,7 +6,7 @@ use Rattle.i9_model.specs.Memory as model
 use Rattle.i9_model.specs.Memory.{with_writes, with_words}
 use Rattle.i9_model.specs.State.{Frames}
 use Rattle.i9_isa.specs.Words.{bit}
-use Rattle.i9_model.specs.Frames.{no_frames, saved, with_marked, returned, flushed, wrote, wrote_run, softened}
+use Rattle.i9_model.specs.Frames.{no_frames, saved, with_marked, returned, wrote, wrote_run, softened}
 use Rattle.i9_model.specs.Stale.{picked, byte_marks}
 use Rattle.i9_model.specs.Writes.{wrapped, upwards}
 use Rattle.i9_model.specs.Hazards.{write_hazard, writes_hazard, save_hazard}
@@ -14,7 +14,7 @@ use Rattle.i9_model.specs.Sound.{IsSound}
 use Rattle.i9_model.specs.Step.{Saves}
 use Rattle.i9_model.specs.Alike.{is_compared, AgreeWhere}
 use Rattle.i9_model.specs.HeldFrames.{Cache, over, overlaid, spilled, with_room, holding, taken, written_back, AreYoungest}
-use Rattle.i9_model.proofs.FrameLaws.{sound-none, sound-returned, sound-flushed, sound-wrote, sound-softened}
+use Rattle.i9_model.proofs.FrameLaws.{sound-none, sound-returned, sound-wrote, sound-softened}
 use Rattle.i9_model.proofs.Runs.{writes_hazard-upwards, wrote-upwards}
 use Rattle.i9_agree.proofs.Overlays.{overlaid_holding, over_stored}
 use Rattle.i9_agree.proofs.HeldFrames.{write_beside, return_keeps, move_keeps, taken_alike}

@@ -13,7 +13,8 @@ use Rattle.i9_model.specs.Dma.{is_idle, unit_hazard, unit_bytes}
 use Rattle.i9_model.specs.Hazards.{or_else, unless, read_hazard, save_hazard, record_write_hazard}
 use Rattle.i9_model.specs.Requests.{request_hazard, request_writes}
 use Rattle.i9_model.specs.Interrupts.{chosen_soft, clearing_writes, vector_place, interrupt_push, interrupt_record, record_writes, cleared_hazard, interrupt_hazard, interrupt_entry, planned_interrupt, planned_interrupt_by}
-use Rattle.i9_model.specs.Calls.{entry_address, is_switch, stack_hazard, system_hazard_by, planned_calls, planned_ret}
+use Rattle.i9_entry.specs.Callers.{caller_of}
+use Rattle.i9_model.specs.Calls.{Caller, entry_address, is_switch, stack_hazard, system_hazard_by, planned_calls, planned_ret}
 use Rattle.i9_model.specs.Faults.{or_stop, table_entry, planned_fault}
 use Rattle.i9_model.specs.declared.faults.Handler.{Handler}
 use Rattle.i9_model.specs.declared.faults.Handler.TheVariants.{Local, System}
@@ -66,13 +67,13 @@ hard_words m w h a n kept none =
 
 pub ruleset hard_rules = (hard_byte, hard_half, hard_word, hard_words)
 
-pub calls_laid : (lent : model.Memory) (m : Behind) (w : Watch) (h : Held) (table n pc fp sp : ℕ) → lent ≡ settled m → IsKept m w h → planned_calls lent (frames_of w) table n pc fp sp ≡ planned_calls (overlaid (cache_in m h)) (frames_of w) table n pc fp sp
+pub calls_laid : (lent : model.Memory) (m : Behind) (w : Watch) (h : Held) (table n pc fp sp : ℕ) → lent ≡ settled m → IsKept m w h
+    → planned_calls (caller_of lent (frames_of w) pc fp sp) table n ≡ planned_calls (caller_of (overlaid (cache_in m h)) (frames_of w) pc fp sp) table n
 calls_laid lent m w h table n pc fp sp is kept =
     let c = cache_in m h in
     let f = frames_of w in
-    ap (λ (x : model.Memory). planned_calls x f table n pc fp sp) is
-    ∙ sym (planned_calls_same f (settled m) (overlaid c).bytes table n pc fp sp (hard_behind c f kept.sound kept.youngest))
-    ∙ ap (λ (x : model.Memory). planned_calls x f table n pc fp sp) (laid_other c)
+    let of = λ (x : model.Memory). planned_calls (caller_of x f pc fp sp) table n in
+    ap of is ∙ sym (planned_calls_same (caller_of (settled m) f pc fp sp) (overlaid c).bytes table n (hard_behind c f kept.sound kept.youngest)) ∙ ap of (laid_other c)
 
 pub ret_laid : (lent : model.Memory) (m : Behind) (w : Watch) (h : Held) (pfp fp pc ac : ℕ) → lent ≡ settled m → IsKept m w h → planned_ret lent (frames_of w) pfp fp pc ac ≡ planned_ret (overlaid (cache_in m h)) (frames_of w) pfp fp pc ac
 ret_laid lent m w h pfp fp pc ac is kept =
@@ -83,13 +84,12 @@ ret_laid lent m w h pfp fp pc ac is kept =
     ∙ ap (λ (x : model.Memory). planned_ret x f pfp fp pc ac) (laid_other c)
 
 pub fault_laid : (lent : model.Memory) (m : Behind) (w : Watch) (h : Held) (table system : ℕ) (fault : Fault) (pc ac fp sp : ℕ) → lent ≡ settled m → IsKept m w h
-    → planned_fault lent (frames_of w) table system fault pc ac fp sp ≡ planned_fault (overlaid (cache_in m h)) (frames_of w) table system fault pc ac fp sp
+    → planned_fault (caller_of lent (frames_of w) pc fp sp) table system fault ac ≡ planned_fault (caller_of (overlaid (cache_in m h)) (frames_of w) pc fp sp) table system fault ac
 fault_laid lent m w h table system fault pc ac fp sp is kept =
     let c = cache_in m h in
     let f = frames_of w in
-    ap (λ (x : model.Memory). planned_fault x f table system fault pc ac fp sp) is
-    ∙ sym (planned_fault_same f (settled m) (overlaid c).bytes table system fault pc ac fp sp (hard_behind c f kept.sound kept.youngest))
-    ∙ ap (λ (x : model.Memory). planned_fault x f table system fault pc ac fp sp) (laid_other c)
+    let of = λ (x : model.Memory). planned_fault (caller_of x f pc fp sp) table system fault ac in
+    ap of is ∙ sym (planned_fault_same (caller_of (settled m) f pc fp sp) (overlaid c).bytes table system fault ac (hard_behind c f kept.sound kept.youngest)) ∙ ap of (laid_other c)
 
 -- ---- whether stacks are switched
 
@@ -138,20 +138,21 @@ chosen_laid lent m w h i table pc is kept =
     ∙ ap (λ (x : model.Memory). chosen_soft i x f table pc) (laid_other c)
 
 pub interrupt_laid : (lent : model.Memory) (m : Behind) (w : Watch) (h : Held) (table stack : ℕ) (chosen : Chosen) (pc ac fp sp : ℕ) → lent ≡ settled m → IsKept m w h
-    → planned_interrupt lent (frames_of w) table stack chosen pc ac fp sp ≡ planned_interrupt (overlaid (cache_in m h)) (frames_of w) table stack chosen pc ac fp sp
+    → planned_interrupt (caller_of lent (frames_of w) pc fp sp) table stack chosen ac ≡ planned_interrupt (caller_of (overlaid (cache_in m h)) (frames_of w) pc fp sp) table stack chosen ac
 interrupt_laid lent m w h table stack chosen pc ac fp sp is kept =
     let c = cache_in m h in
     let f = frames_of w in
-    ap (λ (x : model.Memory). planned_interrupt x f table stack chosen pc ac fp sp) is
-    ∙ sym (planned_same f (settled m) (overlaid c).bytes table stack chosen pc ac fp sp (hard_behind c f kept.sound kept.youngest))
-    ∙ ap (λ (x : model.Memory). planned_interrupt x f table stack chosen pc ac fp sp) (laid_other c)
+    let of = λ (x : model.Memory). planned_interrupt (caller_of x f pc fp sp) table stack chosen ac in
+    ap of is ∙ sym (planned_same (caller_of (settled m) f pc fp sp) (overlaid c).bytes table stack chosen ac (hard_behind c f kept.sound kept.youngest)) ∙ ap of (laid_other c)
 
 -- what chose an interrupt whose entry is planned can be cleared
-planned_clears : (m : model.Memory) (f : Frames) (table stack : ℕ) (c : Chosen) (pc ac fp sp : ℕ) (e : Entry) → planned_interrupt m f table stack c pc ac fp sp ≡ Ok e → cleared_hazard m f table c e.push e.words ≡ None
+planned_clears : (from : Caller) (table stack : ℕ) (c : Chosen) (ac : ℕ) (e : Entry) → planned_interrupt from table stack c ac ≡ Ok e → cleared_hazard from.memory from.frames table c e.push e.words ≡ None
 unfolding planned_interrupt_by interrupt_hazard
-planned_clears m f table stack c pc ac fp sp e is =
-    let push = interrupt_push stack pc fp sp in
-    let words = interrupt_record c.vector pc ac in
+planned_clears from table stack c ac e is =
+    let m = from.memory in
+    let f = from.frames in
+    let push = interrupt_push stack from.pc from.fp from.sp in
+    let words = interrupt_record c.vector from.pc ac in
     let vector = read_hazard f (vector_place table c.vector) 4 in
     let clear = cleared_hazard m f table c push words in
     let recorded = or_else (record_write_hazard f push) clear in
@@ -160,8 +161,8 @@ planned_clears m f table stack c pc ac fp sp e is =
     let none = second_none (record_write_hazard f push) clear (second_none (save_hazard f push.save) recorded (second_none vector later found.0)) in
     subst (λ (x : Entry). cleared_hazard m f table c x.push x.words ≡ None) found.1 none
 
-pub plan_clears : (m : model.Memory) (f : Frames) (table stack : ℕ) (c : Chosen) (pc ac fp sp : ℕ) (r : Result Entry ℕ) → r ≡ planned_interrupt m f table stack c pc ac fp sp → IfOk r (λ e. cleared_hazard m f table c e.push e.words ≡ None)
-plan_clears m f table stack c pc ac fp sp (Ok e) is = planned_clears m f table stack c pc ac fp sp e (sym is)
+pub plan_clears : (m : model.Memory) (f : Frames) (table stack : ℕ) (c : Chosen) (pc ac fp sp : ℕ) (r : Result Entry ℕ) → r ≡ planned_interrupt (caller_of m f pc fp sp) table stack c ac → IfOk r (λ e. cleared_hazard m f table c e.push e.words ≡ None)
+plan_clears m f table stack c pc ac fp sp (Ok e) is = planned_clears (caller_of m f pc fp sp) table stack c ac e (sym is)
 plan_clears m f table stack c pc ac fp sp (Err a) is = tt
 
 -- memory behind the frames has the configuration words of what lies over it

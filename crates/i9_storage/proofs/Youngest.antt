@@ -11,11 +11,11 @@ use Rattle.i9_model.specs.Memory.{Memory, in_port_page, region_of, is_big, order
 use Rattle.i9_model.specs.Frames.{in_bytes, in_frames}
 use Rattle.i9_model.specs.HeldFrames.{over, overlaid, AreYoungest}
 use Rattle.i9_model.proofs.Lengths.{four_bytes}
-use Rattle.i9_model.proofs.Readings.{in_bytes-has}
+use Rattle.i9_model.proofs.Readings.{four, in_bytes-has}
 use Rattle.i9_model.proofs.FrameBytes.{frame_byte}
 use Rattle.i9_agree.proofs.Overlays.{words_mcon, over_push}
 use Rattle.i9_agree.proofs.HeldFrames.{first_is}
-use Rattle.i9_agree.proofs.HeldWords.{four_list, by_order, same_four}
+use Rattle.i9_agree.proofs.HeldWords.{four_list, by_order}
 use Rattle.i9_queue.specs.declared.behind.Behind.{Behind}
 use Rattle.i9_queue.specs.Behind.{settled}
 use Rattle.i9_watch.specs.declared.watch.Watch.{Watch}
@@ -31,7 +31,7 @@ unfolding word_in word_bytes
 word_by_bytes m x w low small has =
     let bs = word_bytes m x w in
     let here : wrapped (x + 0) ≡ x = omega arith in
-    same_four m x (m.bytes x) (m.bytes (wrapped (x + 1))) (m.bytes (wrapped (x + 2))) (m.bytes (wrapped (x + 3))) (get_or bs 0 0) (get_or bs 1 0) (get_or bs 2 0) (get_or bs 3 0)
+    four m x (m.bytes x) (m.bytes (wrapped (x + 1))) (m.bytes (wrapped (x + 2))) (m.bytes (wrapped (x + 3))) (get_or bs 0 0) (get_or bs 1 0) (get_or bs 2 0) (get_or bs 3 0)
     (ap m.bytes (sym here) ∙ has 0 (omega arith)) (has 1 (omega arith)) (has 2 (omega arith)) (has 3 (omega arith))
     ∙ ap (ordered_word m x) (four_list bs (four_bytes m x w))
     ∙ by_order (is_big m (region_of x)) w small

@@ -6,6 +6,8 @@ use Rattle.i9_model.specs.State.{Frames}
 use Rattle.i9_model.specs.Frames.{wrote, softened}
 use Rattle.i9_model.specs.HeldFrames.{Cache, overlaid, cache_stored}
 use Rattle.i9_model.specs.Late.{Wait}
+use Rattle.i9_model.specs.Calls.{Caller}
+use Rattle.i9_entry.specs.Callers.{caller_of}
 use Rattle.i9_memory.specs.declared.memory.Memory.{Memory as Kept}
 use Rattle.i9_memory.specs.Memory.{KeepsRoom}
 use Rattle.i9_queue.specs.Behind.{acted, waiting_of, HasRoomIn, KeepsRoomIn, AddsRoomOnlyIn}
@@ -24,6 +26,10 @@ memory_in s = overlaid (cache_of s)
 -- soft bytes and live frames
 abbrev pub frames_in : Storage → Frames
 frames_in s = frames_of s.watch
+
+-- what is entered from there, with these process controls, frame pointer and stack pointer
+abbrev pub caller_from : Storage → ℕ → ℕ → ℕ → Caller
+caller_from s pc fp sp = caller_of (memory_in s) (frames_in s) pc fp sp
 
 -- memory as a load finds it: a soft byte is 0
 abbrev pub legible_in : Storage → Memory

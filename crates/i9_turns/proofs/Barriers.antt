@@ -10,7 +10,7 @@ use Rattle.i9_turns.proofs.TurnOpen.{timed-take_time}
 use Rattle.i9_turns.proofs.TurnComputed.{open_requests-cons, one-done}
 use Rattle.i9_turns.proofs.TurnWhole.{timed-issues}
 
-none_open : (t : ℕ) (rs : List TimedNeed) → AllByRecursion (λ r. r.done ≤ t) rs → open_requests t rs ≡ 0
+pub none_open : (t : ℕ) (rs : List TimedNeed) → AllByRecursion (λ r. r.done ≤ t) rs → open_requests t rs ≡ 0
 none_open t [] h = refl
 none_open t (r ∷ rs) h = omega (arith, open_requests-cons t r rs, one-done t r h.0, none_open t rs h.1)
 
@@ -18,7 +18,7 @@ all_done : (n : Need) (t : ℕ) (rs : List TimedNeed) → IsTrue n.barrier → A
 all_done n t [] b h = tt
 all_done n t (r ∷ rs) b h = (h.0.alone (inl b), all_done n t rs b h.1)
 
-all_permit : (m : Need) (t : ℕ) (rs : List TimedNeed) → AllByRecursion (λ r. r.issue < r.done) rs → AllByRecursion (λ r. r.done ≤ t) rs → AllByRecursion (Permits m t) rs
+pub all_permit : (m : Need) (t : ℕ) (rs : List TimedNeed) → AllByRecursion (λ r. r.issue < r.done) rs → AllByRecursion (λ r. r.done ≤ t) rs → AllByRecursion (Permits m t) rs
 all_permit m t [] k h = tt
 all_permit m t (r ∷ rs) k h = (permits-done m t r k.0 h.0, all_permit m t rs k.1 h.1)
 

@@ -9,7 +9,7 @@ use Rattle.i9_model.specs.Late.{Late, wait_of, Wait, turns, is_waiting, waiting,
 use Rattle.i9_turns.proofs.LateMemories.{waiting-yes, waiting-no}
 use Rattle.i9_model.proofs.Queues.{AllBefore, all-append, order-append}
 
-waits-before : (t d : ℕ) (xs : List Late) → RequestsDone d xs → AllBefore d (waiting t xs)
+pub waits-before : (t d : ℕ) (xs : List Late) → RequestsDone d xs → AllBefore d (waiting t xs)
 waits-before t d [] h = tt
 waits-before t d (x ∷ xs) h =
     elim (cases_Bool (is_waiting t x)) [

@@ -39,7 +39,7 @@ plain_parts true false true barrier h c = absurd (cc h)
 plain_parts true true slow barrier h c = absurd (cc h)
 plain_parts false request slow barrier h c = absurd (cc c)
 
-first_false : (a b c d e f : Bool) → (a || b || c || d || e || f) ≡ false → a ≡ false
+pub first_false : (a b c d e f : Bool) → (a || b || c || d || e || f) ≡ false → a ≡ false
 first_false false b c d e f h = refl
 first_false true b c d e f h = absurd (cc h)
 

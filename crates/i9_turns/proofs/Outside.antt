@@ -37,17 +37,17 @@ use Rattle.i9_turns.proofs.CodeLaws.{code_beside}
 
 -- ---- what is not in the need's set
 
-no_bit : (b : Bool) → from_bool b ≡ 0 → b ≡ false
+pub no_bit : (b : Bool) → from_bool b ≡ 0 → b ≡ false
 no_bit false h = refl
 no_bit true h = absurd (cc h)
 
-not_in : (p : ℕ → Bool) (r : ℕ) → r < resources → bit_at (set_of p) r ≡ 0 → p r ≡ false
+pub not_in : (p : ℕ → Bool) (r : ℕ) → r < resources → bit_at (set_of p) r ≡ 0 → p r ≡ false
 not_in p r lt h = no_bit (p r) (sym (set_bits 33 r p lt) ∙ h)
 
 -- a resource that an instruction does not write
-record IsKept (i : Inst) (r : ℕ) : Type 0 where
-  outside : IsOutside i r
-  code : (writes_code i.op && (r == CONDITION_CODE)) ≡ false
+pub record IsKept (i : Inst) (r : ℕ) : Type 0 where
+  pub outside : IsOutside i r
+  pub code : (writes_code i.op && (r == CONDITION_CODE)) ≡ false
 
 pub all_false : (a b c d e : Bool) → (a || b || c || d || e) ≡ false → (a ≡ false) × (b ≡ false) × (c ≡ false) × (d ≡ false) × (e ≡ false)
 all_false a b c d e h =
@@ -57,7 +57,7 @@ all_false a b c d e h =
     let s = or_parts a b r.0 in
     (s.0, s.1, r.1, q.1, p.1)
 
-is_kept : (i : Inst) (r : ℕ) → is_written i r ≡ false → IsKept i r
+pub is_kept : (i : Inst) (r : ℕ) → is_written i r ≡ false → IsKept i r
 is_kept i r h =
     let f = all_false (is_in_operand i.a (words_written (row_of i.op).a) r) (is_in_operand i.c (words_written (row_of i.op).c) r) (writes_link i.op && (r == LINK)) (changes_frame i.op && is_in_frame r) (writes_code i.op && (r == CONDITION_CODE)) h in
     record { outside = record { a = f.0; c = f.1; link = f.2; frame = f.3 }; code = f.4 }
@@ -65,7 +65,7 @@ is_kept i r h =
 -- ---- the state after an action
 
 -- control starts the processor anew
-abbrev IsRestart : Control → Type 0
+abbrev pub IsRestart : Control → Type 0
 IsRestart KeepsControls = ⊥
 IsRestart (Restarts first prcb) = Unit {0}
 IsRestart (LoadsGroup group) = ⊥
@@ -122,7 +122,7 @@ moving_keeps : (d : Direction) (size : Size) (signed : Bool) (i : Inst) (s : Sta
 moving_keeps Load size signed i s h = h
 moving_keeps Store size signed i s h = h
 
-restarts : (i : Inst) (s : State) → IsRestart (action_of i s).control → (changes_frame i.op ≡ true) × (writes_code i.op ≡ true)
+pub restarts : (i : Inst) (s : State) → IsRestart (action_of i s).control → (changes_frame i.op ≡ true) × (writes_code i.op ≡ true)
 unfolding action_of
 restarts i s h = by_transfer (transfer_of i.op) h
   where
@@ -134,7 +134,7 @@ unset : (b c : Bool) → b ≡ true → (b && c) ≡ false → c ≡ false
 unset true c e h = h
 unset false c e h = absurd (cc e)
 
-set_with : (b c : Bool) → c ≡ true → (b && c) ≡ false → b ≡ false
+pub set_with : (b c : Bool) → c ≡ true → (b && c) ≡ false → b ≡ false
 set_with false c e h = refl
 set_with true c e h = absurd (both_ways c h e)
 

@@ -1,30 +1,25 @@
 -- The turn at which a need issues is known from what is pending.
-use Rattle.std.proofs.Common.{◌≡◌, ℕ, ◌<◌, ◌≤◌, max, Bool, true, false, cond, List, [], ◌∷◌, refl, ap, ◌∙◌, arith}
-use Rattle.std.specs.Prelude.{nat_lt, IsTrue}
-use Rattle.std.proofs.lemmas.Bool.{ltb-true}
+use Rattle.std.proofs.Common.{◌≡◌, ℕ, ◌≤◌, max, List, [], ◌∷◌, sym, ap, ◌∙◌, subst, inl, inr, arith}
+use Rattle.std.proofs.lemmas.Bool.{cases_lt}
 use Rattle.i9_model.specs.declared.need.Need.{Need}
 use Rattle.i9_model.specs.declared.need.TimedNeed.{TimedNeed}
 use Rattle.i9_model.specs.Turns.{Pending, RequestsInOrder, StandsFor, last_issue, last_request, issue_turn, open_at}
 use Rattle.i9_turns.proofs.TurnComputed.{issue_turn-issues}
-use Rattle.i9_turns.proofs.TurnDropped.{each-open, issues-open, issues-once, max-last_request-open}
+use Rattle.i9_turns.proofs.TurnDropped.{open-yes, open-no, each-open, issues-open, issues-once, max-last_request-open}
 use Rattle.i9_turns.proofs.TurnOpen.{timed-take_time, timed-in_order}
 use Rattle.i9_turns.proofs.TurnWhole.{timed-issued, timed-issues}
 
 -- open requests are in order
-open-in_order : (u : ℕ) (rs : List TimedNeed) → RequestsInOrder rs → RequestsInOrder (open_at u rs)
+pub open-in_order : (u : ℕ) (rs : List TimedNeed) → RequestsInOrder rs → RequestsInOrder (open_at u rs)
 open-in_order u [] h = tt
-open-in_order u (r ∷ rs) h = by_test (nat_lt u r.done) refl (open-in_order u rs h.1)
-  where
-    one : nat_lt u r.done ≡ true → IsTrue r.need.request → last_request (open_at u rs) ≤ r.done
-    one is request =
-        let later : u < r.done = ltb-true u r.done is in
-        let before : last_request rs ≤ r.done = h.0 request in
-        let same : max u (last_request (open_at u rs)) ≡ max u (last_request rs) = max-last_request-open u u (omega arith) rs h.1 in
-        omega (arith, later, before, same)
-
-    by_test : (b : Bool) → nat_lt u r.done ≡ b → RequestsInOrder (open_at u rs) → RequestsInOrder (cond b (r ∷ open_at u rs) (open_at u rs))
-    by_test true is before = (one is, before)
-    by_test false is before = before
+open-in_order u (r ∷ rs) h =
+    elim (cases_lt u r.done) [
+      | inl later ↦
+          let e : max u (last_request (open_at u rs)) ≡ max u (last_request rs) = max-last_request-open u u (omega arith) rs h.1 in
+          subst RequestsInOrder (sym (open-yes u r rs later))
+          (λ is. let le : last_request rs ≤ r.done = h.0 is in omega (arith, e), open-in_order u rs h.1)
+      | inr over ↦ subst RequestsInOrder (sym (open-no u r rs over)) (open-in_order u rs h.1)
+    ]
 
 pub stands-pending_turn : (p : Pending) (rs : List TimedNeed) (n : Need) → StandsFor p rs
     → issue_turn p.last p.records n ≡ issue_turn (last_issue rs) rs n

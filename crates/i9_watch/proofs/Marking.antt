@@ -4,8 +4,9 @@ use mathlib.Core.Bool.{beq}
 use Rattle.std.specs.List.{list_any, between}
 use Rattle.std.proofs.lemmas.List.Edits.{get_or-between}
 use Rattle.std.specs.Prelude.{IsSome, ◌==◌, ◌||◌, if◌then◌else◌}
-use Rattle.std.proofs.lemmas.Bool.{eqb-true, eq-eqb}
+use Rattle.std.proofs.lemmas.Bool.{eqb-true, eq-eqb, or_parts}
 use Rattle.std.proofs.lemmas.Bool.Decides.{nat_tests}
+use Rattle.i9_model.proofs.Readings.{next_place}
 use Rattle.i9_model.specs.Writes.{wrapped}
 use Rattle.i9_model.specs.Frames.{in_bytes}
 use Rattle.i9_model.proofs.Places.{in_bytes-none, in_bytes-more}
@@ -34,14 +35,11 @@ new_page p soft live lost Soft k = ap (λ (xs : List Bool). get_or xs k false) s
 new_page p soft live lost Live k = ap (λ (xs : List Bool). get_or xs (k / 16) false) live ∙ get_or_unmarked 16 (k / 16)
 new_page p soft live lost Lost k = ap (λ (xs : List Bool). get_or xs k false) lost ∙ get_or_unmarked 256 k
 
-passed_by : (b c : Bool) → (b || c) ≡ false → (b ≡ false) × (c ≡ false)
-passed_by b c e = (grind arith, grind arith)
-
 -- where no element passes, none does
 any_none : (f : Bool → Bool) (xs : List Bool) (k : ℕ) → f false ≡ false → list_any f xs ≡ false → f (get_or xs k false) ≡ false
 any_none f [] k least none = least
-any_none f (x ∷ xs) zero least none = (passed_by (f x) (list_any f xs) none).0
-any_none f (x ∷ xs) (suc k) least none = any_none f xs k least (passed_by (f x) (list_any f xs) none).1
+any_none f (x ∷ xs) zero least none = (or_parts (f x) (list_any f xs) none).0
+any_none f (x ∷ xs) (suc k) least none = any_none f xs k least (or_parts (f x) (list_any f xs) none).1
 
 same_as_true : (b : Bool) → beq b true ≡ b
 same_as_true true = refl
@@ -114,13 +112,10 @@ in_bytes-outside a (suc n) x fits out =
     ∙ ap (λ (b : Bool). b || x == wrapped (a + n)) (in_bytes-outside a n x (omega arith) (closer a n x out))
     ∙ not_last a n x fits out
 
-pub wrapped-again : (a j k : ℕ) → wrapped (wrapped (a + j) + k) ≡ wrapped (a + (j + k))
-wrapped-again a j k = omega arith
-
 or_assoc : (b c d : Bool) → ((b || c) || d) ≡ (b || (c || d))
 or_assoc b c d = grind arith
 
-or_false : (b : Bool) → b ≡ (b || false)
+pub or_false : (b : Bool) → b ≡ (b || false)
 or_false b = grind arith
 
 -- two runs, one behind the other
@@ -134,7 +129,7 @@ in_bytes-split a j (suc k) x =
     ∙ one_more a (j + k) x
     ∙ ap (λ (b : Bool). b || x == wrapped (a + (j + k))) (in_bytes-split a j k x)
     ∙ or_assoc (in_bytes a j x) (in_bytes (wrapped (a + j)) k x) (x == wrapped (a + (j + k)))
-    ∙ ap (λ (y : ℕ). in_bytes a j x || (in_bytes (wrapped (a + j)) k x || x == y)) (sym (wrapped-again a j k))
+    ∙ ap (λ (y : ℕ). in_bytes a j x || (in_bytes (wrapped (a + j)) k x || x == y)) (sym (next_place a j k))
     ∙ ap (λ (b : Bool). in_bytes a j x || b) (sym (one_more (wrapped (a + j)) k x))
 
 none_case : (here : Bool) (f : ℕ → Bool) (a j m k : ℕ) → nat_lt k j ≡ here → ((i : ℕ) → i < j → f (wrapped (a + i)) ≡ false) → ((i : ℕ) → i < m → f (wrapped (wrapped (a + j) + i)) ≡ false) → k < j + m → f (wrapped (a + k)) ≡ false
@@ -143,7 +138,7 @@ none_case false f a j m k e first second h =
     let low : j ≤ k = grind (arith, nat_tests) in
     let at : j + (k - j) ≡ k = omega arith in
     ap (λ (i : ℕ). f (wrapped (a + i))) (sym at)
-    ∙ ap f (sym (wrapped-again a j (k - j)))
+    ∙ ap f (sym (next_place a j (k - j)))
     ∙ second (k - j) (omega arith)
 
 -- none of a run and of the run behind it is marked

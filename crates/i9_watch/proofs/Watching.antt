@@ -18,7 +18,8 @@ use Rattle.i9_watch.specs.declared.page.Mark.TheVariants.{Soft, Live, Lost}
 use Rattle.i9_watch.specs.declared.page.Change.TheVariants.{Return, Store}
 use Rattle.i9_model.specs.Stale.{word_mark, left_stale}
 use Rattle.i9_watch.specs.Marks.{changed_run}
-use Rattle.i9_watch.proofs.Marking.{wrapped-again, run_clear}
+use Rattle.i9_model.proofs.Readings.{next_place}
+use Rattle.i9_watch.proofs.Marking.{run_clear}
 
 suc-sub : (n : ℕ) → suc n - 1 ≡ n
 suc-sub n = omega arith
@@ -346,7 +347,7 @@ words_clear f a j none lt =
     rw (none at (omega (arith, lt)), byte 1 (omega arith), byte 2 (omega arith), byte 3 (omega arith)) refl
   where
     byte : (i : ℕ) → i < 4 → f (wrapped (wrapped (a + 4 * j) + i)) ≡ false
-    byte i small = ap f (wrapped-again a (4 * j) i) ∙ none (4 * j + i) (omega (arith, lt, small))
+    byte i small = ap f (next_place a (4 * j) i) ∙ none (4 * j + i) (omega (arith, lt, small))
 
 -- which bytes are stale for a return, by whether a frame is live
 pub none_live : (live : List ℕ) (f : Frames) → slice_get live 0 ≡ None → left_stale live f ≡ f.soft

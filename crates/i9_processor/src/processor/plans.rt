@@ -10,7 +10,7 @@ ghost use Rattle.i9_model.specs.Before.{choice_in, interrupt_in};
 ghost use Rattle.i9_model.specs.Dma.{is_last, posts_at_end};
 ghost use Rattle.i9_dma.specs.Units.{given_in, bytes_in, planned_bytes};
 ghost use Rattle.i9_processor.specs.Effect.{requests_in};
-ghost use Rattle.i9_model.specs.Calls.{planned_calls, planned_ret};
+ghost use Rattle.i9_model.specs.Calls.{caller_in, planned_calls, planned_ret};
 ghost use Rattle.i9_model.specs.Faults.{planned_fault};
 ghost use Rattle.i9_model.specs.Stale.{push_mark};
 ghost use Rattle.i9_processor.specs.Entries.{call_in, calls_in};
@@ -63,9 +63,8 @@ impl Processor {
     #[tactic(auto, unfolding(crate::specs::State::state_of, crate::specs::State::queue_of))]
     fn plan_plain_calls(&self, n: u32) -> Result<Sys, CallsStop>
         requires drained { IsDrained self.now }
-        ensures sys { result ≡ planned_calls (state_of self.now).memory (state_of self.now).frames
-            (state_of self.now).tables.system_table n
-            (state_of self.now).pc ((state_of self.now).regs FP) ((state_of self.now).regs SP) }
+        ensures sys { result
+            ≡ planned_calls (caller_in (state_of self.now)) (state_of self.now).tables.system_table n }
         ensures free { IfOk result (λ s. save_hazard (state_of self.now).frames s.push.save ≡ None) }
         ensures aligned { IfOk result (λ s. s.push.save % 16 ≡ 0) }
     {
@@ -118,9 +117,9 @@ impl Processor {
     #[tactic(auto, unfolding(crate::specs::State::state_of, crate::specs::State::queue_of))]
     fn plan_plain_fault(&self, fault: &Fault) -> Result<Entry, FaultStop>
         requires drained { IsDrained self.now }
-        ensures entry { result ≡ planned_fault (state_of self.now).memory (state_of self.now).frames
+        ensures entry { result ≡ planned_fault (caller_in (state_of self.now))
             (state_of self.now).tables.fault_table (state_of self.now).tables.system_table fault.now
-            (state_of self.now).pc (state_of self.now).ac ((state_of self.now).regs FP) ((state_of self.now).regs SP) }
+            (state_of self.now).ac }
         ensures free { IfOk result (λ e. save_hazard (state_of self.now).frames e.push.save ≡ None) }
         ensures aligned { IfOk result (λ e. e.push.save % 16 ≡ 0) }
     {

@@ -48,7 +48,7 @@ fn configure_regions(behind: &mut Behind, region: u8, words: &[u32])
 }
 
 impl Storage {
-    ghost use Rattle.i9_storage.specs.Storage.{cache_of, memory_in, frames_in, IsDrained, KeepsRest};
+    ghost use Rattle.i9_storage.specs.Storage.{cache_of, memory_in, frames_in, caller_from, IsDrained, KeepsRest};
 
     /// What a call of system procedure `n` makes, by the system procedure table at `table`, from the
     /// process controls and the frame and stack pointers. `Err` says that there is no procedure of
@@ -63,7 +63,7 @@ impl Storage {
         sp: u32,
     ) -> Result<Sys, CallsStop>
         requires drained { IsDrained self.now }
-        ensures sys { result ≡ planned_calls (memory_in self.now) (frames_in self.now) table n pc fp sp }
+        ensures sys { result ≡ planned_calls (caller_from self.now pc fp sp) table n }
 
         // So the frame can be saved there.
         ensures free { IfOk result (λ s. save_hazard (frames_in self.now) s.push.save ≡ None) }
@@ -115,8 +115,7 @@ impl Storage {
         sp: u32,
     ) -> Result<Entry, FaultStop>
         requires drained { IsDrained self.now }
-        ensures entry { result
-            ≡ planned_fault (memory_in self.now) (frames_in self.now) table system fault.now pc ac fp sp }
+        ensures entry { result ≡ planned_fault (caller_from self.now pc fp sp) table system fault.now ac }
 
         // So the frame can be saved there.
         ensures free { IfOk result (λ e. save_hazard (frames_in self.now) e.push.save ≡ None) }
@@ -179,8 +178,7 @@ impl Storage {
         sp: u32,
     ) -> Result<IntEntry, u32>
         requires drained { IsDrained self.now }
-        ensures entry { result
-            ≡ planned_interrupt (memory_in self.now) (frames_in self.now) table stack c.now pc ac fp sp }
+        ensures entry { result ≡ planned_interrupt (caller_from self.now pc fp sp) table stack c.now ac }
 
         // So the frame can be saved there.
         ensures free { IfOk result (λ e. save_hazard (frames_in self.now) e.push.save ≡ None) }

@@ -1,7 +1,7 @@
 use Rattle.std.proofs.Common.{ℕ, List, [], ◌∷◌, ◌++◌, length, map, sym, ap, ◌∙◌, arith}
 use Rattle.i9_model.specs.Frames.{places}
 use Rattle.i9_memory.specs.Memory.{memory_of}
-use Rattle.i9_dma.proofs.Reading.{read_more, read_length}
+use Rattle.i9_model.proofs.Reading.{read_more, read_length}
 use Rattle.i9_dma.proofs.moving.read.Goals as goal
 
 pub push-requires : goal.push-requires

@@ -1,4 +1,3 @@
-use Rattle.std.proofs.Common.{◌%◌}
 use Rattle.i9_processor.proofs.RegisterList.{registers_beside, arithmetic_of-set}
 use Rattle.i9_processor.proofs.registers.set_arithmetic.Goals as goal
 

@@ -1,6 +1,6 @@
 use Rattle.std.proofs.Common.{◌+◌, ◌-◌, ◌%◌, ◌^◌, ◌∙◌, sym, arith}
 use Rattle.i9_model.proofs.Upwards.{last_put-from}
-use Rattle.i9_queue.proofs.Copies.{option_copied-get}
+use Rattle.i9_model.proofs.Copies.{option_copied-get}
 use Rattle.i9_queue.proofs.queue.byte_of_run.Goals as goal
 
 pub returns : goal.returns

@@ -3,7 +3,7 @@ use Rattle.std.proofs.lemmas.List.{length-append}
 use Rattle.i9_model.specs.Step.{bytes_of_words}
 use Rattle.i9_model.proofs.Lengths.{four_bytes}
 use Rattle.i9_memory.specs.Memory.{memory_of}
-use Rattle.i9_queue.proofs.Groups.{group_more}
+use Rattle.i9_model.proofs.WordBytes.{listed_more}
 use Rattle.i9_queue.proofs.values.group_bytes.Goals as goal
 
 pub loop-k-init : goal.loop-k-init
@@ -25,6 +25,6 @@ loop-k-preserved c =
           added
           ∙ ap (λ (bs : List ℕ). bs ++ word) c.loop-k.invariant.bytes
           ∙ ap (λ (bs : List ℕ). bytes_of_words m c.args.a (take c.loop-k.k ws) ++ bs) said
-          ∙ sym (group_more m c.args.a ws c.loop-k.k (omega arith) (omega arith));
+          ∙ sym (listed_more m c.args.a ws c.loop-k.k (omega arith) (omega arith));
       count = ap length added ∙ length-append before word ∙ omega (arith, four, count);
     }

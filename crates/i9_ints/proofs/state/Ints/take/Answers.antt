@@ -1,9 +1,10 @@
 use Rattle.std.proofs.Common.{refl, sym, ap, ◌∙◌}
+use Rattle.i9_model.proofs.Stored.{with_none}
 use Rattle.i9_model.specs.Memory.{with_writes}
 use Rattle.i9_model.specs.Frames.{wrote}
 use Rattle.i9_memory.specs.Memory.{memory_of}
 use Rattle.i9_watch.specs.Watch.{frames_of}
-use Rattle.i9_ints.proofs.Storing.{no_memory_writes, no_frame_writes, nothing_cleared}
+use Rattle.i9_ints.proofs.Storing.{no_frame_writes, nothing_cleared}
 use Rattle.i9_ints.proofs.state.Ints.take.Goals as goal
 
 -- nothing is written
@@ -14,7 +15,7 @@ returns-in-Nmi c =
     let none = nothing_cleared c.args.c.now.cause m c.args.table c.args.c.now.vector c.in-Nmi.is in
     record {
       interrupts = c.clear.ensures;
-      memory = no_memory_writes m ∙ ap (with_writes m) (sym none);
+      memory = sym (with_none m) ∙ ap (with_writes m) (sym none);
       frames = no_frame_writes f ∙ ap (wrote f) (sym none);
       room = λ a h. h;
       spare = refl;

@@ -1,4 +1,4 @@
-use Rattle.std.proofs.Common.{◌≡◌, false, None, ap, ◌∙◌}
+use Rattle.std.proofs.Common.{◌≡◌, false, ap, ◌∙◌}
 use Rattle.i9_memory.specs.Memory.{memory_of}
 use Rattle.i9_model.specs.Image.{pairs_of}
 use Rattle.i9_model.specs.Memory.{Memory, with_writes}

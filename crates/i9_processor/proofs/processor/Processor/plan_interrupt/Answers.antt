@@ -1,6 +1,7 @@
 use Rattle.std.proofs.Common.{◌≡◌, ℕ, Option, Err, sym, ap, ◌∙◌}
 use Rattle.std.specs.Prelude.{unwrap_or}
 use Rattle.i9_model.specs.Hazards.{read_hazard}
+use Rattle.i9_entry.specs.Callers.{caller_of}
 use Rattle.i9_model.specs.Interrupts.{planned_interrupt}
 use Rattle.i9_processor.specs.State.{state_of}
 use Rattle.i9_processor.proofs.Pushing.{interrupt_plain, interrupt_marked}
@@ -21,5 +22,5 @@ returns-in-None-clause-entry c =
     let p = c.args.self.now in
     let s = state_of p in
     c.plan_interrupt.ensures.entry
-    ∙ (λ i. planned_interrupt s.memory s.frames p.tables.interrupt_table p.tables.interrupt_stack c.args.c.now p.pc (c.ac.ensures i) (c.register.ensures i) (c.register-in-None.ensures i))
+    ∙ (λ i. planned_interrupt (caller_of s.memory s.frames p.pc (c.register.ensures i) (c.register-in-None.ensures i)) p.tables.interrupt_table p.tables.interrupt_stack c.args.c.now (c.ac.ensures i))
     ∙ interrupt_plain s c.args.c.now (sym c.push_mark.ensures ∙ c.in-None.is)

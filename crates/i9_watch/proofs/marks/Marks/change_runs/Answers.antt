@@ -2,7 +2,7 @@ use Rattle.std.proofs.Common.{◌≡◌, ℕ, ◌+◌, ◌*◌, ◌/◌, sym, su
 use Rattle.i9_model.specs.Writes.{wrapped}
 use Rattle.i9_watch.specs.Bits.{bits_of, in_runs}
 use Rattle.i9_watch.specs.Marks.{HasRoom, is_marked, changed_where}
-use Rattle.i9_watch.proofs.Marking.{wrapped-again}
+use Rattle.i9_model.proofs.Readings.{next_place}
 use Rattle.i9_watch.proofs.Runs.{run_none, run_step, run_inside, runs_unset}
 use Rattle.i9_watch.proofs.marks.Marks.change_runs.Goals as goal
 
@@ -25,7 +25,7 @@ pub change_if-requires-clause-room : goal.change_if-requires-clause-room
 change_if-requires-clause-room c = λ j l.
     let at = c.args.width * c.loop-k.k in
     let there : HasRoom c.args.self.now (wrapped (c.args.a + (at + j))) = c.requires.room (at + j) (run_inside c.args.width c.loop-k.k c.args.count j (omega arith) l) in
-    subst (HasRoom c.loop-k.self) (sym (wrapped-again c.args.a at j)) (c.loop-k.invariant.keeps (wrapped (c.args.a + (at + j)) / 256) there)
+    subst (HasRoom c.loop-k.self) (sym (next_place c.args.a at j)) (c.loop-k.invariant.keeps (wrapped (c.args.a + (at + j)) / 256) there)
 
 pub returns-then-bits-eq0-clause-marks : goal.returns-then-bits-eq0-clause-marks
 returns-then-bits-eq0-clause-marks c = λ m. runs_unset c.args.change m c.args.a c.args.width c.args.bits c.args.count (is_marked m c.args.self.now) c.if-bits-eq0.true

@@ -1,8 +1,8 @@
--- Bytes of memory that are read one after the other.
-use Rattle.std.proofs.Common.{◌≡◌, ℕ, ◌+◌, [], ◌∷◌, ◌++◌, length, map, refl, ap, ◌∙◌}
+-- Bytes of memory that are read one after the other, and values at places in a row.
+use Rattle.std.proofs.Common.{◌≡◌, ℕ, suc, ◌+◌, List, [], ◌∷◌, ◌++◌, length, map, refl, ap, ◌∙◌}
 use Rattle.std.proofs.lemmas.List.{map-append, length-map}
 use Rattle.std.proofs.lemmas.List.FromFn.{map-range_with_len_more, length-map-range_with_len}
-use Rattle.i9_model.specs.Writes.{wrapped}
+use Rattle.i9_model.specs.Writes.{wrapped, pairs_at}
 use Rattle.i9_model.specs.Frames.{places}
 
 -- one more
@@ -11,3 +11,7 @@ read_more f a k = ap (map f) (map-range_with_len_more wrapped a k (a + k) refl) 
 
 pub read_length : (f : ℕ → ℕ) (a k : ℕ) → length (map f (places a k)) ≡ k
 read_length f a k = length-map (places a k) f ∙ length-map-range_with_len wrapped a k
+
+pub length-pairs_at : (address : ℕ → ℕ) (n : ℕ) (bs : List ℕ) → length (pairs_at address n bs) ≡ length bs
+length-pairs_at address n [] = refl
+length-pairs_at address n (b ∷ bs) = ap suc (length-pairs_at address (n + 1) bs)
