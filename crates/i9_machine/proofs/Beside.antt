@@ -1,16 +1,12 @@
 -- What comes next for a machine is what comes next in the run that it stands for.
-use Rattle.std.proofs.Common.{◌≡◌, ℕ, List, Option, None, Some, length, refl, sym, ap, ◌∙◌, subst}
-use Rattle.i9_model.specs.declared.event.Event.{Event}
-use Rattle.i9_model.specs.declared.event.Timed.{Timed}
-use Rattle.i9_model.specs.declared.need.Need.{Need}
-use Rattle.i9_model.specs.declared.run.Due.{Due}
+use Rattle.std.proofs.Common.{◌≡◌, ℕ, List, Option, None, Some, refl, sym, ap, ◌∙◌, subst}
 use Rattle.i9_model.specs.ScheduleText.{standing_by}
 use Rattle.i9_model.specs.State.{State}
 use Rattle.i9_model.specs.Standing.{Standing, Meets, Refused, Faults, Runs, stands_at}
 use Rattle.i9_model.specs.HeldFrames.{Cache, sets_in, cache_after}
 use Rattle.i9_model.specs.Turns.{last_issue, issue_turn, waiting_until}
 use Rattle.i9_model.specs.Late.{turns}
-use Rattle.i9_model.specs.Run.{Given, Faulted, Instruction, Next, fault_at, next_by_standing, reached_after, due_after, next_in, state_after}
+use Rattle.i9_model.specs.Run.{Given, Faulted, Instruction, Next, fault_at, next_by_standing, next_in, state_after}
 use Rattle.i9_model.specs.Alike.{AreNextAlike}
 use Rattle.i9_agree.proofs.AlikeSteps.{next_alike}
 use Rattle.i9_agree.proofs.SoundRuns.{sound-after}
@@ -19,10 +15,9 @@ use Rattle.i9_schedule.specs.Plan.{Plan}
 use Rattle.i9_course.specs.NeedOf.{need_of, need_ahead}
 use Rattle.i9_course.specs.Course.{Item, records_of, course, instruction_ahead, instruction_turn, event_ahead, comes_next}
 use Rattle.i9_course.proofs.Orderly.{course_events}
-use Rattle.i9_processor.specs.State.{state_of, size_of}
-use Rattle.i9_machine.specs.declared.machine.Machine.{Machine}
+use Rattle.i9_machine.specs.Contents.{Contents}
 use Rattle.i9_machine.specs.Step.{need_at, turn_at, event_for, next_for}
-use Rattle.i9_machine.specs.StandsFor.{StandsFor, Follows}
+use Rattle.i9_machine.specs.StandsFor.{Stand, Follows}
 use Rattle.i9_machine.proofs.Overtaking.{ahead_need, course_blind}
 
 -- a number of sets that is the one that is asked for, or that the PRCB asks for
@@ -34,41 +29,35 @@ standing_sets asked n c s (Faults i number) is = ap (λ (k : ℕ). need_of k c s
 standing_sets asked n c s (Runs i) is = ap (λ (k : ℕ). need_of k c s (Instruction i)) is
 
 -- the instruction ahead needs the same
-same_need_at : (g : Given) (h : List Item) (m : Machine) → StandsFor g h None m
-    → need_at m ≡ need_ahead g.sets (cache_after g (records_of h)) (instruction_ahead (state_after g (records_of h)))
-same_need_at g h m stands =
+same_need_at : (g : Given) (h : List Item) (k : Contents) → Stand g h None k
+    → need_at k.at ≡ need_ahead g.sets (cache_after g (records_of h)) (instruction_ahead (state_after g (records_of h)))
+same_need_at g h k stands =
     let s = state_after g (records_of h) in
-    let t = state_of m.processor in
     let c = cache_after g (records_of h) in
     let size = stands.size ∙ sym (ap (sets_in g.sets) stands.state.rest) in
-    ap (λ (d : Cache). need_ahead (Some (size_of m.processor)) d (instruction_ahead t)) stands.cache
-    ∙ standing_sets g.sets (size_of m.processor) c t (stands_at t) size
-    ∙ ahead_need g.sets c s t (course_blind g h stands.past) stands.state
+    ap (λ (d : Cache). need_ahead (Some k.at.size) d (instruction_ahead k.at.state)) stands.cache
+    ∙ standing_sets g.sets k.at.size c k.at.state (stands_at k.at.state) size
+    ∙ ahead_need g.sets c s k.at.state (course_blind g h stands.past) stands.state
 
 -- so it would issue at the same turn
-pub same_turn_at : (g : Given) (h : List Item) (m : Machine) → StandsFor g h None m → turn_at m ≡ instruction_turn g h
-same_turn_at g h m stands =
+pub same_turn_at : (g : Given) (h : List Item) (k : Contents) → Stand g h None k → turn_at k.at ≡ instruction_turn g h
+same_turn_at g h k stands =
     let rs = turns (course g h).late in
-    stands-pending_turn m.board rs (waiting_until m.floor (need_at m)) stands.lands.board
-    ∙ ap (λ (f : ℕ). issue_turn (last_issue rs) rs (waiting_until f (need_at m))) stands.lands.fence
-    ∙ ap (λ (n : Need). issue_turn (last_issue rs) rs (waiting_until (course g h).fence n)) (same_need_at g h m stands)
+    stands-pending_turn k.at.board rs (waiting_until k.at.floor (need_at k.at)) stands.lands.board
+    ∙ λ i. issue_turn (last_issue rs) rs (waiting_until (stands.lands.fence i) (same_need_at g h k stands i))
 
--- the event that stands there for the machine stands there in the run
-same_event : (g : Given) (h : List Item) (m : Machine) (plan : Plan) → StandsFor g h None m → Follows g h plan → event_for m plan ≡ event_ahead g h
-same_event g h m plan stands follows =
-    let k = (state_of m.processor).count in
-    let place = length (reached_after (records_of h)) in
-    ap (λ (ts : List Timed). standing_by ts plan.place k (turn_at m)) follows.events
-    ∙ ap (λ (n : ℕ). standing_by g.plan n k (turn_at m)) follows.place
-    ∙ ap (λ (u : State). standing_by g.plan place u.count (turn_at m)) stands.state.rest
-    ∙ ap (standing_by g.plan place (state_after g (records_of h)).count) (same_turn_at g h m stands)
+-- the event that stands there for contents stands there in the run
+same_event : (g : Given) (h : List Item) (k : Contents) (plan : Plan) → Stand g h None k → Follows g h plan
+    → event_for k.at plan ≡ event_ahead g h
+same_event g h k plan stands follows =
+    λ i. standing_by (follows.events i) (follows.place i) (stands.state.rest i).count (same_turn_at g h k stands i)
 
--- what comes next for the machine, beside what comes next in the run
-pub beside : (g : Given) (h : List Item) (m : Machine) (plan : Plan) → StandsFor g h None m → Follows g h plan → AreNextAlike (comes_next g h) (next_for m plan)
-beside g h m plan stands follows =
+-- what comes next for contents, beside what comes next in the run
+pub beside : (g : Given) (h : List Item) (k : Contents) (plan : Plan) → Stand g h None k → Follows g h plan
+    → AreNextAlike (comes_next g h) (next_for k.at plan)
+beside g h k plan stands follows =
     let s = state_after g (records_of h) in
-    subst (λ (n : Next). AreNextAlike n (next_for m plan))
-    (ap (λ (l : ℕ). next_in l m.due (event_for m plan) s) stands.length
-    ∙ ap (λ (d : Due). next_in g.length d (event_for m plan) s) stands.due
-    ∙ ap (λ (o : Option Event). next_in g.length (due_after (records_of h)) o s) (same_event g h m plan stands follows))
-    (next_alike m.length m.due (event_for m plan) s (state_of m.processor) (sound-after g (records_of h) (course_events g h stands.past)) (course_blind g h stands.past) stands.state)
+    subst (λ (n : Next). AreNextAlike n (next_for k.at plan))
+    (λ i. next_in (stands.length i) (stands.due i) (same_event g h k plan stands follows i) s)
+    (next_alike k.at.length k.at.due (event_for k.at plan) s k.at.state
+    (sound-after g (records_of h) (course_events g h stands.past)) (course_blind g h stands.past) stands.state)

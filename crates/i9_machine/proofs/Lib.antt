@@ -4,7 +4,6 @@ pub mod Issuing
 pub mod Overtaking
 pub mod Turning
 pub mod Arriving
-pub mod Unmoved
 pub mod Opening
 pub mod Lifting
 pub mod Performing
@@ -14,7 +13,6 @@ pub mod Showing
 pub mod Settling
 pub mod Told
 pub mod Turned
-pub mod Levels
 pub mod Timely
 pub mod InRuns
 pub mod NewPages

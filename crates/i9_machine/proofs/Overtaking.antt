@@ -27,10 +27,9 @@ use Rattle.i9_course.proofs.Barriers.{next_barrier, last_reached}
 use Rattle.i9_course.proofs.NeedAlike.{need_alike}
 use Rattle.i9_course.proofs.Orderly.{course_events}
 use Rattle.i9_plan.specs.Open.{WaitsForAll, NeedsAhead}
-use Rattle.i9_processor.specs.State.{state_of, cache_of, size_of}
-use Rattle.i9_machine.specs.declared.machine.Machine.{Machine}
-use Rattle.i9_machine.specs.StandsFor.{StandsFor}
-use Rattle.i9_machine.specs.Overtaking.{late_entry, late_due, IsNeedAhead, IssuesAhead}
+use Rattle.i9_machine.specs.Contents.{Situation, Contents}
+use Rattle.i9_machine.specs.StandsFor.{Stand}
+use Rattle.i9_machine.specs.Overtaking.{late_entry, late_due, IssuesAhead}
 
 -- ---- the last fault, by what is due
 
@@ -55,15 +54,12 @@ entry_fault : (rs : List Record) → late_entry (due_after rs) ≡ last_fault rs
 entry_fault [] = refl
 entry_fault (r ∷ rs) = kind_fault r.kind r.before
 
--- the same for a machine, within the length
-late_is : (g : Given) (h : List Item) (m : Machine) → StandsFor g h None m
-    → late_due m ≡ cond (nat_lt (state_after g (records_of h)).count g.length) (last_fault (records_of h)) None
-late_is g h m stands =
-    let rs = records_of h in
-    ap (λ (s : State). cond (nat_lt s.count m.length) (late_entry m.due) None) stands.state.rest
-    ∙ ap (λ (n : ℕ). cond (nat_lt (state_after g rs).count n) (late_entry m.due) None) stands.length
-    ∙ ap (λ (o : Option ℕ). cond (nat_lt (state_after g rs).count g.length) o None)
-    (ap late_entry stands.due ∙ entry_fault rs)
+-- the same for contents, within the length
+late_is : (g : Given) (h : List Item) (k : Contents) → Stand g h None k
+    → late_due k.at ≡ cond (nat_lt (state_after g (records_of h)).count g.length) (last_fault (records_of h)) None
+late_is g h k stands =
+    (λ i. cond (nat_lt (stands.state.rest i).count (stands.length i)) (late_entry (stands.due i)) None)
+    ∙ ap (λ (o : Option ℕ). cond (nat_lt (state_after g (records_of h)).count g.length) o None) (entry_fault (records_of h))
 
 none_by : (b c : Bool) (o : Option ℕ) → cond b o None ≡ None → cond (b && c) o None ≡ None
 none_by true true o h = h
@@ -71,23 +67,23 @@ none_by true false o h = refl
 none_by false c o h = refl
 
 -- where none is due, none is imprecise
-pub calm_precise : (g : Given) (h : List Item) (m : Machine) → StandsFor g h None m → late_due m ≡ None
+pub calm_precise : (g : Given) (h : List Item) (k : Contents) → Stand g h None k → late_due k.at ≡ None
     → (ahead g h).imprecise ≡ None
-calm_precise g h m stands none =
+calm_precise g h k stands none =
     none_by (nat_lt (state_after g (records_of h)).count g.length) _ (last_fault (records_of h))
-    (sym (late_is g h m stands) ∙ none)
+    (sym (late_is g h k stands) ∙ none)
 
 both_some : (b : Bool) (o : Option ℕ) (a : ℕ) → cond b o None ≡ Some a → (b ≡ true) × (o ≡ Some a)
 both_some true o a h = (refl, h)
 both_some false o a h = absurd (cc h)
 
 -- where one is due, it is imprecise if it is overtaken
-late_imprecise : (g : Given) (h : List Item) (m : Machine) (a : ℕ) → StandsFor g h None m → late_due m ≡ Some a
+late_imprecise : (g : Given) (h : List Item) (k : Contents) (a : ℕ) → Stand g h None k → late_due k.at ≡ Some a
     → issue_of_next g h (instruction_ahead (state_after g (records_of h))) < last_done (course g h).late
     → (ahead g h).imprecise ≡ Some a
-late_imprecise g h m a stands late before =
+late_imprecise g h k a stands late before =
     let both = both_some (nat_lt (state_after g (records_of h)).count g.length) (last_fault (records_of h)) a
-    (sym (late_is g h m stands) ∙ late) in
+    (sym (late_is g h k stands) ∙ late) in
     let issue = issue_of_next g h (instruction_ahead (state_after g (records_of h))) in
     ap (λ (b : Bool). cond (b && nat_lt issue (last_done (course g h).late)) (last_fault (records_of h)) None) both.0
     ∙ ap (λ (b : Bool). cond b (last_fault (records_of h)) None) (lt-ltb issue (last_done (course g h).late) before)
@@ -131,76 +127,69 @@ ahead_need asked c s t blind alike =
     ∙ standing_need asked c s t alike (stands_at s)
 
 -- it issues at the turn that the scoreboard gives its need
-pub ahead_issues : (m : Machine) (need : Need) (t : ℕ) → IsNeedAhead m need
-    → ((rs : List TimedNeed) → board.StandsFor m.board rs → t ≡ issue_turn (last_issue rs) rs (waiting_until m.floor need))
-    → IssuesAhead m t
-ahead_issues m need t is turn g h stands =
+pub ahead_issues : (k : Contents) (need : Need) (t : ℕ) → NeedsAhead k.at.state need
+    → ((rs : List TimedNeed) → board.StandsFor k.at.board rs → t ≡ issue_turn (last_issue rs) rs (waiting_until k.at.floor need))
+    → IssuesAhead k t
+ahead_issues k need t is turn g h stands =
     let rs = turns (course g h).late in
-    let s = state_after g (records_of h) in
     let c = cache_after g (records_of h) in
-    turn rs stands.lands.board
-    ∙ ap (λ (f : ℕ). issue_turn (last_issue rs) rs (waiting_until f need)) stands.lands.fence
-    ∙ ap (λ (n : Need). issue_turn (last_issue rs) rs (waiting_until (course g h).fence n))
-    (sym (is.ahead g.sets c) ∙ ahead_need g.sets c s (state_of m.processor) (course_blind g h stands.past) stands.state)
+    let same = sym (is g.sets c) ∙ ahead_need g.sets c (state_after g (records_of h)) k.at.state (course_blind g h stands.past) stands.state in
+    turn rs stands.lands.board ∙ λ i. issue_turn (last_issue rs) rs (waiting_until (stands.lands.fence i) (same i))
 
 -- where it waits for all, it overtakes nothing
-pub waits_precise : (g : Given) (h : List Item) (m : Machine) → StandsFor g h None m
-    → WaitsForAll (state_of m.processor) (stands_at (state_of m.processor)) → (ahead g h).imprecise ≡ None
-waits_precise g h m stands waits =
+pub waits_precise : (g : Given) (h : List Item) (k : Contents) → Stand g h None k
+    → WaitsForAll k.at.state (stands_at k.at.state) → (ahead g h).imprecise ≡ None
+waits_precise g h k stands waits =
     let s = state_after g (records_of h) in
     let c = cache_after g (records_of h) in
-    let barrier = sym (ap (λ (n : Need). n.barrier) (ahead_need g.sets c s (state_of m.processor) (course_blind g h stands.past) stands.state)) ∙ waits g.sets c in
+    let barrier = sym (ap (λ (n : Need). n.barrier) (ahead_need g.sets c s k.at.state (course_blind g h stands.past) stands.state)) ∙ waits g.sets c in
     let turn : issue_of_next g h (instruction_ahead s) ≡ end_turn (turns (course g h).late) = next_barrier g h (instruction_ahead s) barrier in
     let reached : last_done (course g h).late ≤ end_turn (turns (course g h).late) = last_reached (course g h).late in
     precise_by g h (omega (arith, turn, reached))
 
 -- where it would not issue before the last record is done, neither
-pub later_precise : (g : Given) (h : List Item) (m : Machine) (t : ℕ) → StandsFor g h None m → IssuesAhead m t
-    → m.done ≤ t → (ahead g h).imprecise ≡ None
-later_precise g h m t stands issues le =
+pub later_precise : (g : Given) (h : List Item) (k : Contents) (t : ℕ) → Stand g h None k → IssuesAhead k t
+    → k.done ≤ t → (ahead g h).imprecise ≡ None
+later_precise g h k t stands issues le =
     let is : t ≡ issue_of_next g h (instruction_ahead (state_after g (records_of h))) = issues g h stands in
-    let last : m.done ≡ last_done (course g h).late = stands.lands.last in
+    let last : k.done ≡ last_done (course g h).late = stands.lands.last in
     precise_by g h (omega (arith, is, last, le))
 
 -- nor where all records are done
-pub drained_precise : (g : Given) (h : List Item) (m : Machine) → StandsFor g h None m
-    → end_turn (turns (course g h).late) ≤ m.turn → (ahead g h).imprecise ≡ None
-drained_precise g h m stands le = by_fault (ahead g h).imprecise refl
+pub drained_precise : (g : Given) (h : List Item) (k : Contents) → Stand g h None k
+    → end_turn (turns (course g h).late) ≤ k.turn → (ahead g h).imprecise ≡ None
+drained_precise g h k stands le = by_fault (ahead g h).imprecise refl
   where
     by_fault : (o : Option ℕ) → (ahead g h).imprecise ≡ o → (ahead g h).imprecise ≡ None
     by_fault None is = is
     by_fault (Some a) is =
         let before : (ahead g h).turn < last_done (course g h).late = (imprecise_overtaken g h a is).0 in
-        let in_time : m.turn ≤ (ahead g h).turn = stands.lands.in_time in
+        let in_time : k.turn ≤ (ahead g h).turn = stands.lands.in_time in
         let reached : last_done (course g h).late ≤ end_turn (turns (course g h).late) = last_reached (course g h).late in
         absurd (omega (arith, before, in_time, reached, le))
 
 -- where it would, the fault is imprecise, and the run ends at that turn
-pub sooner_imprecise : (g : Given) (h : List Item) (m : Machine) (a t : ℕ) → StandsFor g h None m → IssuesAhead m t
-    → late_due m ≡ Some a → t < m.done → ((ahead g h).imprecise ≡ Some a) × ((ahead g h).turn ≡ t)
-sooner_imprecise g h m a t stands issues late before =
+pub sooner_imprecise : (g : Given) (h : List Item) (k : Contents) (a t : ℕ) → Stand g h None k → IssuesAhead k t
+    → late_due k.at ≡ Some a → t < k.done → ((ahead g h).imprecise ≡ Some a) × ((ahead g h).turn ≡ t)
+sooner_imprecise g h k a t stands issues late before =
     let issue = issue_of_next g h (instruction_ahead (state_after g (records_of h))) in
     let is : t ≡ issue = issues g h stands in
-    let last : m.done ≡ last_done (course g h).late = stands.lands.last in
-    let fault = late_imprecise g h m a stands late (omega (arith, is, last, before)) in
+    let last : k.done ≡ last_done (course g h).late = stands.lands.last in
+    let fault = late_imprecise g h k a stands late (omega (arith, is, last, before)) in
     (fault, ap (λ (o : Option ℕ). issue_of_next g h (to_issue g h o)) fault ∙ sym is)
 
 -- ---- what it needs
 
 -- an instruction that runs
-pub runs_ahead : (m : Machine) (need : Need) (i : Inst) (known : Need) → stands_at (state_of m.processor) ≡ Runs i → NeedsAhead (state_of m.processor) known
-    → need ≡ need_of (size_of m.processor) (cache_of m.processor) (state_of m.processor) (Instruction i) → NeedsAhead (state_of m.processor) need
-runs_ahead m need i known stands ahead is asked c =
-    let s = state_of m.processor in
-    let n = size_of m.processor in
-    ahead asked c ∙ sym (ahead (Some n) (cache_of m.processor))
-    ∙ ap (λ (x : Standing). need_ahead (Some n) (cache_of m.processor) (next_by_standing s x)) stands
+pub runs_ahead : (at : Situation) (need : Need) (i : Inst) (known : Need) → stands_at at.state ≡ Runs i → NeedsAhead at.state known
+    → need ≡ need_of at.size at.cache at.state (Instruction i) → NeedsAhead at.state need
+runs_ahead at need i known stands ahead is asked c =
+    ahead asked c ∙ sym (ahead (Some at.size) at.cache)
+    ∙ ap (λ (x : Standing). need_ahead (Some at.size) at.cache (next_by_standing at.state x)) stands
     ∙ sym is
 
 -- one that faults
-pub faults_ahead : (m : Machine) (need : Need) (i : Inst) (number : ℕ × ℕ) → stands_at (state_of m.processor) ≡ Faults i number
-    → ((n : ℕ) (c : Cache) → need ≡ need_of n c (state_of m.processor) (Faulted (Some i) (fault_at (state_of m.processor) number)))
-    → NeedsAhead (state_of m.processor) need
-faults_ahead m need i number stands is asked c =
-    let s = state_of m.processor in
+pub faults_ahead : (s : State) (need : Need) (i : Inst) (number : ℕ × ℕ) → stands_at s ≡ Faults i number
+    → ((n : ℕ) (c : Cache) → need ≡ need_of n c s (Faulted (Some i) (fault_at s number))) → NeedsAhead s need
+faults_ahead s need i number stands is asked c =
     ap (λ (x : Standing). need_ahead asked c (next_by_standing s x)) stands ∙ sym (is (sets_in asked s) c)

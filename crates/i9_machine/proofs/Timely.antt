@@ -1,5 +1,5 @@
 -- Where nothing is open, an event that waits for a turn stands there once that turn has come.
-use Rattle.std.proofs.Common.{◌≡◌, ◌≤◌, Bool, true, false, cond, List, Option, Some, None, refl, sym, ap, ◌∙◌, inl, inr, arith}
+use Rattle.std.proofs.Common.{◌≡◌, ℕ, ◌≤◌, Bool, true, false, cond, List, Option, Some, None, refl, sym, ap, ◌∙◌, inl, inr, arith}
 use Rattle.std.specs.Prelude.{nat_le}
 use Rattle.std.specs.List.{slice_get}
 use Rattle.std.proofs.lemmas.Bool.{cases_lt, le-leb, lt-leb}
@@ -7,12 +7,10 @@ use Rattle.i9_model.specs.declared.event.Event.{Event}
 use Rattle.i9_model.specs.declared.event.Timed.{Timed}
 use Rattle.i9_model.specs.declared.event.When.{When}
 use Rattle.i9_model.specs.declared.event.When.TheVariants.{At, Turn}
-use Rattle.i9_model.specs.declared.need.TimedNeed.{TimedNeed}
 use Rattle.i9_model.specs.HeldFrames.{cache_after}
 use Rattle.i9_model.specs.ScheduleText.{event_where, has_come_by, standing_by}
 use Rattle.i9_model.specs.Run.{Given, state_after}
 use Rattle.i9_model.specs.Turns.{end_turn}
-use Rattle.i9_model.specs.Turns as board
 use Rattle.i9_model.specs.Late.{turns}
 use Rattle.i9_schedule.specs.Plan.{Plan}
 use Rattle.i9_course.specs.NeedOf.{need_ahead}
@@ -20,68 +18,63 @@ use Rattle.i9_course.specs.Course.{Item, records_of, course, issue_after, issue_
 use Rattle.i9_course.proofs.Ahead.{ahead_precise}
 use Rattle.i9_course.proofs.Barriers.{next_by_end}
 use Rattle.i9_course.proofs.NeedAlike.{next_need_alike}
-use Rattle.i9_processor.specs.State.{state_of}
-use Rattle.i9_machine.specs.declared.machine.Machine.{Machine}
+use Rattle.i9_machine.specs.Contents.{Situation, Contents}
 use Rattle.i9_machine.specs.Opening.{IsFreeToIssue, IsTimely}
-use Rattle.i9_machine.specs.StandsFor.{StandsFor, Follows, IsUnderWay}
+use Rattle.i9_machine.specs.StandsFor.{Stand, Follows}
 use Rattle.i9_machine.specs.Step.{turn_at, event_for, next_where, next_for}
 use Rattle.i9_machine.proofs.Beside.{same_turn_at, beside}
 use Rattle.i9_machine.proofs.Overtaking.{ahead_need, course_blind, drained_precise}
 use Rattle.i9_machine.proofs.Stepping.{goes_by_itself}
 
 -- where the instruction comes next, it issues at its turn
-itself_issues : (g : Given) (h : List Item) (m : Machine) (plan : Plan) → StandsFor g h None m → Follows g h plan → IsFreeToIssue m
-    → event_for m plan ≡ None → issue_of_next g h (comes_next g h) ≡ instruction_turn g h
-itself_issues g h m plan stands follows free none =
+itself_issues : (g : Given) (h : List Item) (k : Contents) (plan : Plan) → Stand g h None k → Follows g h plan → IsFreeToIssue k.at
+    → event_for k.at plan ≡ None → issue_of_next g h (comes_next g h) ≡ instruction_turn g h
+itself_issues g h k plan stands follows free none =
     let c = cache_after g (records_of h) in
-    let same = next_need_alike g.sets c (comes_next g h) (next_for m plan) (beside g h m plan stands follows) in
-    let itself = ap (next_where m) none ∙ goes_by_itself m free in
+    let same = next_need_alike g.sets c (comes_next g h) (next_for k.at plan) (beside g h k plan stands follows) in
     ap (issue_after (course g h))
     (sym same
-    ∙ ap (need_ahead g.sets c) itself
-    ∙ ahead_need g.sets c (state_after g (records_of h)) (state_of m.processor) (course_blind g h stands.past) stands.state)
+    ∙ ap (need_ahead g.sets c) (ap (next_where k.at) none ∙ goes_by_itself k.at free)
+    ∙ ahead_need g.sets c (state_after g (records_of h)) k.at.state (course_blind g h stands.past) stands.state)
 
-pub is_timely : (m : Machine) (plan : Plan) → IsUnderWay m plan → ((rs : List TimedNeed) → board.StandsFor m.board rs → end_turn rs ≤ m.turn)
-    → IsTimely m plan
-is_timely m plan u over =
-    let g = u.given in
-    let h = u.items in
-    let same : turn_at m ≡ instruction_turn g h = same_turn_at g h m u.stands in
-    let ended : end_turn (turns (course g h).late) ≤ m.turn = over (turns (course g h).late) u.stands.lands.board in
+pub is_timely : (g : Given) (h : List Item) (k : Contents) (plan : Plan) → Stand g h None k → Follows g h plan
+    → end_turn (turns (course g h).late) ≤ k.turn → IsTimely k.at k.turn plan
+is_timely g h k plan stands follows ended =
+    let same : turn_at k.at ≡ instruction_turn g h = same_turn_at g h k stands in
     let by_end : instruction_turn g h ≤ end_turn (turns (course g h).late) = next_by_end g h (instruction_ahead (state_after g (records_of h))) in
     record {
       come = omega (arith, same, by_end, ended);
       early = λ free none.
-          let in_time : m.turn ≤ (ahead g h).turn = u.stands.lands.in_time in
-          let turn : (ahead g h).turn ≡ issue_of_next g h (comes_next g h) = ahead_precise g h (drained_precise g h m u.stands ended) in
-          let itself : issue_of_next g h (comes_next g h) ≡ instruction_turn g h = itself_issues g h m plan u.stands u.follows free none in
+          let in_time : k.turn ≤ (ahead g h).turn = stands.lands.in_time in
+          let turn : (ahead g h).turn ≡ issue_of_next g h (comes_next g h) = ahead_precise g h (drained_precise g h k stands ended) in
+          let itself : issue_of_next g h (comes_next g h) ≡ instruction_turn g h = itself_issues g h k plan stands follows free none in
           omega (arith, in_time, turn, itself, same);
     }
 
 -- the event that stands there by the machine's turn
-pub timely_event : (m : Machine) (plan : Plan) → IsTimely m plan → IsFreeToIssue m
-    → standing_by plan.events plan.place (state_of m.processor).count m.turn ≡ event_for m plan
-timely_event m plan timely free = by_next (slice_get plan.events plan.place) refl
+pub timely_event : (at : Situation) (now : ℕ) (plan : Plan) → IsTimely at now plan → IsFreeToIssue at
+    → standing_by plan.events plan.place at.state.count now ≡ event_for at plan
+timely_event at now plan timely free = by_next (slice_get plan.events plan.place) refl
   where
-    by_form : (w : When) (e : Event) → (cond (has_come_by (state_of m.processor).count (turn_at m) w) (Some e) None ≡ None → m.turn ≤ turn_at m)
-        → cond (has_come_by (state_of m.processor).count m.turn w) (Some e) None ≡ cond (has_come_by (state_of m.processor).count (turn_at m) w) (Some e) None
+    by_form : (w : When) (e : Event) → (cond (has_come_by at.state.count (turn_at at) w) (Some e) None ≡ None → now ≤ turn_at at)
+        → cond (has_come_by at.state.count now w) (Some e) None ≡ cond (has_come_by at.state.count (turn_at at) w) (Some e) None
     by_form (At n) e early = refl
-    by_form (Turn n) e early = elim (cases_lt (turn_at m) n) [
+    by_form (Turn n) e early = elim (cases_lt (turn_at at) n) [
       | inl later ↦
-          let not_yet : nat_le n (turn_at m) ≡ false = lt-leb n (turn_at m) later in
-          let none : cond (nat_le n (turn_at m)) (Some e) None ≡ None = ap (λ (b : Bool). cond b (Some e) None) not_yet in
-          let turn : m.turn ≤ turn_at m = early none in
-          let also : nat_le n m.turn ≡ false = lt-leb n m.turn (omega (arith, later, turn)) in
+          let not_yet : nat_le n (turn_at at) ≡ false = lt-leb n (turn_at at) later in
+          let none : cond (nat_le n (turn_at at)) (Some e) None ≡ None = ap (λ (b : Bool). cond b (Some e) None) not_yet in
+          let turn : now ≤ turn_at at = early none in
+          let also : nat_le n now ≡ false = lt-leb n now (omega (arith, later, turn)) in
           ap (λ (b : Bool). cond b (Some e) None) also ∙ sym none
       | inr come ↦
-          let here : nat_le n (turn_at m) ≡ true = le-leb n (turn_at m) come in
-          let before : turn_at m ≤ m.turn = timely.come in
-          let there : nat_le n m.turn ≡ true = le-leb n m.turn (omega (arith, come, before)) in
-          ap (λ (b : Bool). cond b (Some e) None) there ∙ sym (ap (λ (b : Bool). cond b (Some e) None) here)
+          let here : nat_le n (turn_at at) ≡ true = le-leb n (turn_at at) come in
+          let before : turn_at at ≤ now = timely.come in
+          let there : nat_le n now ≡ true = le-leb n now (omega (arith, come, before)) in
+          ap (λ (b : Bool). cond b (Some e) None) (there ∙ sym here)
     ]
 
     by_next : (o : Option Timed) → slice_get plan.events plan.place ≡ o
-        → event_where (has_come_by (state_of m.processor).count m.turn) o ≡ event_where (has_come_by (state_of m.processor).count (turn_at m)) o
+        → event_where (has_come_by at.state.count now) o ≡ event_where (has_come_by at.state.count (turn_at at)) o
     by_next None is = refl
     by_next (Some t) is =
-        by_form t.when t.event (λ none. timely.early free (ap (event_where (has_come_by (state_of m.processor).count (turn_at m))) is ∙ none))
+        by_form t.when t.event (λ none. timely.early free (ap (event_where (has_come_by at.state.count (turn_at at))) is ∙ none))

@@ -17,7 +17,7 @@ use Rattle.i9_model.specs.Turns.{last_issue}
 use Rattle.i9_turns.proofs.LateRegisters.{cell-busy}
 use Rattle.i9_course.specs.Course.{Item, Step, records_of, course, comes_next}
 use Rattle.i9_regs.proofs.Shown.{landed_busy}
-use Rattle.i9_processor.specs.State.{cells_of, bytes_of}
+use Rattle.i9_processor.specs.State.{cells_of, bytes_of, queue_of}
 use Rattle.i9_raw.specs.Raw.{raw_memory}
 use Rattle.i9_course.proofs.Orderly.{registers_settle}
 use Rattle.i9_raw.proofs.Landed.{course_shows, flushed_raw}
@@ -27,7 +27,8 @@ use Rattle.i9_machine.specs.declared.line.Raw.{Raw}
 use Rattle.i9_machine.specs.declared.line.Turn.{Turn}
 use Rattle.i9_machine.specs.declared.line.Turn.TheVariants as answers
 use Rattle.i9_machine.specs.declared.machine.Machine.{Machine}
-use Rattle.i9_machine.specs.Issuing.{kernel_of, IsQuiet}
+use Rattle.i9_machine.specs.Contents.{contents_of, kernel_of}
+use Rattle.i9_machine.specs.Issuing.{IsQuiet}
 use Rattle.i9_machine.specs.Line.{AddsLines, shown_of}
 use Rattle.i9_machine.specs.Progress.{Progress}
 use Rattle.i9_machine.specs.Raw.{raw_at, IsFlushed, IsLevel}
@@ -49,7 +50,7 @@ same_lines old mid new xs first same = ap (map shown_of) same ∙ first
 
 -- records were done since a machine, and a page that is new is one of them
 abbrev pub SinceOnly : Given → List Item → Progress → Progress → Type 0
-SinceOnly g h before after = (since : Since g h before after) × AddsRecordsOnly before.machine after.machine since.done
+SinceOnly g h before after = (since : Since g h before after) × AddsRecordsOnly before.machine.processor after.machine.processor since.done
 
 pub none_done : (g : Given) (h : List Item) (at : Progress) → StandsFor g h None at.machine → Follows g h at.plan → SinceOnly g h at at
 none_done g h at stands follows = (
@@ -60,19 +61,19 @@ none_done g h at stands follows = (
     follows = follows;
     lines = sym (append-nil (map shown_of at.lines));
   },
-  no_records at.machine,
+  no_records at.machine.processor,
 )
 
 module _ (g : Given) (h : List Item) (before mid : Progress) (held : SinceOnly g h before mid) (after : Progress)
-    (only : AddsNextOnly mid.machine after.machine (comes_next g (steps_on held.0.done h))) where
+    (only : AddsNextOnly mid.machine.processor after.machine.processor (comes_next g (steps_on held.0.done h))) where
   abbrev since : Since g h before mid
   since = held.0
 
   abbrev items : List Item
   items = steps_on since.done h
 
-  pages : AddsRecordsOnly before.machine after.machine (with_next (comes_next g items) since.done)
-  pages = more_pages before.machine mid.machine after.machine since.done (comes_next g items) held.1 only
+  pages : AddsRecordsOnly before.machine.processor after.machine.processor (with_next (comes_next g items) since.done)
+  pages = more_pages before.machine.processor mid.machine.processor after.machine.processor since.done (comes_next g items) held.1 only
 
   -- one more
   pub does_since : (answer : Turn) → DoesNext g items answer mid after → SinceOnly g h before after
@@ -84,7 +85,7 @@ module _ (g : Given) (h : List Item) (before mid : Progress) (held : SinceOnly g
       follows = d.follows;
       lines = more_lines before.lines mid.lines after.lines (lines_of since.done) (record_lines d.done) since.lines d.lines;
     },
-    subst (λ (n : Next). AddsRecordsOnly before.machine after.machine (with_next n since.done)) d.is_next pages,
+    subst (λ (n : Next). AddsRecordsOnly before.machine.processor after.machine.processor (with_next n since.done)) d.is_next pages,
   )
 
   -- the turn moves
@@ -172,8 +173,8 @@ same_set (suc n) p q same =
     ap (λ (b : Bool). set_below n p + cond b (2 ^ n) 0) (same n (omega arith))
     ∙ ap (λ (x : ℕ). x + cond (q n) (2 ^ n) 0) (same_set n p q (λ r lt. same r (omega (arith, lt))))
 
-shows_of : (g : Given) (h : List Item) (end : Option Finish) (m : Machine) → StandsFor g h end m
-    → Shows (boot g.image) m.turn (course g h).late (kernel_of m).cells (kernel_of m).bytes (kernel_of m).queue
+pub shows_of : (g : Given) (h : List Item) (end : Option Finish) (m : Machine) → StandsFor g h end m
+    → Shows (boot g.image) m.turn (course g h).late (kernel_of (contents_of m)).cells (bytes_of m.processor) (queue_of m.processor)
 shows_of g h None m stands = stands.lands.shows
 shows_of g h (Some f) m stands = stands.lands.shows
 
@@ -192,9 +193,7 @@ raw_is g h end m raw stands turn regs busy =
     (λ r lt. ap (λ (c : Cell). c.value) (shows.registers r (omega (arith, lt)))) in
     let marks = busy ∙ same_set 32 (λ r. is_plan_open m.turn (cells_of m.processor r).plan) (is_busy m.turn late)
     (λ r lt. sym (landed_busy m.turn (cells_of m.processor r)) ∙ ap (λ (c : Cell). is_plan_open m.turn c.plan) (shows.registers r (omega (arith, lt))) ∙ cell-busy m.turn r late) in
-    ap (λ (t : ℕ). record { turn = t; regs = raw.regs; busy = raw.busy }) turn
-    ∙ ap (λ (rs : List ℕ). record { turn = m.turn; regs = rs; busy = raw.busy }) values
-    ∙ ap (λ (b : ℕ). record { turn = m.turn; regs = register_list (raw_value first m.turn late); busy = b }) marks
+    λ i. record { turn = turn i; regs = values i; busy = marks i }
 
 -- a byte of raw memory
 pub raw_byte_is : (g : Given) (h : List Item) (end : Option Finish) (m : Machine) (a : ℕ) → StandsFor g h end m

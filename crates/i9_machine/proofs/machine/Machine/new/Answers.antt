@@ -27,8 +27,8 @@ returns-clause-stands c = λ plan is_plan.
         bound = 1;
         far = first_far g is_plan c.requires.length;
         done = subst (λ (b : Pending). IsAllDone b 1) (sym board) none_done;
-        turn = omega arith;
-        floor = omega arith;
+        now = omega arith;
+        fence = omega arith;
       };
       due = refl;
       length = refl;
