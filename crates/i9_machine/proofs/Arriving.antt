@@ -22,7 +22,7 @@ use Rattle.i9_machine.specs.declared.line.Turn.TheVariants as turns
 use Rattle.i9_machine.specs.declared.machine.Machine.{Machine}
 use Rattle.i9_machine.specs.declared.step.Coming.{Coming}
 use Rattle.i9_machine.specs.declared.step.Coming.TheVariants.{Waiting, Overtaking, Running, Faulting}
-use Rattle.i9_machine.specs.Coming.{ArrivesAt, Arrives, HasArrived, IsAhead, kind_of, overtaken_by}
+use Rattle.i9_machine.specs.Coming.{ArrivesAt, Arrives, HasArrived, IsAhead, IsNextInstruction, kind_of, overtaken_by}
 use Rattle.i9_machine.specs.Contents.{Situation, situation, outlook, Contents, contents_of, IsLike, moved_to, IsMovedTo, IsPassedTo}
 use Rattle.i9_machine.specs.Issuing.{most_turns, IsEndTurn}
 use Rattle.i9_machine.specs.Opening.{IsFreeToIssue, NextWaits, HasKept, HasNeed}
@@ -50,49 +50,59 @@ keeps_need at kind need kept fenced is cost = record {
 pub kept_need : (at : Situation) (kind : Kind) (kept : Need) → HasNeed at kind kept → HasKept at.floor kept
 kept_need at kind kept n = keeps_need at kind n.need kept n.fenced n.is_need n.cost
 
-pub like_kept : (m mid : Machine) (kind : Kind) → IsLike m mid → HasNeed (situation m) kind mid.need → HasKept mid.floor mid.need
-like_kept m mid kind like n = subst (λ (x : Machine). HasKept x.floor mid.need) (sym like) (kept_need (situation m) kind mid.need n)
+pub like_kept : (m mid : Machine) (kind : Kind) → IsLike m mid → HasNeed (situation m) kind mid.need
+    → HasKept mid.floor mid.need
+like_kept m mid kind like n =
+    subst (λ (x : Machine). HasKept x.floor mid.need) (sym like) (kept_need (situation m) kind mid.need n)
 
 -- and that of a step
-pub kept_planned : (at : Situation) (plan : Plan) (step : Step) (m : Machine) → IsPlannedIn at plan step m → HasKept at.floor m.need
+pub kept_planned : (at : Situation) (plan : Plan) (step : Step) (m : Machine) → IsPlannedIn at plan step m
+    → HasKept at.floor m.need
 kept_planned at plan step m p = keeps_need at p.is.kind p.need m.need p.fenced p.is.is_need p.is.cost
 
 -- by it the instruction ahead issues
 pub need_issues : (m mid : Machine) (kind : Kind) (t : ℕ) → IsLike m mid → HasNeed (situation m) kind mid.need
-    → ((rs : List TimedNeed) → board.StandsFor mid.board rs → t ≡ issue_turn (last_issue rs) rs mid.need) → IssuesAhead (contents_of m) t
+    → ((rs : List TimedNeed) → board.StandsFor mid.board rs → t ≡ issue_turn (last_issue rs) rs mid.need)
+    → IssuesAhead (contents_of m) t
 need_issues m mid kind t like n turn =
-    let same = subst (λ (x : Machine). (rs : List TimedNeed) → board.StandsFor x.board rs → t ≡ issue_turn (last_issue rs) rs mid.need) like turn in
-    ahead_issues (contents_of m) n.need t n.ahead (λ rs stands. same rs stands ∙ ap (issue_turn (last_issue rs) rs) n.fenced)
+    let same = subst (λ (x : Machine). (rs : List TimedNeed) → board.StandsFor x.board rs → t ≡ issue_turn
+    (last_issue rs) rs mid.need) like turn in
+    ahead_issues (contents_of m) n.need t n.ahead
+    (λ rs stands. same rs stands ∙ ap (issue_turn (last_issue rs) rs) n.fenced)
 
 -- the event that a schedule has where the instruction ahead would issue
-pub open_event : (m : Machine) (plan : Plan) (kind : Kind) (t n : ℕ) (o : Option Event) → IsUnderWay m plan → IsFreeToIssue (situation m)
-    → next_where (situation m) None ≡ Does (record_of kind (situation m).state) → (kept : HasNeed (situation m) kind m.need)
+pub open_event : (m : Machine) (plan : Plan) (coming : Coming) (t n : ℕ) (o : Option Event) → IsUnderWay m plan
+    → (next : IsNextInstruction (outlook m) coming)
     → ((rs : List TimedNeed) → board.StandsFor m.board rs → t ≡ issue_turn (last_issue rs) rs m.need)
     → n ≡ (situation m).state.count → o ≡ standing_by plan.events plan.place n t → event_for (situation m) plan ≡ o
-open_event m plan kind t n o u free is_next kept turn count found =
+open_event m plan coming t n o u next turn count found =
     let rs = late.turns (course u.given u.items).late in
     let stands = u.stands.lands.board in
-    let same = open_turn (situation m) kind kept.need t rs stands free is_next kept.is_need (turn rs stands ∙ ap (issue_turn (last_issue rs) rs) kept.fenced) in
+    let kept = next.kept in
+    let same = open_turn (situation m) next.kind kept.need t rs stands next.free next.is_next kept.is_need
+    (turn rs stands ∙ ap (issue_turn (last_issue rs) rs) kept.fenced) in
     sym (found ∙ λ i. standing_by plan.events plan.place (count i) (same i))
 
 -- ---- when it comes
 
 -- what waits for all comes when all is done
-pub ends_arrive : (g : Given) (h : List Item) (k : Contents) (until : ℕ) (coming : Coming) → Stand g h None k → IsEndTurn k.at.board until → k.turn < until
-    → until ≤ (ahead g h).turn → (ahead g h).imprecise ≡ overtaken_by coming → ArrivesAt g h k.turn until coming
-ends_arrive g h k until coming stands end later bound precise =
+pub ends_arrive : (k : Contents) (plan : Plan) (until : ℕ) (read : Bool) → IsEndTurn k.at.board until → k.turn < until
+    → NextWaits k.at plan → (g : Given) (h : List Item) → Stand g h None k → Follows g h plan
+    → (ahead g h).imprecise ≡ None → ArrivesAt g h k.turn until (Waiting read)
+ends_arrive k plan until read end later waits g h stands follows precise =
+    let bound = waits_until k plan until end waits g h stands follows precise in
     let is : until ≡ end_turn (late.turns (course g h).late) = end (late.turns (course g h).late) stands.lands.board in
     let by_end : (ahead g h).turn ≤ end_turn (late.turns (course g h).late) = ahead_by_end g h in
     record { turn = omega (arith, is, by_end, later, bound); imprecise = precise }
 
-pub waits_arrive : (k : Contents) (plan : Plan) (until : ℕ) (read : Bool) → IsEndTurn k.at.board until → k.turn < until → late_due k.at ≡ None → NextWaits k.at plan
-    → Arrives k plan until (Waiting read)
+pub waits_arrive : (k : Contents) (plan : Plan) (until : ℕ) (read : Bool) → IsEndTurn k.at.board until → k.turn < until
+    → late_due k.at ≡ None → NextWaits k.at plan → Arrives k plan until (Waiting read)
 waits_arrive k plan until read end later none waits g h stands follows =
-    let precise = calm_precise g h k stands none in
-    ends_arrive g h k until (Waiting read) stands end later (waits_until k plan until end waits g h stands follows precise) precise
+    ends_arrive k plan until read end later waits g h stands follows (calm_precise g h k stands none)
 
 -- and what comes when all is done already comes now
-pub drained_arrive : (k : Contents) (plan : Plan) (until : ℕ) → IsEndTurn k.at.board until → until ≤ k.turn → Arrives k plan until (Waiting false)
+pub drained_arrive : (k : Contents) (plan : Plan) (until : ℕ) → IsEndTurn k.at.board until → until ≤ k.turn
+    → Arrives k plan until (Waiting false)
 drained_arrive k plan until end le g h stands follows =
     let now = all_now g h k until end le stands in
     let come : (ahead g h).turn ≤ k.turn = now.1 in
@@ -100,10 +110,12 @@ drained_arrive k plan until end le g h stands follows =
     record { turn = omega (arith, le, come, in_time); imprecise = now.0 }
 
 -- an instruction comes at its turn
-pub instruction_arrives : (k : Contents) (plan : Plan) (kind : Kind) (need : Need) (t : ℕ) (coming : Coming) → late_due k.at ≡ None → overtaken_by coming ≡ None
+pub instruction_arrives : (k : Contents) (plan : Plan) (kind : Kind) (need : Need) (t : ℕ) (coming : Coming)
+    → late_due k.at ≡ None → overtaken_by coming ≡ None
     → next_for k.at plan ≡ Does (record_of kind k.at.state)
     → need ≡ need_of k.at.size k.at.cache k.at.state kind
-    → ((rs : List TimedNeed) → board.StandsFor k.at.board rs → t ≡ issue_turn (last_issue rs) rs (waiting_until k.at.floor need))
+    → ((rs : List TimedNeed) → board.StandsFor k.at.board rs
+    → t ≡ issue_turn (last_issue rs) rs (waiting_until k.at.floor need))
     → Arrives k plan t coming
 instruction_arrives k plan kind need t coming none calm is_next is_need turn g h stands follows =
     let precise = calm_precise g h k stands none in
@@ -112,49 +124,54 @@ instruction_arrives k plan kind need t coming none calm is_next is_need turn g h
     record { turn = omega (arith, is, in_time); imprecise = precise ∙ sym calm }
 
 -- an instruction is no fault that is overtaken
-pub instruction_calm : (i : Inst) (s : State) (k : Kind) (coming : Coming) → kind_of i s coming ≡ Some k → overtaken_by coming ≡ None
-instruction_calm i s k (Waiting read) is = absurd (cc is)
+pub instruction_calm : (i : Inst) (s : State) (k : Kind) (coming : Coming) → kind_of i s coming ≡ Some k
+    → overtaken_by coming ≡ None
 instruction_calm i s k (Overtaking a) is = absurd (cc is)
-instruction_calm i s k Running is = refl
-instruction_calm i s k (Faulting number) is = refl
+instruction_calm i s k _ is = refl
 
 -- ---- as the turn moves
 
 -- what holds of contents that moved, and of those that stay, holds where the turn was passed to
 passed_by : (P : Contents → Type 0) (t : ℕ) (before m : Machine) → IsPassedTo t before m
-    → (before.turn < t → P (moved_to t (contents_of before))) → (t ≤ before.turn → P (contents_of before)) → P (contents_of m)
+    → (before.turn < t → P (moved_to t (contents_of before))) → (t ≤ before.turn → P (contents_of before))
+    → P (contents_of m)
 passed_by P t before m p moved stays = elim (cases_lt before.turn t) [
   | inl later ↦ subst P (sym (p.moved later)) (moved later)
   | inr come ↦ subst (λ (x : Machine). P (contents_of x)) (sym (p.stays come)) (stays come)
 ]
 
-pub passed_stands : (g : Given) (h : List Item) (t : ℕ) (before m : Machine) → IsPassedTo t before m → t ≤ (ahead g h).turn
-    → StandsFor g h None before → StandsFor g h None m
+pub passed_stands : (g : Given) (h : List Item) (t : ℕ) (before m : Machine) → IsPassedTo t before m
+    → t ≤ (ahead g h).turn → StandsFor g h None before → StandsFor g h None m
 passed_stands g h t before m p bound stands =
     passed_by (Stand g h None) t before m p
-    (λ later. moved_stands g h t (contents_of before) before.wait stands (omega (arith, later)) bound stands.early) (λ come. stands)
+    (λ later. moved_stands g h t (contents_of before) before.wait stands (omega (arith, later)) bound stands.early)
+    (λ come. stands)
 
 -- the turn has come
 pub passed_turn : (t : ℕ) (before m : Machine) → IsPassedTo t before m → m.turn ≡ max before.turn t
 passed_turn t before m p =
-    passed_by (λ (k : Contents). k.turn ≡ max before.turn t) t before m p (λ later. omega (arith, later)) (λ come. omega (arith, come))
+    passed_by (λ (k : Contents). k.turn ≡ max before.turn t) t before m p (λ later. omega (arith, later))
+    (λ come. omega (arith, come))
 
 pub passed_ended : (t : ℕ) (before m : Machine) → IsPassedTo t before m → m.ended ≡ before.ended
-passed_ended t before m p = passed_by (λ (k : Contents). k.ended ≡ before.ended) t before m p (λ later. refl) (λ come. refl)
+passed_ended t before m p =
+    passed_by (λ (k : Contents). k.ended ≡ before.ended) t before m p (λ later. refl) (λ come. refl)
 
 -- as much is left, or less
-pub passed_left : (t : ℕ) (before m : Machine) (plan : Plan) → IsPassedTo t before m → steps_left m plan ≤ steps_left before plan
+pub passed_left : (t : ℕ) (before m : Machine) (plan : Plan) → IsPassedTo t before m
+    → steps_left m plan ≤ steps_left before plan
 unfolding left_from
 passed_left t before m plan p =
     passed_by (λ (k : Contents). left_from k plan ≤ left_from (contents_of before) plan) t before m p
     (λ later. omega (arith, later)) (λ come. omega arith)
 
 -- a move by one leaves less
-pub moved_fewer : (before m : Machine) (plan : Plan) (wait : ℕ) → HasPace (contents_of before) → IsMovedTo (before.turn + 1) (record before { wait = wait }) m
-    → steps_left m plan < steps_left before plan
+pub moved_fewer : (before m : Machine) (plan : Plan) (wait : ℕ) → HasPace (contents_of before)
+    → IsMovedTo (before.turn + 1) (record before { wait = wait }) m → steps_left m plan < steps_left before plan
 unfolding left_from
 moved_fewer before m plan wait pace i =
-    subst (λ (k : Contents). left_from k plan < steps_left before plan) (sym i) (move_fewer (contents_of before) plan (paced_turn (contents_of before) pace))
+    subst (λ (k : Contents). left_from k plan < steps_left before plan) (sym i)
+    (move_fewer (contents_of before) plan (paced_turn (contents_of before) pace))
 
 -- and what is planned changes none of it
 pub like_left : (before mid : Machine) (plan : Plan) → IsLike before mid → steps_left mid plan ≡ steps_left before plan
@@ -163,8 +180,9 @@ like_left before mid plan l = ap (λ (m : Machine). steps_left m plan) l
 -- ---- as a step
 
 -- an instruction that comes next is planned, once its effect is made
-pub ahead_planned : (m mid : Machine) (plan : Plan) (t : ℕ) (kind : Kind) (step : Step) → (is : IsAhead (outlook m) plan t kind)
-    → mid.need ≡ m.need → IsStepIn (situation m) None plan step is.kept.need mid.effect → IsPlannedIn (situation m) plan step mid
+pub ahead_planned : (m mid : Machine) (plan : Plan) (t : ℕ) (kind : Kind) (step : Step)
+    → (is : IsAhead (outlook m) plan t kind) → mid.need ≡ m.need
+    → IsStepIn (situation m) None plan step is.kept.need mid.effect → IsPlannedIn (situation m) plan step mid
 ahead_planned m mid plan t kind step is need where_none = record {
   need = is.kept.need;
   fenced = need ∙ is.kept.fenced;
@@ -172,8 +190,9 @@ ahead_planned m mid plan t kind step is need where_none = record {
 }
 
 -- it is planned, once its need is kept
-pub planned : (at : Situation) (m : Machine) (plan : Plan) (step : Step) (need : Need) (e : Effect) → m.need ≡ waiting_until at.floor need
-    → m.effect ≡ e → event_for at plan ≡ None → IsStepIn at None plan step need e → IsPlannedIn at plan step m
+pub planned : (at : Situation) (m : Machine) (plan : Plan) (step : Step) (need : Need) (e : Effect)
+    → m.need ≡ waiting_until at.floor need → m.effect ≡ e → event_for at plan ≡ None → IsStepIn at None plan step need e
+    → IsPlannedIn at plan step m
 planned at m plan step need e kept effect none is = record {
   need = need;
   fenced = kept;
@@ -181,8 +200,8 @@ planned at m plan step need e kept effect none is = record {
 }
 
 -- a step is planned still, where a machine contains the same, and has the same of it
-pub same_planned : (m mid : Machine) (plan : Plan) (step : Step) → contents_of mid ≡ contents_of m → mid.effect ≡ m.effect → mid.need ≡ m.need
-    → IsPlanned m plan step → IsPlanned mid plan step
+pub same_planned : (m mid : Machine) (plan : Plan) (step : Step) → contents_of mid ≡ contents_of m
+    → mid.effect ≡ m.effect → mid.need ≡ m.need → IsPlanned m plan step → IsPlanned mid plan step
 same_planned m mid plan step same effect need p = record {
   need = p.need;
   fenced = need ∙ p.fenced ∙ λ i. waiting_until (sym same i).at.floor p.need;
@@ -190,7 +209,8 @@ same_planned m mid plan step same effect need p = record {
 }
 
 -- what comes next, and overtakes no fault, has come
-pub arrived_come : (k : Contents) (plan : Plan) (coming : Coming) → overtaken_by coming ≡ None → HasArrived k plan coming → HasCome k plan
+pub arrived_come : (k : Contents) (plan : Plan) (coming : Coming) → overtaken_by coming ≡ None
+    → HasArrived k plan coming → HasCome k plan
 arrived_come k plan coming calm a = record {
   given = a.given;
   items = a.items;
@@ -200,21 +220,26 @@ arrived_come k plan coming calm a = record {
   now = a.now;
 }
 
--- it has come where the turn is not below it
-pub here_arrived : (g : Given) (h : List Item) (t : ℕ) (k j : Contents) (plan : Plan) (coming : Coming) → ArrivesAt g h k.turn t coming
-    → Stand g h None j → Follows g h plan → j.turn ≡ max k.turn t → HasArrived j plan coming
-here_arrived g h t k j plan coming at stands follows turn = record {
-  given = g;
-  items = h;
-  stands = stands;
-  follows = follows;
-  imprecise = at.imprecise;
-  now = (let is : (ahead g h).turn ≡ max k.turn t = at.turn in omega (arith, is, turn));
-}
+-- it comes at the turn that was passed to
+pub come_passed : (g : Given) (h : List Item) (m mid next : Machine) (t : ℕ) (coming : Coming) → IsLike m mid
+    → ArrivesAt g h m.turn t coming → IsPassedTo t mid next → StandsFor g h None m
+    → StandsFor g h None next × ((ahead g h).turn ≡ next.turn)
+come_passed g h m mid next t coming like at passed stands =
+    let turn : (ahead g h).turn ≡ max m.turn t = at.turn in
+    let same : mid.turn ≡ m.turn = λ i. (like i).turn in
+    let now : next.turn ≡ max mid.turn t = passed_turn t mid next passed in
+    (passed_stands g h t mid next passed (omega (arith, turn)) (rw like stands), omega (arith, turn, same, now))
+
+-- where it has come, it has arrived
+pub here_arrived : (g : Given) (h : List Item) (k j : Contents) (t : ℕ) (plan : Plan) (coming : Coming)
+    → ArrivesAt g h k.turn t coming → Stand g h None j → Follows g h plan → (ahead g h).turn ≤ j.turn
+    → HasArrived j plan coming
+here_arrived g h k j t plan coming at stands follows now =
+    record { given = g; items = h; stands = stands; follows = follows; imprecise = at.imprecise; now = now }
 
 -- less than less is less
-pub fewer_from : (answer : Turn) (before mid now : ℕ) → mid ≤ before → LeavesFewer answer mid now → LeavesFewer answer before now
+pub fewer_from : (answer : Turn) (before mid now : ℕ) → mid ≤ before → LeavesFewer answer mid now
+    → LeavesFewer answer before now
 fewer_from turns.On before mid now le less = let lt : now < mid = less in omega (arith, le, lt)
 fewer_from (turns.Issued t) before mid now le less = let lt : now < mid = less in omega (arith, le, lt)
-fewer_from (turns.End e) before mid now le less = tt
-fewer_from turns.Memory before mid now le less = tt
+fewer_from _ before mid now le less = tt

@@ -33,11 +33,8 @@ journal_long k n None = refl
 journal_long k n (Some e) = refl
 
 last_long : (v : View) (e : End) → length (last_lines v e) ≤ 2
-last_long v (Exit w) = omega arith
 last_long v Limit = omega arith
-last_long v (Hazard a) = omega arith
-last_long v (Dead code a) = omega arith
-last_long v (Imprecise a) = omega arith
+last_long v _ = omega arith
 
 end_long : (s : State) (f : Finish) → length (end_lines s f) ≤ length (journal_lines 0 f.event) + 2
 end_long s f =
@@ -54,8 +51,7 @@ pub finish_steps : (before : Stage) (f : Finish) (answer : Turn) (after : Stage)
     → Finishes before f answer after → Steps before answer after
 finish_steps before f (turns.End e) after is d = record { finish = f; answers = d.0; is_end = is; finished = d.1 }
 finish_steps before f turns.Memory after is d = refused before after d.same (subst NeedsRoom (sym is) tt)
-finish_steps before f turns.On after is d = absurd d
-finish_steps before f (turns.Issued t) after is d = absurd d
+finish_steps before f _ after is d = absurd d
 
 -- where room is lacking, it is lacking still
 still_costs : (before after : Stage) → after ≡ before → AddsNextOnly before.processor after.processor (next_of before)
@@ -69,7 +65,8 @@ still_costs before after same only lacks = record {
 
 -- what an end costs, where whatever has room for what comes next has room for its lines
 pub finish_costs : (before : Stage) (f : Finish) (answer : Turn) (after : Stage)
-    → (HasRoom before.processor before.spare (next_of before) → length (end_lines before.contents.at.state f) ≤ before.spare)
+    → (HasRoom before.processor before.spare (next_of before)
+    → length (end_lines before.contents.at.state f) ≤ before.spare)
     → after.processor ≡ before.processor → Finishes before f answer after → Costs before answer after
 finish_costs before f (turns.End e) after fits same d = record {
   lacking = λ refused. absurd (cc refused);
@@ -82,14 +79,15 @@ finish_costs before f turns.Memory after fits same d =
     let some : length (end_lines before.contents.at.state f) ≤ before.spare = fits room in
     let lacks : before.spare < length (end_lines before.contents.at.state f) = d.lacking in
     omega (arith, some, lacks))
-finish_costs before f turns.On after fits same d = absurd d
-finish_costs before f (turns.Issued t) after fits same d = absurd d
+finish_costs before f _ after fits same d = absurd d
 
 -- room for an end that comes next is room for its lines
-pub end_fits : (before : Stage) (f : Finish) → next_of before ≡ Ends f → HasRoom before.processor before.spare (next_of before)
+pub end_fits : (before : Stage) (f : Finish) → next_of before ≡ Ends f
+    → HasRoom before.processor before.spare (next_of before)
     → length (end_lines before.contents.at.state f) ≤ before.spare
 end_fits before f is room =
-    let some : length (journal_lines 0 f.event) + 2 ≤ before.spare = subst (HasRoom before.processor before.spare) is room in
+    let some : length (journal_lines 0 f.event) + 2 ≤ before.spare = subst (HasRoom before.processor before.spare) is
+    room in
     let long = end_long before.contents.at.state f in
     omega (arith, some, long)
 
@@ -101,10 +99,8 @@ late_is_due at a late = by_length (nat_lt at.state.count at.length) at.due late
   where
     by_length : (b : Bool) (d : Due) → cond b (late_entry d) None ≡ Some a → (f : Fault) × (d ≡ dues.Entry f)
     by_length b (dues.Entry f) h = (f, refl)
-    by_length true (dues.End e) h = absurd (cc h)
-    by_length false (dues.End e) h = absurd (cc h)
-    by_length true dues.Nothing h = absurd (cc h)
-    by_length false dues.Nothing h = absurd (cc h)
+    by_length true _ h = absurd (cc h)
+    by_length false _ h = absurd (cc h)
 
 pub late_not_nothing : (at : Situation) (a : ℕ) → late_due at ≡ Some a → at.due ≢ dues.Nothing
 late_not_nothing at a late none = let is = late_is_due at a late in cc (sym is.1 ∙ none)
@@ -113,7 +109,8 @@ late_not_nothing at a late none = let is = late_is_due at a late in cc (sym is.1
 entry_long : (s : State) (x : Entry) → 1 ≤ length (record_lines (record_of (Entered x) s))
 entry_long s x = by_byte (console_byte (action_done (record_of (Entered x) s)).writes)
   where
-    by_byte : (o : Option ℕ) → 1 ≤ length (out_lines o ++ point_lines (Some points.Fault) (record_of (Entered x) s).after)
+    by_byte : (o : Option ℕ)
+        → 1 ≤ length (out_lines o ++ point_lines (Some points.Fault) (record_of (Entered x) s).after)
     by_byte None = omega arith
     by_byte (Some b) = omega arith
 
@@ -122,13 +119,16 @@ entry_needs s (Ok x) =
     by_byte (console_byte (action_done (record_of (Entered x) s)).writes)
     (has_writes (action_done (record_of (Entered x) s)) || is_restart (action_done (record_of (Entered x) s)).control)
   where
-    by_byte : (o : Option ℕ) (b : Bool) → (nat_lt 0 (length (out_lines o ++ point_lines (Some points.Fault) (record_of (Entered x) s).after)) || b) ≡ true
+    by_byte : (o : Option ℕ) (b : Bool)
+        → (nat_lt 0 (length (out_lines o ++ point_lines (Some points.Fault) (record_of (Entered x) s).after)) || b)
+        ≡ true
     by_byte None b = refl
     by_byte (Some c) b = refl
 entry_needs s (Err (stops.Hazard a)) = tt
 entry_needs s (Err (stops.Dead code a)) = tt
 
-entry_room : (p : Processor) (spare : ℕ) (s : State) (e : Result Entry FaultStop) → HasRoom p spare (next_by_entry s e) → 1 ≤ spare
+entry_room : (p : Processor) (spare : ℕ) (s : State) (e : Result Entry FaultStop) → HasRoom p spare (next_by_entry s e)
+    → 1 ≤ spare
 entry_room p spare s (Ok x) room = let long = entry_long s x in let fits = room.lines in omega (arith, long, fits)
 entry_room p spare s (Err (stops.Hazard a)) room = let two : 2 ≤ spare = room in omega (arith, two)
 entry_room p spare s (Err (stops.Dead code a)) room = let two : 2 ≤ spare = room in omega (arith, two)
@@ -136,21 +136,27 @@ entry_room p spare s (Err (stops.Dead code a)) room = let two : 2 ≤ spare = ro
 -- what comes next is the entry of the fault
 late_next : (before : Stage) (f : Fault) → before.contents.at.due ≡ dues.Entry f
     → next_of before ≡ next_by_entry before.contents.at.state (entry_in before.contents.at.state f)
-late_next before f is = ap (λ (d : Due). next_in before.contents.at.length d (event_for before.contents.at before.plan) before.contents.at.state) is
+late_next before f is =
+    ap (λ (d : Due). next_in before.contents.at.length d
+    (event_for before.contents.at before.plan) before.contents.at.state) is
 
 pub finish_overtakes : (before : Stage) (a : ℕ) (answer : Turn) (after : Stage) → late_due before.contents.at ≡ Some a
     → Finishes before (finish (Imprecise a)) answer after → Overtakes a before answer after
-finish_overtakes before a (turns.End e) after due d = (sym d.0, subst (λ (x : End). Finished before (finish x) after) d.0 d.1)
+finish_overtakes before a (turns.End e) after due d =
+    (sym d.0, subst (λ (x : End). Finished before (finish x) after) d.0 d.1)
 finish_overtakes before a turns.Memory after due d =
     let is = late_is_due before.contents.at a due in
-    refused before after d.same (subst NeedsRoom (sym (late_next before is.0 is.1)) (entry_needs before.contents.at.state (entry_in before.contents.at.state is.0)))
-finish_overtakes before a turns.On after due d = absurd d
-finish_overtakes before a (turns.Issued t) after due d = absurd d
+    refused before after d.same
+    (subst NeedsRoom (sym (late_next before is.0 is.1))
+    (entry_needs before.contents.at.state (entry_in before.contents.at.state is.0)))
+finish_overtakes before a _ after due d = absurd d
 
 -- room for the entry is room for its line
-pub late_fits : (before : Stage) (a : ℕ) → late_due before.contents.at ≡ Some a → HasRoom before.processor before.spare (next_of before)
+pub late_fits : (before : Stage) (a : ℕ) → late_due before.contents.at ≡ Some a
+    → HasRoom before.processor before.spare (next_of before)
     → length (end_lines before.contents.at.state (finish (Imprecise a))) ≤ before.spare
 late_fits before a due room =
     let is = late_is_due before.contents.at a due in
     let s = before.contents.at.state in
-    entry_room before.processor before.spare s (entry_in s is.0) (subst (HasRoom before.processor before.spare) (late_next before is.0 is.1) room)
+    entry_room before.processor before.spare s (entry_in s is.0)
+    (subst (HasRoom before.processor before.spare) (late_next before is.0 is.1) room)

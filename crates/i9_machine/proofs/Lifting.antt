@@ -25,13 +25,14 @@ use Rattle.i9_machine.specs.Step.{TellsRecord, NeedsRoom, HasRoom, event_for, ne
 use Rattle.i9_machine.specs.StandsFor.{Stand, StandsFor, Follows, DoesNext, EndsRun, IsRefused, Comes, Advances, left_after, FollowsTo}
 use Rattle.i9_course.specs.Course.{Item, Step, records_of, event_ahead, comes_next, ahead}
 use Rattle.i9_course.specs.LateRun.{end_ahead, ended_by, finish_by}
-use Rattle.i9_machine.proofs.Beside.{beside}
+use Rattle.i9_machine.proofs.Overtaking.{beside}
 use Rattle.i9_machine.proofs.Issuing.{same_need, waits_for_none, issued_lands, issued_shaded, left_less, issued_paced}
 use Rattle.i9_model.specs.declared.need.Need.{Need}
 
 -- ---- a record
 
-tells_alike : (k : Kind) (s t : State) (answer : Turn) → AreAlike s t → told k t ≡ told k s → TellsRecord k t answer → TellsRecord k s answer
+tells_alike : (k : Kind) (s t : State) (answer : Turn) → AreAlike s t → told k t ≡ told k s → TellsRecord k t answer
+    → TellsRecord k s answer
 tells_alike (Instruction i) s t (turns.Issued x) alike words tells = record {
   number = tells.number ∙ ap (λ (u : State). u.count) alike.rest;
   place = tells.place ∙ ap (λ (u : State). u.ip) alike.rest;
@@ -47,25 +48,12 @@ tells_alike (Faulted inst fault) s t (turns.Issued x) alike words tells = record
 tells_alike (Entered e) s t turns.On alike words tells = tt
 tells_alike (Interrupted c e) s t turns.On alike words tells = tt
 tells_alike (Reached e u) s t turns.On alike words tells = tt
-tells_alike (Instruction i) s t turns.On alike words tells = absurd tells
-tells_alike (Instruction i) s t (turns.End e) alike words tells = absurd tells
-tells_alike (Instruction i) s t turns.Memory alike words tells = absurd tells
-tells_alike (Faulted inst fault) s t turns.On alike words tells = absurd tells
-tells_alike (Faulted inst fault) s t (turns.End e) alike words tells = absurd tells
-tells_alike (Faulted inst fault) s t turns.Memory alike words tells = absurd tells
-tells_alike (Entered x) s t (turns.Issued i) alike words tells = absurd tells
-tells_alike (Entered x) s t (turns.End e) alike words tells = absurd tells
-tells_alike (Entered x) s t turns.Memory alike words tells = absurd tells
-tells_alike (Interrupted c x) s t (turns.Issued i) alike words tells = absurd tells
-tells_alike (Interrupted c x) s t (turns.End e) alike words tells = absurd tells
-tells_alike (Interrupted c x) s t turns.Memory alike words tells = absurd tells
-tells_alike (Reached x u) s t (turns.Issued i) alike words tells = absurd tells
-tells_alike (Reached x u) s t (turns.End e) alike words tells = absurd tells
-tells_alike (Reached x u) s t turns.Memory alike words tells = absurd tells
+tells_alike _ s t _ alike words tells = absurd tells
 
 -- the number of sets after a record
-size_next : (g : Given) (h : List Item) (k : Contents) (n : ℕ) (r q : Record) → Stand g h None k → AreRecordsAlike r q → IsFreeRecord k.at.state q
-    → n ≡ renewed k.sets k.at.state.memory (action_done q).control k.at.size → n ≡ sets_in g.sets r.after
+size_next : (g : Given) (h : List Item) (k : Contents) (n : ℕ) (r q : Record) → Stand g h None k → AreRecordsAlike r q
+    → IsFreeRecord k.at.state q → n ≡ renewed k.sets k.at.state.memory (action_done q).control k.at.size
+    → n ≡ sets_in g.sets r.after
 size_next g h k n r q stands same free size =
     let t = k.at.state in
     let asked = k.sets in
@@ -78,8 +66,9 @@ size_next g h k n r q stands same free size =
     ∙ λ i. sets_in (stands.sets i) (same.after.rest i)
 
 -- what is held after it, and what is behind
-cache_next : (g : Given) (h : List Item) (k j : Contents) (r q : Record) → Stand g h None k → AreRecordsAlike r q → IsFreeRecord (state_after g (records_of h)) r
-    → j.at.state.memory.mcon ≡ r.after.memory.mcon → j.at.cache ≡ cache_configured j.at.state.memory (cache_acted k.at.size (action_done q) k.at.cache)
+cache_next : (g : Given) (h : List Item) (k j : Contents) (r q : Record) → Stand g h None k → AreRecordsAlike r q
+    → IsFreeRecord (state_after g (records_of h)) r → j.at.state.memory.mcon ≡ r.after.memory.mcon
+    → j.at.cache ≡ cache_configured j.at.state.memory (cache_acted k.at.size (action_done q) k.at.cache)
     → j.at.cache ≡ cache_after g (r ∷ records_of h)
 cache_next g h k j r q stands same free regions cache =
     let memory = j.at.state.memory in
@@ -90,7 +79,8 @@ cache_next g h k j r q stands same free regions cache =
     ∙ configured_by memory r.after.memory (cache_acted n (action_done r) (cache_after g (records_of h))) regions
 
 -- the schedule behind a record
-follows_next : (g : Given) (h : List Item) (was plan : Plan) (r q : Record) → Follows g h was → AreRecordsAlike r q → plan ≡ plan_behind was q → Follows g (Step r ∷ h) plan
+follows_next : (g : Given) (h : List Item) (was plan : Plan) (r q : Record) → Follows g h was → AreRecordsAlike r q
+    → plan ≡ plan_behind was q → Follows g (Step r ∷ h) plan
 follows_next g h was plan r q follows same behind = record {
   events = ap (λ (p : Plan). p.events) behind ∙ follows.events;
   place =
@@ -100,7 +90,8 @@ follows_next g h was plan r q follows same behind = record {
 }
 
 -- the schedule behind an end
-follows_end : (g : Given) (h : List Item) (was plan : Plan) (f : Finish) → Follows g h was → plan ≡ plan_at_end was f → FollowsTo g h f plan
+follows_end : (g : Given) (h : List Item) (was plan : Plan) (f : Finish) → Follows g h was → plan ≡ plan_at_end was f
+    → FollowsTo g h f plan
 follows_end g h was plan f follows behind = record {
   events = ap (λ (p : Plan). p.events) behind ∙ follows.events;
   place =
@@ -121,7 +112,8 @@ ended_stands g h k f over stands = record {
   state = stands.state;
   size = stands.size;
   cache = stands.cache;
-  lands = (let l = stands.lands in record { board = l.board; fence = l.fence; last = l.last; begun = l.begun; shows = l.shows });
+  lands = (let l = stands.lands in
+      record { board = l.board; fence = l.fence; last = l.last; begun = l.begun; shows = l.shows });
   shaded = stands.shaded;
   early = tt;
   paced = stands.paced;
@@ -142,11 +134,13 @@ needs_alike (Ends f) (Ends g) alike needs = tt
 needs_alike (Ends f) (Does q) alike needs = tt
 needs_alike (Does r) (Ends g) alike needs = absurd alike
 needs_alike (Does r) (Does q) alike needs =
-    subst (needs_by (record_lines r)) (done_alike r q alike) (subst (λ (ls : List Shown). needs_by ls (action_done q)) (lines_alike r q alike) needs)
+    subst (needs_by (record_lines r)) (done_alike r q alike)
+    (subst (λ (ls : List Shown). needs_by ls (action_done q)) (lines_alike r q alike) needs)
 
 -- room for what comes next in the run is room for what comes next for the machine
 room_alike : (p : Processor) (spare : ℕ) (o n : Next) → AreNextAlike o n → HasRoom p spare o → HasRoom p spare n
-room_alike p spare (Ends f) (Ends g) alike room = subst (λ (x : Finish). length (journal_lines 0 x.event) + 2 ≤ spare) (sym alike) room
+room_alike p spare (Ends f) (Ends g) alike room =
+    subst (λ (x : Finish). length (journal_lines 0 x.event) + 2 ≤ spare) (sym alike) room
 room_alike p spare (Ends f) (Does q) alike room = absurd alike
 room_alike p spare (Does r) (Ends g) alike room = absurd alike
 room_alike p spare (Does r) (Does q) alike room = record {
@@ -155,14 +149,16 @@ room_alike p spare (Does r) (Does q) alike room = record {
   no_sets = ap (λ (a : Action). is_restart a.control) (done_alike r q alike) ∙ room.no_sets;
 }
 
-pub next_room : (g : Given) (h : List Item) (k : Contents) (plan : Plan) (p : Processor) (spare : ℕ) → Stand g h None k → Follows g h plan
-    → HasRoom p spare (comes_next g h) → HasRoom p spare (next_for k.at plan)
-next_room g h k plan p spare stands follows room = room_alike p spare (comes_next g h) (next_for k.at plan) (beside g h k plan stands follows) room
+pub next_room : (g : Given) (h : List Item) (k : Contents) (plan : Plan) (p : Processor) (spare : ℕ) → Stand g h None k
+    → Follows g h plan → HasRoom p spare (comes_next g h) → HasRoom p spare (next_for k.at plan)
+next_room g h k plan p spare stands follows room =
+    room_alike p spare (comes_next g h) (next_for k.at plan) (beside g h k plan stands follows) room
 
 -- and so is room that stays
 pub kept_room : (p q : Processor) (spare : ℕ) (n : Next) → KeepsRoom p q → HasRoom p spare n → HasRoom q spare n
 kept_room p q spare (Ends f) keeps room = room
-kept_room p q spare (Does r) keeps room = record { lines = room.lines; effect = keeps (action_done r) room.effect; no_sets = room.no_sets }
+kept_room p q spare (Does r) keeps room =
+    record { lines = room.lines; effect = keeps (action_done r) room.effect; no_sets = room.no_sets }
 
 -- ---- what came next
 
@@ -191,8 +187,10 @@ module _ (g : Given) (h : List Item) (before after : Progress) (x y : ℕ) (stan
       let free = next_free k.at.length k.at.due (event_for k.at before.plan) k.at.state q d.is_next in
       let run = next_free g.length (due_after rs) (event_ahead g h) (state_after g rs) r found.1 in
       let cache = cache_next g h k j r q stands same run (ap (λ (u : State). u.memory.mcon) alike.rest) d.cache in
-      let need = same_need g h k r q d.need stands same (ap (λ (x : Record). x.before) run.0) (ap (λ (x : Record). x.before) free.0) d.is_need in
-      let lands = issued_lands g h before.machine after.machine r q d.need stands found.1 same precise come need d.issued alike cache in
+      let need = same_need g h k r q d.need stands same (ap (λ (x : Record). x.before) run.0)
+      (ap (λ (x : Record). x.before) free.0) d.is_need in
+      let lands = issued_lands g h before.machine after.machine r q d.need stands found.1 same precise come need
+      d.issued alike cache in
       let count : k.at.state.count ≡ (state_after g rs).count = ap (λ (u : State). u.count) stands.state.rest in
       let below : k.at.state.count ≤ k.at.length = before.machine.below in
       let length : k.at.length ≡ g.length = stands.length in
@@ -214,9 +212,11 @@ module _ (g : Given) (h : List Item) (before after : Progress) (x y : ℕ) (stan
           size = size_next g h k j.at.size r q stands same free d.size;
           cache = cache;
           lands = lands;
-          shaded = issued_shaded g h before.machine after.machine r q d.need stands found.1 same precise come need d.issued alike cache;
+          shaded = issued_shaded g h before.machine after.machine r q d.need stands found.1 same precise come need
+              d.issued alike cache;
           early = omega (arith, wait, early, turn, come, in_time);
-          paced = issued_paced k j d.need (action_done q) (left_after g rs) (left_after g (r ∷ rs)) d.issued none less stands.paced;
+          paced = issued_paced k j d.need (action_done q) (left_after g rs)
+              (left_after g (r ∷ rs)) d.issued none less stands.paced;
           due = d.due ∙ due_alike r q same;
           length = (λ i. (keeps i).at.length) ∙ stands.length;
           sets = (λ i. (keeps i).sets) ∙ stands.sets;
@@ -225,11 +225,13 @@ module _ (g : Given) (h : List Item) (before after : Progress) (x y : ℕ) (stan
         };
         follows = follows_next g h before.plan after.plan r q follows same d.behind;
         lines = d.lines ∙ ap (λ (ls : List Shown). map shown_of before.lines ++ ls) (lines_alike r q same);
-        tells = tells_alike r.kind r.before q.before answer same.before same.words (subst (λ (k : Kind). TellsRecord k q.before answer) same.kind d.tells);
+        tells = tells_alike r.kind r.before q.before answer same.before same.words
+            (subst (λ (k : Kind). TellsRecord k q.before answer) same.kind d.tells);
       }
 
   -- an end
-  over_run : (f : Finish) (e : End) → end_ahead g h ≡ Some f → f.end ≡ e → Finished was f now → EndsRun g h e before after
+  over_run : (f : Finish) (e : End) → end_ahead g h ≡ Some f → f.end ≡ e → Finished was f now
+      → EndsRun g h e before after
   over_run f e is_end answers d = record {
     finish = f;
     answers = answers;
@@ -238,13 +240,16 @@ module _ (g : Given) (h : List Item) (before after : Progress) (x y : ℕ) (stan
     turn = λ i. (d.contents i).turn;
     stands = subst (Stand g h (Some f)) (sym d.contents) (ended_stands g h was.contents f is_end stands);
     follows = follows_end g h before.plan after.plan f follows d.behind;
-    lines = d.lines ∙ ap (λ (ls : List Shown). map shown_of before.lines ++ ls) (end_alike (state_after g (records_of h)) was.contents.at.state f stands.state);
+    lines = d.lines ∙ ap (λ (ls : List Shown). map shown_of before.lines ++ ls)
+        (end_alike (state_after g (records_of h)) was.contents.at.state f stands.state);
   }
 
   ended_run : (e : End) → (ahead g h).imprecise ≡ None → Ended was e now → EndsRun g h e before after
   ended_run e precise d =
-      let next_end = ends_alike (comes_next g h) (next_of was) d.finish (beside g h was.contents before.plan stands follows) d.is_end in
-      over_run d.finish e (ap (λ (o : Option ℕ). finish_by o (comes_next g h)) precise ∙ ap ended_by next_end) d.answers d.finished
+      let next_end = ends_alike (comes_next g h) (next_of was) d.finish
+      (beside g h was.contents before.plan stands follows) d.is_end in
+      over_run d.finish e (ap (λ (o : Option ℕ). finish_by o (comes_next g h)) precise ∙ ap ended_by next_end) d.answers
+      d.finished
 
   -- or want of memory
   refused : Refused was now → IsRefused g h before after
@@ -264,22 +269,20 @@ module _ (g : Given) (h : List Item) (before after : Progress) (x y : ℕ) (stan
   did_comes turns.Memory precise d = refused d
 
   -- an imprecise fault ends the run
-  overtakes_comes : (a : ℕ) (answer : Turn) → (ahead g h).imprecise ≡ Some a → Overtakes a was answer now → Comes g h answer before after
-  overtakes_comes a turns.On late d = absurd d
-  overtakes_comes a (turns.Issued t) late d = absurd d
-  overtakes_comes a (turns.End e) late d =
-      over_run (finish e) e (ap (λ (o : Option ℕ). finish_by o (comes_next g h)) late ∙ ap (λ (x : End). Some (finish x)) (sym d.0)) refl d.1
-  overtakes_comes a turns.Memory late d = refused d
-
-  pub came_comes : (coming : Coming) (answer : Turn) → (ahead g h).imprecise ≡ overtaken_by coming → Came coming was answer now
+  overtakes_comes : (a : ℕ) (answer : Turn) → (ahead g h).imprecise ≡ Some a → Overtakes a was answer now
       → Comes g h answer before after
-  came_comes (Waiting read) answer fault d = did_comes answer fault d
-  came_comes (Overtaking a) answer fault d = overtakes_comes a answer fault d
-  came_comes Running answer fault d = did_comes answer fault d
-  came_comes (Faulting number) answer fault d = did_comes answer fault d
+  overtakes_comes a (turns.End e) late d =
+      over_run (finish e) e
+      (ap (λ (o : Option ℕ). finish_by o (comes_next g h)) late ∙ ap (λ (x : End). Some (finish x)) (sym d.0)) refl d.1
+  overtakes_comes a turns.Memory late d = refused d
+  overtakes_comes a _ late d = absurd d
 
-pub comes_advances : (g : Given) (h : List Item) (answer : Turn) (before after : Progress) → Comes g h answer before after → Advances g h answer before after
+  pub came_comes : (coming : Coming) (answer : Turn) → (ahead g h).imprecise ≡ overtaken_by coming
+      → Came coming was answer now → Comes g h answer before after
+  came_comes (Overtaking a) answer fault d = overtakes_comes a answer fault d
+  came_comes _ answer fault d = did_comes answer fault d
+
+pub comes_advances : (g : Given) (h : List Item) (answer : Turn) (before after : Progress)
+    → Comes g h answer before after → Advances g h answer before after
 comes_advances g h turns.On before after d = inr d
-comes_advances g h (turns.Issued t) before after d = d
-comes_advances g h (turns.End e) before after d = d
-comes_advances g h turns.Memory before after d = d
+comes_advances g h _ before after d = d

@@ -28,8 +28,9 @@ use Rattle.i9_machine.proofs.Turned.{shows_of, level_is}
 use Rattle.i9_machine.proofs.Turning.{ended_by, moves_to}
 
 -- turns stay small
-settled_paced : (k : Contents) (until floor left : ℕ) (rs : List TimedNeed) → board.StandsFor k.at.board rs → until ≡ end_turn rs
-    → floor ≤ max k.at.floor until → IsPaced k.at.board k.turn k.at.floor left → IsPaced k.at.board (max k.turn until) floor left
+settled_paced : (k : Contents) (until floor left : ℕ) (rs : List TimedNeed) → board.StandsFor k.at.board rs
+    → until ≡ end_turn rs → floor ≤ max k.at.floor until → IsPaced k.at.board k.turn k.at.floor left
+    → IsPaced k.at.board (max k.turn until) floor left
 settled_paced k until floor left rs stands is low p =
     let ended : end_turn rs ≤ p.bound = ended_by k.at.board rs p.bound stands p.done in
     let turn_was : k.turn ≤ p.bound = p.now in
@@ -43,11 +44,12 @@ settled_paced k until floor left rs stands is low p =
     }
 
 -- a fence is set
-pub settled_fenced : (g : Given) (h : List Item) (k : Contents) (until : ℕ) → IsEndTurn k.at.board until → Stand g h None k
-    → Stand g (Fence ∷ h) None (settled_to (max k.turn until) until k)
+pub settled_fenced : (g : Given) (h : List Item) (k : Contents) (until : ℕ) → IsEndTurn k.at.board until
+    → Stand g h None k → Stand g (Fence ∷ h) None (settled_to (max k.turn until) until k)
 settled_fenced g h k until end stands =
     let is : until ≡ end_turn (turns (course g h).late) = end (turns (course g h).late) stands.lands.board in
-    let moves = subst (λ (u : ℕ). MovesTo (max k.turn u) (kernel_of k) (kernel_of (settled_to (max k.turn until) until k))) is
+    let moves = subst (λ (u : ℕ). MovesTo (max k.turn u) (kernel_of k)
+    (kernel_of (settled_to (max k.turn until) until k))) is
     (moves_to (max k.turn until) until k (omega arith)) in
     record {
       past = stands.past;
@@ -66,8 +68,8 @@ settled_fenced g h k until end stands =
     }
 
 -- none is set once an end was answered
-pub settled_ended : (g : Given) (h : List Item) (f : Finish) (k : Contents) (until : ℕ) → IsEndTurn k.at.board until → Stand g h (Some f) k
-    → Stand g h (Some f) (settled_to (max k.turn until) k.at.floor k)
+pub settled_ended : (g : Given) (h : List Item) (f : Finish) (k : Contents) (until : ℕ) → IsEndTurn k.at.board until
+    → Stand g h (Some f) k → Stand g h (Some f) (settled_to (max k.turn until) k.at.floor k)
 settled_ended g h f k until end stands =
     let xs = (course g h).late in
     let rs = turns xs in
@@ -79,8 +81,10 @@ settled_ended g h f k until end stands =
       fence = stands.lands.fence;
       last = stands.lands.last;
       begun = omega (arith, begun);
-      shows = shows_moves (boot g.image) k.turn (max k.turn until) xs (kernel_of k).cells (kernel_of j).cells k.bytes j.bytes k.queue j.queue
-          stands.lands.shows (omega arith) (issued-by k.turn xs (course_timed g h) begun) (course_orderly g h) moves.cells refl refl;
+      shows = shows_moves (boot g.image) k.turn (max k.turn until) xs (kernel_of k).cells
+          (kernel_of j).cells k.bytes j.bytes k.queue j.queue
+          stands.lands.shows (omega arith) (issued-by k.turn xs (course_timed g h) begun)
+          (course_orderly g h) moves.cells refl refl;
     } in
     record {
       past = stands.past;
@@ -90,7 +94,8 @@ settled_ended g h f k until end stands =
       lands = landing;
       shaded = stands.shaded;
       early = tt;
-      paced = settled_paced k until k.at.floor _ rs stands.lands.board (end rs stands.lands.board) (omega arith) stands.paced;
+      paced = settled_paced k until k.at.floor _ rs stands.lands.board (end rs stands.lands.board)
+          (omega arith) stands.paced;
       due = stands.due;
       length = stands.length;
       sets = stands.sets;
@@ -115,7 +120,8 @@ quiet_by g h end m stands le =
     let shows = shows_of g h end m stands in
     let done = done_by (end_turn (turns xs)) m.turn xs le (all-end (turns xs)).done in
     record {
-      planned = λ r lt. ap (λ (c : Cell). c.plan) (shows.registers r lt) ∙ plan-none m.turn r xs (writers_done r m.turn xs done);
+      planned = λ r lt. ap (λ (c : Cell). c.plan) (shows.registers r lt) ∙ plan-none m.turn r xs
+          (writers_done r m.turn xs done);
       waiting = shows.requests ∙ none-wait m.turn xs (all-requests m.turn xs done);
     }
 
@@ -124,12 +130,14 @@ module _ (g : Given) (h : List Item) (before m : Machine) (until floor : ℕ) (e
     (i : contents_of m ≡ settled_to (max before.turn until) floor (contents_of before)) where
   pub fenced : StandsFor g h None before → floor ≡ until → StandsFor g (Fence ∷ h) None m
   fenced stands is =
-      subst (Stand g (Fence ∷ h) None) (sym (i ∙ ap (λ (f : ℕ). settled_to (max before.turn until) f (contents_of before)) is))
+      subst (Stand g (Fence ∷ h) None)
+      (sym (i ∙ ap (λ (f : ℕ). settled_to (max before.turn until) f (contents_of before)) is))
       (settled_fenced g h (contents_of before) until end stands)
 
   pub over : (f : Finish) → StandsFor g h (Some f) before → floor ≡ before.floor → StandsFor g h (Some f) m
   over f stands is =
-      subst (Stand g h (Some f)) (sym (i ∙ ap (λ (f : ℕ). settled_to (max before.turn until) f (contents_of before)) is))
+      subst (Stand g h (Some f))
+      (sym (i ∙ ap (λ (f : ℕ). settled_to (max before.turn until) f (contents_of before)) is))
       (settled_ended g h f (contents_of before) until end stands)
 
   all_done : board.StandsFor before.board (turns (course g h).late) → end_turn (turns (course g h).late) ≤ m.turn

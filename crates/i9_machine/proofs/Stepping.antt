@@ -40,29 +40,24 @@ use Rattle.i9_course.specs.Course.{instruction_ahead}
 
 no_end : (k : Kind) (s : State) (e : End) → TellsRecord k s (turns.End e) → ⊥
 no_end (Instruction i) s e t = t
-no_end (Faulted inst fault) s e t = t
-no_end (Entered x) s e t = t
-no_end (Interrupted c x) s e t = t
-no_end (Reached x u) s e t = t
+no_end _ s e t = t
 
 pub no_memory : (k : Kind) (s : State) → TellsRecord k s turns.Memory → ⊥
 no_memory (Instruction i) s t = t
-no_memory (Faulted inst fault) s t = t
-no_memory (Entered x) s t = t
-no_memory (Interrupted c x) s t = t
-no_memory (Reached x u) s t = t
+no_memory _ s t = t
 
-pub did_steps : (before : Stage) (answer : Turn) (after : Stage) (s : State) (k : Kind) → TellsRecord k s answer → Did before answer after → Steps before answer after
+pub did_steps : (before : Stage) (answer : Turn) (after : Stage) (s : State) (k : Kind) → TellsRecord k s answer
+    → Did before answer after → Steps before answer after
 did_steps before turns.On after s k t d = d
 did_steps before (turns.Issued i) after s k t d = d
 did_steps before (turns.End e) after s k t d = absurd (no_end k s e t)
 did_steps before turns.Memory after s k t d = absurd (no_memory k s t)
 
-pub fewer_by : (answer : Turn) (s : State) (k : Kind) (before now : ℕ) → TellsRecord k s answer → now < before → LeavesFewer answer before now
+pub fewer_by : (answer : Turn) (s : State) (k : Kind) (before now : ℕ) → TellsRecord k s answer → now < before
+    → LeavesFewer answer before now
 fewer_by turns.On s k before now t h = h
 fewer_by (turns.Issued i) s k before now t h = h
-fewer_by (turns.End e) s k before now t h = tt
-fewer_by turns.Memory s k before now t h = tt
+fewer_by _ s k before now t h = tt
 
 -- ---- what is left
 
@@ -72,31 +67,39 @@ unfolding left_in
 left_alike l ts d s t alike = ap (left_in l ts d) alike.rest
 
 -- a step leaves less
-pub did_fewer : (before after : Stage) (r : Record) → before.contents.at.state.count ≤ before.contents.at.length → next_of before ≡ Does r
-    → AreAlike r.after after.contents.at.state → after.contents.at.due ≡ due_by r.kind r.before → after.contents.at.length ≡ before.contents.at.length
-    → after.plan ≡ plan_behind before.plan r → after.contents.turn ≡ before.contents.turn → left_of after < left_of before
+pub did_fewer : (before after : Stage) (r : Record) → before.contents.at.state.count ≤ before.contents.at.length
+    → next_of before ≡ Does r → AreAlike r.after after.contents.at.state
+    → after.contents.at.due ≡ due_by r.kind r.before → after.contents.at.length ≡ before.contents.at.length
+    → after.plan ≡ plan_behind before.plan r → after.contents.turn ≡ before.contents.turn
+    → left_of after < left_of before
 unfolding left_from
 did_fewer before after r within is alike due bound behind turn =
     let at = before.contents.at in
     let was = before.plan in
-    let leaves = next_leaves at.length was.events was.place at.due (event_for at was) at.state r (standing_by_place was.events was.place at.state.count (turn_at at)) is in
-    let same : records_left after.contents.at after.plan ≡ left_in at.length (plan_after was.events was.place r) (due_by r.kind r.before) r.after =
+    let leaves = next_leaves at.length was.events was.place at.due (event_for at was) at.state r
+    (standing_by_place was.events was.place at.state.count (turn_at at)) is in
+    let same : records_left after.contents.at after.plan ≡ left_in at.length (plan_after was.events was.place r)
+    (due_by r.kind r.before) r.after =
     (λ i. left_in (bound i) (drop (behind i).place (behind i).events) (due i) after.contents.at.state)
-    ∙ left_alike at.length (plan_after was.events was.place r) (due_by r.kind r.before) r.after after.contents.at.state alike in
-    let less : records_left after.contents.at after.plan < records_left at was = subst (λ (n : ℕ). n < records_left at was) (sym same) (leaves.less within) in
+    ∙ left_alike at.length (plan_after was.events was.place r)
+    (due_by r.kind r.before) r.after after.contents.at.state alike in
+    let less : records_left after.contents.at after.plan < records_left at was = subst (λ (n : ℕ). n < records_left at
+    was) (sym same) (leaves.less within) in
     omega (arith, less, turn)
 
 -- a move of the turn leaves less
-pub move_fewer : (k : Contents) (plan : Plan) → k.turn < 2 ^ 62 → left_from (moved_to (k.turn + 1) k) plan < left_from k plan
+pub move_fewer : (k : Contents) (plan : Plan) → k.turn < 2 ^ 62
+    → left_from (moved_to (k.turn + 1) k) plan < left_from k plan
 unfolding left_from
 move_fewer k plan early = omega (arith, early)
 
 -- a step stays within the length
-pub did_within : (at : Situation) (was : Plan) (k : Kind) → at.state.count ≤ at.length → next_for at was ≡ Does (record_of k at.state)
-    → at.state.count + counts_of k ≤ at.length
+pub did_within : (at : Situation) (was : Plan) (k : Kind) → at.state.count ≤ at.length
+    → next_for at was ≡ Does (record_of k at.state) → at.state.count + counts_of k ≤ at.length
 did_within at was k within is =
     let s = at.state in
-    let leaves = next_leaves at.length was.events was.place at.due (event_for at was) s (record_of k s) (standing_by_place was.events was.place s.count (turn_at at)) is in
+    let leaves = next_leaves at.length was.events was.place at.due (event_for at was) s (record_of k s)
+    (standing_by_place was.events was.place s.count (turn_at at)) is in
     let fits = leaves.within within in
     let count = counts_after k s in
     omega (arith, fits, count)
@@ -117,7 +120,8 @@ goes_on at stands none below =
     ∙ before_length (eqb s.count at.length) (Ends (finish Limit)) (next_by_choice stands s (choice_in s)) other
 
 -- where none is chosen it goes by the event that stands there
-pub goes_by_event : (at : Situation) (stands : Option Event) → IsFreeToIssue at → next_where at stands ≡ next_by_event stands at.state
+pub goes_by_event : (at : Situation) (stands : Option Event) → IsFreeToIssue at
+    → next_where at stands ≡ next_by_event stands at.state
 goes_by_event at stands free = goes_on at stands free.due free.below ∙ ap (next_by_choice stands at.state) free.chosen
 
 -- and where none stands there it is the instruction's turn
@@ -125,7 +129,8 @@ pub goes_by_itself : (at : Situation) → IsFreeToIssue at → next_where at Non
 goes_by_itself at free = goes_by_event at None free
 
 -- so a step that comes where no event stands comes
-pub step_where : (at : Situation) (plan : Plan) (step : Step) (need : Need) (e : Effect) → event_for at plan ≡ None → IsStepIn at None plan step need e → IsStep at plan step need e
+pub step_where : (at : Situation) (plan : Plan) (step : Step) (need : Need) (e : Effect) → event_for at plan ≡ None
+    → IsStepIn at None plan step need e → IsStep at plan step need e
 step_where at plan step need e none is = subst (λ (o : Option Event). IsStepIn at o plan step need e) (sym none) is
 
 -- what is borrowed, or nothing
@@ -146,19 +151,11 @@ points_long (Some kind) s = refl
 -- the lines of the event that a record reached
 event_lines_of : (k : Kind) (s : State) → event_lines k s ≡ reached_lines (event_of k) s
 event_lines_of (Instruction i) s = refl
-event_lines_of (Faulted inst fault) s = refl
-event_lines_of (Entered e) s = refl
-event_lines_of (Interrupted c e) s = refl
-event_lines_of (Reached e u) s = refl
+event_lines_of _ s = refl
 
 bytes_long : (e : Event) (s : State) → length (bytes_lines e s) ≡ bytes_count e
-bytes_long (events.Pin x) s = refl
-bytes_long (events.Low x) s = refl
-bytes_long (events.High x) s = refl
 bytes_long events.Nmi s = refl
-bytes_long (events.Dma c) s = refl
-bytes_long (events.Feed c bytes) s = refl
-bytes_long (events.Show a n) s = refl
+bytes_long _ s = refl
 
 reached_long : (o : Option Event) (s : State) → length (reached_lines o s) ≡ reached_count o
 reached_long None s = refl
@@ -168,44 +165,45 @@ reached_long (Some e) s = let long = bytes_long e s in omega (arith, long)
 
 -- a step that reaches no event
 pub no_event : (plan : Plan) (step : Step) → step.reaches ≡ false → event_in plan step ≡ None
-no_event plan step none = ap (λ (b : Bool). cond b (option_map (λ (t : Timed). t.event) (slice_get plan.events plan.place)) None) none
+no_event plan step none =
+    ap (λ (b : Bool). cond b (option_map (λ (t : Timed). t.event) (slice_get plan.events plan.place)) None) none
 
 -- a step that reaches the event that stands there
-pub next_stands : (at : Situation) (plan : Plan) (e : Event) → event_for at plan ≡ Some e → next_event plan true ≡ Some e
+pub next_stands : (at : Situation) (plan : Plan) (e : Event) → event_for at plan ≡ Some e
+    → next_event plan true ≡ Some e
 next_stands at plan e stands =
     let found = standing_by_place plan.events plan.place at.state.count (turn_at at) e stands in
     ap (option_map (λ (t : Timed). t.event)) found.1
     ∙ ap (λ (x : Event). Some x) found.2
 
-pub one_event : (at : Situation) (plan : Plan) (step : Step) (e : Event) → step.reaches ≡ true → event_for at plan ≡ Some e → event_in plan step ≡ Some e
+pub one_event : (at : Situation) (plan : Plan) (step : Step) (e : Event) → step.reaches ≡ true
+    → event_for at plan ≡ Some e → event_in plan step ≡ Some e
 one_event at plan step e reaches stands = ap (next_event plan) reaches ∙ next_stands at plan e stands
 
 -- what is answered as no instruction
-pub tells_on : (k : Kind) (s : State) (answer : Turn) → answer ≡ turns.On → TellsRecord k s turns.On → TellsRecord k s answer
+pub tells_on : (k : Kind) (s : State) (answer : Turn) → answer ≡ turns.On → TellsRecord k s turns.On
+    → TellsRecord k s answer
 tells_on k s answer is tells = subst (TellsRecord k s) (sym is) tells
 
 -- a record reaches the event that it names, and no other
 pub reached_one : (k : Kind) (s : State) → length (reached_by k s) ≡ cond (is_some (event_of k)) 1 0
 reached_one (Instruction i) s = refl
-reached_one (Faulted inst fault) s = refl
-reached_one (Entered e) s = refl
-reached_one (Interrupted c e) s = refl
-reached_one (Reached e u) s = refl
+reached_one _ s = refl
 
-stands_within : (at : Situation) (plan : Plan) (e : Event) → event_for at plan ≡ Some e → plan.place < length plan.events
+stands_within : (at : Situation) (plan : Plan) (e : Event) → event_for at plan ≡ Some e
+    → plan.place < length plan.events
 stands_within at plan e is =
     let found = standing_by_place plan.events plan.place at.state.count (turn_at at) e is in
     slice_get_within plan.events plan.place found.0 found.1
 
-reaches_within : (at : Situation) (plan : Plan) (k : Kind) → MayCome at.length at.due (event_for at plan) at.state k → is_some (event_of k) ≡ true → plan.place < length plan.events
-reaches_within at plan (Instruction i) may some = absurd cc
-reaches_within at plan (Faulted inst fault) may some = absurd cc
-reaches_within at plan (Entered e) may some = absurd cc
-reaches_within at plan (Interrupted c e) may some = absurd cc
+reaches_within : (at : Situation) (plan : Plan) (k : Kind) → MayCome at.length at.due (event_for at plan) at.state k
+    → is_some (event_of k) ≡ true → plan.place < length plan.events
 reaches_within at plan (Reached e u) may some = stands_within at plan e may.2
+reaches_within at plan _ may some = absurd cc
 
 -- a schedule has the event that a step reaches
-pub step_within : (at : Situation) (plan : Plan) (k : Kind) → next_for at plan ≡ Does (record_of k at.state) → is_some (event_of k) ≡ true → plan.place < length plan.events
+pub step_within : (at : Situation) (plan : Plan) (k : Kind) → next_for at plan ≡ Does (record_of k at.state)
+    → is_some (event_of k) ≡ true → plan.place < length plan.events
 step_within at plan k is some =
     reaches_within at plan k (next_comes at.length at.due (event_for at plan) at.state (record_of k at.state) is).1 some
 
@@ -218,7 +216,8 @@ module _ (at : Situation) (plan : Plan) (step : Step) (need : Need) (e : Effect)
   -- a schedule behind it is behind its record
   pub plan_is_behind : plan_behind_event plan step.reaches ≡ plan_behind plan r
   plan_is_behind =
-      ap (plan_behind_event plan) is.reaches ∙ ap (λ (n : ℕ). record plan { place = plan.place + n }) (sym (reached_one is.kind at.state))
+      ap (plan_behind_event plan) is.reaches ∙ ap (λ (n : ℕ). record plan { place = plan.place + n })
+      (sym (reached_one is.kind at.state))
 
   -- so is the state
   pub step_after : state_behind_of at.state e step ≡ r.after
@@ -227,7 +226,8 @@ module _ (at : Situation) (plan : Plan) (step : Step) (need : Need) (e : Effect)
   -- its lines are those of its record
   pub step_lines : lines_of e step (event_in plan step) at.state (state_behind_of at.state e step) ≡ record_lines r
   step_lines =
-      let event = ap (λ (o : Option Event). reached_lines o at.state) is.event ∙ sym (event_lines_of is.kind at.state) in
+      let event = ap (λ (o : Option Event). reached_lines o at.state) is.event ∙ sym
+      (event_lines_of is.kind at.state) in
       λ i. event i ++ (out_lines (console_byte (is.effect.same i).writes) ++ point_lines (is.point i) (step_after i))
 
   -- how many lines a record has
@@ -239,7 +239,8 @@ module _ (at : Situation) (plan : Plan) (step : Step) (need : Need) (e : Effect)
       ap length (sym step_lines)
       ∙ length-append event (out ++ points)
       ∙ (λ i. reached_long (event_in plan step) at.state i + length-append out points i)
-      ∙ ap (λ (n : ℕ). reached_count (event_in plan step) + (length out + n)) (points_long step.point (state_behind_of at.state e step))
+      ∙ ap (λ (n : ℕ). reached_count (event_in plan step) + (length out + n))
+      (points_long step.point (state_behind_of at.state e step))
 
   -- what it asks room for is what its record needs it for
   pub step_needs : asks_room at.state e step (event_in plan step) ≡ true → NeedsRoom (next_for at plan)
@@ -249,7 +250,8 @@ module _ (at : Situation) (plan : Plan) (step : Step) (need : Need) (e : Effect)
       ((λ i. nat_lt 0 (record_long i) || (has_writes (action i) || is_restart (action i).control)) ∙ asks)
 
   -- a processor that has room for what comes next has room for it
-  pub step_room : (p : Processor) (spare : ℕ) → HasRoom p spare (next_for at plan) → HasRoomForStep p spare e step (event_in plan step)
+  pub step_room : (p : Processor) (spare : ℕ) → HasRoom p spare (next_for at plan)
+      → HasRoomForStep p spare e step (event_in plan step)
   step_room p spare room =
       let here : HasRoomToDo p spare r = subst (HasRoom p spare) is.is_next room in
       record {

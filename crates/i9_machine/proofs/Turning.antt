@@ -1,7 +1,7 @@
--- The turn moves: what is planned stays, and what comes next comes no earlier.
-use Rattle.std.proofs.Common.{◌≡◌, ℕ, ◌+◌, ◌*◌, ◌^◌, ◌<◌, ◌≤◌, max, true, List, [], ◌∷◌, Some, None, refl, sym, ap, ◌∙◌, subst, inl, inr, arith}
-use Rattle.std.specs.List.{AllByRecursion}
-use Rattle.std.specs.Prelude.{IsTrue}
+-- The turn moves: what is planned stays, and what comes next comes at its turn.
+use Rattle.std.proofs.Common.{◌≡◌, ℕ, ◌+◌, ◌*◌, ◌^◌, ◌<◌, ◌≤◌, max, true, List, [], ◌∷◌, Some, None, refl, sym, ap, ◌∙◌, subst, inl, inr, arith, Bool, false, cond, Option}
+use Rattle.std.specs.List.{AllByRecursion, slice_get}
+use Rattle.std.specs.Prelude.{IsTrue, nat_le}
 use Rattle.i9_model.specs.declared.need.Need.{Need}
 use Rattle.i9_model.specs.declared.need.TimedNeed.{TimedNeed}
 use Rattle.i9_model.specs.Run.{Given, Kind, Record, Does, record_of, due_after, state_after}
@@ -16,10 +16,10 @@ use Rattle.i9_regs.proofs.Shown.{landed_later}
 use Rattle.i9_issue.specs.Room.{IsEarly}
 use Rattle.i9_schedule.specs.Plan.{Plan}
 use Rattle.i9_course.specs.NeedOf.{need_of, need_ahead}
-use Rattle.i9_course.specs.Course.{Item, records_of, course, need_after, issue_of_next, event_ahead, comes_next, ahead}
+use Rattle.i9_course.specs.Course.{Item, records_of, course, need_after, issue_of_next, event_ahead, comes_next, ahead, issue_after, instruction_ahead, instruction_turn}
 use Rattle.i9_course.specs.Kernel.{MovesTo}
 use Rattle.i9_course.proofs.Ahead.{ahead_by_end, ahead_precise}
-use Rattle.i9_course.proofs.Barriers.{next_barrier}
+use Rattle.i9_course.proofs.Barriers.{next_barrier, next_by_end}
 use Rattle.i9_course.proofs.Checks.{checked_waits}
 use Rattle.i9_course.proofs.Landed.{done_landed}
 use Rattle.i9_course.proofs.NeedAlike.{next_need_alike}
@@ -31,21 +31,27 @@ use Rattle.i9_machine.specs.declared.line.Line.{Line}
 use Rattle.i9_machine.specs.declared.machine.Machine.{Machine}
 use Rattle.i9_machine.specs.Contents.{Situation, Contents, contents_of, kernel_of, moved_to, settled_to, IsMovedTo}
 use Rattle.i9_machine.specs.Issuing.{most_turns, IsPaced, IsEndTurn}
-use Rattle.i9_machine.specs.Step.{need_at, turn_at, next_where, next_for}
+use Rattle.i9_machine.specs.Step.{need_at, turn_at, next_where, next_for, event_for}
 use Rattle.i9_machine.specs.StandsFor.{Stand, StandsFor, Follows, IsUnderWay, MovesOn, left_after}
-use Rattle.i9_machine.specs.Opening.{IsFreeToIssue, NextWaits}
+use Rattle.i9_machine.specs.Opening.{IsFreeToIssue, NextWaits, IsTimely}
 use Rattle.i9_machine.specs.Overtaking.{HasPace}
 use Rattle.i9_machine.specs.Progress.{progress}
-use Rattle.i9_machine.proofs.Beside.{beside}
+use Rattle.i9_machine.proofs.Overtaking.{beside, same_turn_at, drained_precise, ahead_need, course_blind}
 use Rattle.i9_machine.proofs.Issuing.{same_need}
-use Rattle.i9_machine.proofs.Overtaking.{drained_precise}
 use Rattle.i9_machine.proofs.Stepping.{goes_by_itself}
+use Rattle.std.proofs.lemmas.Bool.{cases_lt, le-leb, lt-leb}
+use Rattle.i9_model.specs.declared.event.Event.{Event}
+use Rattle.i9_model.specs.declared.event.Timed.{Timed}
+use Rattle.i9_model.specs.declared.event.When.{When}
+use Rattle.i9_model.specs.declared.event.When.TheVariants.{At, Turn}
+use Rattle.i9_model.specs.ScheduleText.{event_where, has_come_by, standing_by}
 
 -- ---- the turn moves
 
 done_least : (t : ℕ) (rs : List TimedNeed) (b : ℕ) → t ≤ b → AllByRecursion (λ r. r.done ≤ b) rs → done_from t rs ≤ b
 done_least t [] b le done = le
-done_least t (r ∷ rs) b le done = let one : r.done ≤ b = done.0 in done_least (max t r.done) rs b (omega (arith, le, one)) done.1
+done_least t (r ∷ rs) b le done =
+    let one : r.done ≤ b = done.0 in done_least (max t r.done) rs b (omega (arith, le, one)) done.1
 
 -- all records are done by the bound
 pub ended_by : (p : Pending) (rs : List TimedNeed) (b : ℕ) → board.StandsFor p rs → IsAllDone p b → end_turn rs ≤ b
@@ -70,16 +76,19 @@ pub moved_stands : (g : Given) (h : List Item) (t : ℕ) (k : Contents) (wait : 
 moved_stands g h t k wait stands later within bound =
     let p = stands.paced in
     let by_end : (ahead g h).turn ≤ end_turn (turns (course g h).late) = ahead_by_end g h in
-    let ended : end_turn (turns (course g h).late) ≤ p.bound = ended_by k.at.board (turns (course g h).late) p.bound stands.lands.board p.done in
+    let ended : end_turn (turns (course g h).late) ≤ p.bound = ended_by k.at.board
+    (turns (course g h).late) p.bound stands.lands.board p.done in
     record {
       past = stands.past;
       state = stands.state;
       size = stands.size;
       cache = stands.cache;
-      lands = moves_lands g h t (kernel_of k) (kernel_of (moved_to t k)) stands.lands later within (moves_to t k.at.floor k later) refl;
+      lands = moves_lands g h t (kernel_of k) (kernel_of (moved_to t k)) stands.lands later within
+          (moves_to t k.at.floor k later) refl;
       shaded = stands.shaded;
       early = bound;
-      paced = record { bound = p.bound; far = p.far; done = p.done; now = omega (arith, within, by_end, ended); fence = p.fence };
+      paced = record { bound = p.bound; far = p.far; done = p.done; now = omega
+          (arith, within, by_end, ended); fence = p.fence };
       due = stands.due;
       length = stands.length;
       sets = stands.sets;
@@ -90,11 +99,14 @@ moved_stands g h t k wait stands later within bound =
 -- by one
 pub moved : (g : Given) (h : List Item) (before m : Machine) (plan : Plan) (lines : List Line) (wait : ℕ)
     → StandsFor g h None before → Follows g h plan → before.turn < wait → wait ≤ (ahead g h).turn
-    → IsMovedTo (before.turn + 1) (record before { wait = wait }) m → MovesOn g h (progress before plan lines) (progress m plan lines)
+    → IsMovedTo (before.turn + 1) (record before { wait = wait }) m
+    → MovesOn g h (progress before plan lines) (progress m plan lines)
 moved g h before m plan lines wait stands follows later bound i = record {
   early = omega (arith, later, bound);
   turn = λ j. (i j).turn;
-  stands = subst (Stand g h None) (sym i) (moved_stands g h (before.turn + 1) (contents_of before) wait stands (omega arith) (omega (arith, later, bound)) bound);
+  stands = subst (Stand g h None) (sym i)
+      (moved_stands g h (before.turn + 1) (contents_of before) wait stands (omega arith)
+      (omega (arith, later, bound)) bound);
   follows = follows;
   lines = refl;
 }
@@ -113,8 +125,8 @@ paced_turn k pace =
 -- ---- turns stay small
 
 -- a need behind the last fence is early enough for the scoreboard
-pub paced_early : (k : Contents) (left : ℕ) (need : Need) → IsPaced k.at.board k.turn k.at.floor left → need.not_before ≡ 0 → need.cost ≤ most_turns
-    → IsEarly k.at.board (waiting_until k.at.floor need)
+pub paced_early : (k : Contents) (left : ℕ) (need : Need) → IsPaced k.at.board k.turn k.at.floor left
+    → need.not_before ≡ 0 → need.cost ≤ most_turns → IsEarly k.at.board (waiting_until k.at.floor need)
 paced_early k left need p none cost =
     let far : p.bound + 2 ^ 8 * left < 2 ^ 62 = p.far in
     let in_order : k.at.board.last ≤ p.bound = p.done.in_order in
@@ -141,57 +153,128 @@ waiting_cost t need h = record { some = h.some; plain = h.plain }
 
 -- what waits for all comes when all is done
 pub waits_until : (k : Contents) (plan : Plan) (until : ℕ) → IsEndTurn k.at.board until → NextWaits k.at plan
-    → (g : Given) (h : List Item) → Stand g h None k → Follows g h plan → (ahead g h).imprecise ≡ None → until ≤ (ahead g h).turn
+    → (g : Given) (h : List Item) → Stand g h None k → Follows g h plan → (ahead g h).imprecise ≡ None
+    → until ≤ (ahead g h).turn
 waits_until k plan until end (inl check) g h stands follows precise =
     let rs = turns (course g h).late in
     let is : until ≡ end_turn rs = end rs stands.lands.board in
-    let set : (state_after g (records_of h)).check ≡ true = sym (ap (λ (s : State). s.check) stands.state.rest) ∙ check in
+    let set : (state_after g (records_of h)).check ≡ true = sym (ap (λ (s : State). s.check) stands.state.rest)
+    ∙ check in
     let turn : (ahead g h).turn ≡ end_turn rs = checked_waits g h stands.past precise set in
     omega (arith, is, turn)
 waits_until k plan until end (inr held) g h stands follows precise =
     let rs = turns (course g h).late in
     let is : until ≡ end_turn rs = end rs stands.lands.board in
     let o = comes_next g h in
-    let need = next_need_alike g.sets (cache_after g (records_of h)) o (next_for k.at plan) (beside g h k plan stands follows) in
-    let barrier : IsTrue (need_after g h o).barrier = sym (ap (λ (n : Need). n.barrier) need) ∙ held g.sets (cache_after g (records_of h)) in
+    let need = next_need_alike g.sets (cache_after g (records_of h)) o (next_for k.at plan)
+    (beside g h k plan stands follows) in
+    let barrier : IsTrue (need_after g h o).barrier = sym (ap (λ (n : Need). n.barrier) need) ∙ held g.sets
+    (cache_after g (records_of h)) in
     let turn : issue_of_next g h o ≡ end_turn rs = next_barrier g h o barrier in
     let ahead_turn : (ahead g h).turn ≡ issue_of_next g h o = ahead_precise g h precise in
     omega (arith, is, turn, ahead_turn)
 
 -- an instruction comes at the turn that the scoreboard gives its need
-pub comes_at : (j : Contents) (plan : Plan) (k : Kind) (need : Need) (t : ℕ) → next_for j.at plan ≡ Does (record_of k j.at.state)
+pub comes_at : (j : Contents) (plan : Plan) (k : Kind) (need : Need) (t : ℕ)
+    → next_for j.at plan ≡ Does (record_of k j.at.state)
     → need ≡ need_of j.at.size j.at.cache j.at.state k
-    → ((rs : List TimedNeed) → board.StandsFor j.at.board rs → t ≡ issue_turn (last_issue rs) rs (waiting_until j.at.floor need))
+    → ((rs : List TimedNeed) → board.StandsFor j.at.board rs
+    → t ≡ issue_turn (last_issue rs) rs (waiting_until j.at.floor need))
     → (g : Given) (h : List Item) → Stand g h None j → Follows g h plan → (ahead g h).imprecise ≡ None
     → t ≡ (ahead g h).turn
 comes_at j plan k need t is_next is_need turn g h stands follows precise =
     let rs = turns (course g h).late in
-    let found = does_alike (comes_next g h) (next_for j.at plan) (record_of k j.at.state) (beside g h j plan stands follows) is_next in
-    let run = next_free g.length (due_after (records_of h)) (event_ahead g h) (state_after g (records_of h)) found.0 found.1 in
-    let same = same_need g h j found.0 (record_of k j.at.state) need stands found.2 (ap (λ (x : Record). x.before) run.0) refl is_need in
+    let found = does_alike (comes_next g h) (next_for j.at plan) (record_of k j.at.state)
+    (beside g h j plan stands follows) is_next in
+    let run = next_free g.length (due_after (records_of h)) (event_ahead g h)
+    (state_after g (records_of h)) found.0 found.1 in
+    let same = same_need g h j found.0 (record_of k j.at.state) need stands found.2
+    (ap (λ (x : Record). x.before) run.0) refl is_need in
     turn rs stands.lands.board
     ∙ ap (λ (f : ℕ). issue_turn (last_issue rs) rs (waiting_until f need)) stands.lands.fence
     ∙ sym (next_turn g h need precise (ap (need_ahead g.sets (cache_after g (records_of h))) found.1 ∙ same))
 
 -- an instruction that comes where no event stands would issue at the turn of the instruction ahead
-pub open_turn : (at : Situation) (k : Kind) (need : Need) (t : ℕ) (rs : List TimedNeed) → board.StandsFor at.board rs → IsFreeToIssue at
-    → next_where at None ≡ Does (record_of k at.state) → need ≡ need_of at.size at.cache at.state k
+pub open_turn : (at : Situation) (k : Kind) (need : Need) (t : ℕ) (rs : List TimedNeed) → board.StandsFor at.board rs
+    → IsFreeToIssue at → next_where at None ≡ Does (record_of k at.state) → need ≡ need_of at.size at.cache at.state k
     → t ≡ issue_turn (last_issue rs) rs (waiting_until at.floor need) → t ≡ turn_at at
 open_turn at k need t rs stands free is_next is_need turn =
-    let same : need ≡ need_at at = is_need ∙ sym (ap (need_ahead (Some at.size) at.cache) (sym (goes_by_itself at free) ∙ is_next)) in
+    let same : need ≡ need_at at = is_need ∙ sym
+    (ap (need_ahead (Some at.size) at.cache) (sym (goes_by_itself at free) ∙ is_next)) in
     turn
     ∙ sym (stands-pending_turn at.board rs (waiting_until at.floor need) stands)
     ∙ ap (λ (n : Need). issue_turn at.board.last at.board.records (waiting_until at.floor n)) same
 
 -- where nothing is open, what comes next may issue, and nothing waits
-pub all_now : (g : Given) (h : List Item) (k : Contents) (until : ℕ) → IsEndTurn k.at.board until → until ≤ k.turn → Stand g h None k
-    → ((ahead g h).imprecise ≡ None) × ((ahead g h).turn ≤ k.turn)
+pub all_now : (g : Given) (h : List Item) (k : Contents) (until : ℕ) → IsEndTurn k.at.board until → until ≤ k.turn
+    → Stand g h None k → ((ahead g h).imprecise ≡ None) × ((ahead g h).turn ≤ k.turn)
 all_now g h k until end le stands =
     let is : until ≡ end_turn (turns (course g h).late) = end (turns (course g h).late) stands.lands.board in
     let by_end : (ahead g h).turn ≤ end_turn (turns (course g h).late) = ahead_by_end g h in
     (drained_precise g h k stands (omega (arith, is, le)), omega (arith, is, le, by_end))
 
-pub all_landed : (g : Given) (h : List Item) (k : Contents) (until : ℕ) → Stand g h None k → IsEndTurn k.at.board until → until ≤ k.turn → k.queue ≡ []
+pub all_landed : (g : Given) (h : List Item) (k : Contents) (until : ℕ) → Stand g h None k → IsEndTurn k.at.board until
+    → until ≤ k.turn → k.queue ≡ []
 all_landed g h k until stands end le =
     let is : until ≡ end_turn (turns (course g h).late) = end (turns (course g h).late) stands.lands.board in
     done_landed g h (kernel_of k) stands.lands (omega (arith, is, le))
+
+-- where the instruction comes next, it issues at its turn
+itself_issues : (g : Given) (h : List Item) (k : Contents) (plan : Plan) → Stand g h None k → Follows g h plan
+    → IsFreeToIssue k.at → event_for k.at plan ≡ None → issue_of_next g h (comes_next g h) ≡ instruction_turn g h
+itself_issues g h k plan stands follows free none =
+    let c = cache_after g (records_of h) in
+    let same = next_need_alike g.sets c (comes_next g h) (next_for k.at plan) (beside g h k plan stands follows) in
+    ap (issue_after (course g h))
+    (sym same
+    ∙ ap (need_ahead g.sets c) (ap (next_where k.at) none ∙ goes_by_itself k.at free)
+    ∙ ahead_need g.sets c (state_after g (records_of h)) k.at.state (course_blind g h stands.past) stands.state)
+
+pub is_timely : (g : Given) (h : List Item) (k : Contents) (plan : Plan) → Stand g h None k → Follows g h plan
+    → end_turn (turns (course g h).late) ≤ k.turn → IsTimely k.at k.turn plan
+is_timely g h k plan stands follows ended =
+    let same : turn_at k.at ≡ instruction_turn g h = same_turn_at g h k stands in
+    let by_end : instruction_turn g h ≤ end_turn (turns (course g h).late) = next_by_end g h
+    (instruction_ahead (state_after g (records_of h))) in
+    record {
+      come = omega (arith, same, by_end, ended);
+      early = λ free none.
+          let in_time : k.turn ≤ (ahead g h).turn = stands.lands.in_time in
+          let turn : (ahead g h).turn ≡ issue_of_next g h (comes_next g h) = ahead_precise g h
+          (drained_precise g h k stands ended) in
+          let itself : issue_of_next g h (comes_next g h) ≡ instruction_turn g h = itself_issues g h k plan stands
+          follows free none in
+          omega (arith, in_time, turn, itself, same);
+    }
+
+-- the event that stands there by the machine's turn
+pub timely_event : (at : Situation) (now : ℕ) (plan : Plan) → IsTimely at now plan → IsFreeToIssue at
+    → standing_by plan.events plan.place at.state.count now ≡ event_for at plan
+timely_event at now plan timely free = by_next (slice_get plan.events plan.place) refl
+  where
+    by_form : (w : When) (e : Event)
+        → (cond (has_come_by at.state.count (turn_at at) w) (Some e) None ≡ None → now ≤ turn_at at)
+        → cond (has_come_by at.state.count now w) (Some e) None ≡ cond (has_come_by at.state.count (turn_at at) w)
+        (Some e) None
+    by_form (At n) e early = refl
+    by_form (Turn n) e early = elim (cases_lt (turn_at at) n) [
+      | inl later ↦
+          let not_yet : nat_le n (turn_at at) ≡ false = lt-leb n (turn_at at) later in
+          let none : cond (nat_le n (turn_at at)) (Some e) None ≡ None = ap (λ (b : Bool). cond b (Some e) None)
+          not_yet in
+          let turn : now ≤ turn_at at = early none in
+          let also : nat_le n now ≡ false = lt-leb n now (omega (arith, later, turn)) in
+          ap (λ (b : Bool). cond b (Some e) None) also ∙ sym none
+      | inr come ↦
+          let here : nat_le n (turn_at at) ≡ true = le-leb n (turn_at at) come in
+          let before : turn_at at ≤ now = timely.come in
+          let there : nat_le n now ≡ true = le-leb n now (omega (arith, come, before)) in
+          ap (λ (b : Bool). cond b (Some e) None) (there ∙ sym here)
+    ]
+
+    by_next : (o : Option Timed) → slice_get plan.events plan.place ≡ o
+        → event_where (has_come_by at.state.count now) o ≡ event_where (has_come_by at.state.count (turn_at at)) o
+    by_next None is = refl
+    by_next (Some t) is =
+        by_form t.when t.event
+        (λ none. timely.early free (ap (event_where (has_come_by at.state.count (turn_at at))) is ∙ none))

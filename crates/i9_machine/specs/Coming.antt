@@ -53,8 +53,8 @@ pub record HasArrived (k : Contents) (plan : Plan) (coming : Coming) : Type 0 wh
 
 -- ---- what a machine has of it
 
--- An instruction is what comes next, as a record of this kind, and no event stands before it. Its need is kept, by which
--- it issues at this turn.
+-- An instruction is what comes next, as a record of this kind, and no event stands before it. Its need is kept, by
+-- which it issues at this turn.
 pub record IsAhead (o : Outlook) (plan : Plan) (t : ℕ) (kind : Kind) : Type 0 where
   pub free : IsFreeToIssue o.at
   pub none : event_for o.at plan ≡ None

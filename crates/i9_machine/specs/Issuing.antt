@@ -43,7 +43,8 @@ pub record Acts (before : Contents) (l : Landing) (a : Action) (after : Contents
   pub acts : l.request ≡ false → after.queue ≡ before.queue
   pub still : l.request ≡ false → IsStill a → after.bytes ≡ before.bytes
 
--- what is kept of bytes under these writes, done by a turn: those under a barrier that is no request, and else as before
+-- what is kept of bytes under these writes, done by a turn: those under a barrier that is no request, and else as
+-- before
 pub record Hidden (memory : ℕ → ℕ) (puts : List (ℕ × ℕ)) (was : Kept) (need : Need) (done : ℕ) (k : Kept) : Type 0 where
   pub bytes : shades_need need ≡ true → Hides memory puts k.pieces
   pub due : shades_need need ≡ true → k.due ≡ done

@@ -1,6 +1,6 @@
 //! The machine, one step at a time.
-ghost use Rattle.std.specs.Prelude.{◌≡◌, ◌+◌, ◌-◌, ◌^◌, ◌<◌, ◌≤◌, [], ◌∷◌, length, max, ℕ, List, Option, None, Some, IfOk};
-ghost use Rattle.std.specs.Prelude.{IfSome, IsSome, vec_len, vec_capacity, true, false};
+ghost use Rattle.std.specs.Prelude.{◌≡◌, ◌+◌, ◌-◌, ◌^◌, ◌<◌, ◌≤◌, [], ◌∷◌, length, max, ℕ, List, Option, None, Some};
+ghost use Rattle.std.specs.Prelude.{IfOk, IfSome, IsSome, vec_len, vec_capacity, true, false};
 ghost use Rattle.std.proofs.Props.{props};
 ghost use Rattle.i9_model.specs.declared.layout.TheConstants.{MAX_LENGTH};
 ghost use Rattle.i9_model.specs.declared.event.Timed.{Timed};

@@ -219,8 +219,8 @@ fn reached_count(event: Option<&Event>) -> usize
 fn hide_under(p: &Processor, e: &Effect, need: &Need, light: bool, done: u64, shade: &mut Shade)
     requires light { light ≡ true → need.now.barrier ≡ false }
     requires whole { AreWhole (cache_of p.now).held }
-    ensures { Hidden (bytes_of p.now) (puts_of (size_of p.now) (cache_of p.now) (action_in (state_of p.now) e.now)) shade.old
-        need.now done shade.new }
+    ensures { Hidden (bytes_of p.now) (puts_of (size_of p.now) (cache_of p.now) (action_in (state_of p.now) e.now))
+        shade.old need.now done shade.new }
 {
     if light {
         return;
@@ -259,7 +259,7 @@ impl Machine {
     ghost use Rattle.i9_machine.specs.Step.{IsPlanned, Steps, Costs, Finishes, finish_in, stage};
     ghost use Rattle.i9_machine.specs.Doing.{lines_of, line_count, asks_room, HasRoomForStep, IsReady, action_for};
     ghost use Rattle.i9_machine.specs.Doing.{PlansLight, state_behind};
-    ghost use Rattle.i9_machine.specs.Issuing.{most_turns, IsIssued, CanActPlaced};
+    ghost use Rattle.i9_machine.specs.Issuing.{most_turns, keeping, IsIssued, CanActPlaced};
     ghost use Rattle.i9_machine.specs.StandsFor.{HasCome};
 
     /// Answers an end, once its lines are written; the schedule goes on behind an event that is reached with it.
@@ -372,6 +372,7 @@ impl Machine {
             ≡ cache_through self.old.processor (action_for self.old self.old.effect) self.new.processor }
         ensures size { size_of self.new.processor ≡ size_with sets (size_of self.old.processor) }
         ensures due { self.new.due ≡ step.now.due }
+        ensures keeps { contents_of self.new ≡ keeping (contents_of self.old) self.new.done (contents_of self.new) }
         ensures answer { result ≡ step.now.answer }
         ensures count { (state_of self.new.processor).count ≡ (state_of self.old.processor).count + step.now.counts }
         ensures issued { (need : Need) → self.old.need ≡ waiting_until self.old.floor need

@@ -17,23 +17,26 @@ use Rattle.i9_machine.proofs.machine.Machine.advance.Goals as goal
 pub returns-in-None-clause-next : goal.returns-in-None-clause-next
 returns-in-None-clause-next c = λ g h stands follows.
     let m = c.args.self.now in
-    inl (moved g h m c.move_on.new.self c.args.plan.now c.args.out.now.items m.wait stands follows c.if-self.true stands.early c.move_on.ensures.moved)
+    inl (moved g h m c.move_on.new.self c.args.plan.now c.args.out.now.items m.wait stands follows c.if-self.true
+    stands.early c.move_on.ensures.moved)
 
 pub returns-in-None-clause-fewer : goal.returns-in-None-clause-fewer
 returns-in-None-clause-fewer c =
     let m = c.args.self.now in
-    moved_fewer m c.move_on.new.self c.args.plan.now m.wait (has_pace m c.args.plan.now (c.requires.stands c.in-None.is)) c.move_on.ensures.moved
+    moved_fewer m c.move_on.new.self c.args.plan.now m.wait
+    (has_pace m c.args.plan.now (c.requires.stands c.in-None.is)) c.move_on.ensures.moved
 
 pub come-requires-clause-arrived : goal.come-requires-clause-arrived
 come-requires-clause-arrived c =
     let m = c.args.self.now in
     let mid = c.look-turn.new.self in
+    let t = c.look-turn.result.0 in
     let u = c.requires.stands c.in-None-2.is in
+    let arrives = c.look-turn.ensures.arrives u.given u.items u.stands u.follows in
+    let turn : (ahead u.given u.items).turn ≡ max m.turn t = arrives.turn in
     let same : mid.turn ≡ m.turn = λ i. (c.look-turn.ensures.like i).turn in
-    here_arrived u.given u.items c.look-turn.result.0 (contents_of m) (contents_of mid) c.args.plan.now c.look-turn.result.1
-    (c.look-turn.ensures.arrives u.given u.items u.stands u.follows)
-    (rw c.look-turn.ensures.like u.stands) u.follows
-    (omega (arith, same, c.if-self-turn.false))
+    here_arrived u.given u.items (contents_of m) (contents_of mid) t c.args.plan.now c.look-turn.result.1 arrives
+    (rw c.look-turn.ensures.like u.stands) u.follows (omega (arith, turn, same, c.if-self-turn.false))
 
 pub returns-then-self-turn-clause-next : goal.returns-then-self-turn-clause-next
 returns-then-self-turn-clause-next c = λ g h stands follows.
@@ -43,8 +46,10 @@ returns-then-self-turn-clause-next c = λ g h stands follows.
     let turn : (ahead g h).turn ≡ max m.turn t = (c.look-turn.ensures.arrives g h stands follows).turn in
     let same : mid.turn ≡ m.turn = λ i. (c.look-turn.ensures.like i).turn in
     let later : mid.turn < t = c.if-self-turn.true in
-    subst (λ (x : Turn). Advances g h x (progress m c.args.plan.now c.args.out.now.items) (progress c.wait_until.new.self c.args.plan.now c.args.out.now.items)) (sym c.wait_until.ensures.answer)
-    (inl (moved g h m c.wait_until.new.self c.args.plan.now c.args.out.now.items t stands follows (omega (arith, same, later)) (omega (arith, turn))
+    subst (λ (x : Turn). Advances g h x (progress m c.args.plan.now c.args.out.now.items)
+    (progress c.wait_until.new.self c.args.plan.now c.args.out.now.items)) (sym c.wait_until.ensures.answer)
+    (inl (moved g h m c.wait_until.new.self c.args.plan.now c.args.out.now.items t stands follows
+    (omega (arith, same, later)) (omega (arith, turn))
     (rw c.look-turn.ensures.like at c.wait_until.ensures.moved)))
 
 pub returns-then-self-turn-clause-fewer : goal.returns-then-self-turn-clause-fewer
@@ -52,7 +57,8 @@ returns-then-self-turn-clause-fewer c =
     let m = c.args.self.now in
     let plan = c.args.plan.now in
     let t = c.look-turn.result.0 in
-    subst (λ (x : Turn). LeavesFewer x (steps_left m plan) (steps_left c.wait_until.new.self plan)) (sym c.wait_until.ensures.answer)
+    subst (λ (x : Turn). LeavesFewer x (steps_left m plan) (steps_left c.wait_until.new.self plan))
+    (sym c.wait_until.ensures.answer)
     (moved_fewer m c.wait_until.new.self plan t (has_pace m plan (c.requires.stands c.in-None-2.is))
     (rw c.look-turn.ensures.like at c.wait_until.ensures.moved))
 
@@ -66,7 +72,8 @@ returns-else-self-turn-clause-next c = λ g h stands follows.
     let turn : (ahead g h).turn ≡ max m.turn c.look-turn.result.0 = arrives.turn in
     let same : c.look-turn.new.self.turn ≡ m.turn = λ i. (c.look-turn.ensures.like i).turn in
     comes_advances g h c.come.result _ _
-    (came_comes g h (progress m plan out.items) (progress new.self new.plan new.out.items) _ _ stands follows (omega (arith, turn, same, c.if-self-turn.false))
+    (came_comes g h (progress m plan out.items) (progress new.self new.plan new.out.items) _ _ stands follows
+    (omega (arith, turn, same, c.if-self-turn.false))
     c.look-turn.result.1 c.come.result arrives.imprecise
     (rw c.look-turn.ensures.like at c.come.ensures.came))
 
@@ -75,7 +82,8 @@ returns-else-self-turn-clause-lacking c = λ g h stands follows is room.
     let m = c.args.self.now in
     let out = c.args.out.now in
     let costs = rw c.look-turn.ensures.like at c.come.ensures.costs in
-    costs.lacking is (next_room g h (contents_of m) c.args.plan.now m.processor (vec_capacity out - vec_len out) stands follows room)
+    costs.lacking is
+    (next_room g h (contents_of m) c.args.plan.now m.processor (vec_capacity out - vec_len out) stands follows room)
 
 pub returns-else-self-turn-clause-fewer : goal.returns-else-self-turn-clause-fewer
 returns-else-self-turn-clause-fewer c =
@@ -85,7 +93,8 @@ pub returns-else-self-turn-clause-still_lacking : goal.returns-else-self-turn-cl
 returns-else-self-turn-clause-still_lacking c = λ g h stands follows is room.
     let new = c.come.new in
     c.come.ensures.costs.still_lacking is
-    (next_room g h (contents_of new.self) new.plan new.self.processor (vec_capacity new.out - vec_len new.out) stands follows room)
+    (next_room g h (contents_of new.self) new.plan new.self.processor
+    (vec_capacity new.out - vec_len new.out) stands follows room)
 
 pub returns-in-None-clause-only : goal.returns-in-None-clause-only
 returns-in-None-clause-only c = λ g h stands follows.

@@ -21,7 +21,8 @@ returns-in-Ok-clause-next c =
       fenced = c.keep.ensures.need;
       is = record {
         kind = Entered plan.0;
-        is_next = ap (λ (d : Due). next_in at.length d (event_for at c.args.plan.now) s) c.requires.due ∙ ap (next_by_entry s) plan.1;
+        is_next = ap (λ (d : Due). next_in at.length d (event_for at c.args.plan.now) s) c.requires.due ∙ ap
+            (next_by_entry s) plan.1;
         effect = subst (IsEffect s (entering plan.0 s)) (sym c.keep.ensures.effect) plan.2;
         point = step.point;
         counts = step.counts;

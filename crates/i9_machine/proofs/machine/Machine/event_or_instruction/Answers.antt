@@ -1,7 +1,7 @@
 use Rattle.std.proofs.Common.{sym, ◌∙◌}
 use Rattle.i9_model.specs.ScheduleText.{standing_by}
 use Rattle.i9_machine.specs.Contents.{situation}
-use Rattle.i9_machine.proofs.Timely.{timely_event}
+use Rattle.i9_machine.proofs.Turning.{timely_event}
 use Rattle.i9_machine.proofs.machine.Machine.event_or_instruction.Goals as goal
 
 pub reaches-requires-clause-stands : goal.reaches-requires-clause-stands

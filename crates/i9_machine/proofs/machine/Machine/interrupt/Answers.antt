@@ -34,7 +34,8 @@ returns-in-Ok-clause-next c =
         tells = tells_on (Interrupted choice plan.0) s c.entered.result.answer step.answer tt;
         is_need = need.interrupt choice plan.0 plan.2;
         cost = need.cost;
-        row = no_request_in (Interrupted choice plan.0) at c.need_entered-need.result (need.interrupt choice plan.0 plan.2) tt;
+        row = no_request_in (Interrupted choice plan.0) at c.need_entered-need.result
+            (need.interrupt choice plan.0 plan.2) tt;
       };
     }
 

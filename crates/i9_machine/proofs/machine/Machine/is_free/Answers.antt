@@ -10,13 +10,15 @@ pub returns-in-Ok-Some-clause-waits : goal.returns-in-Ok-Some-clause-waits
 returns-in-Ok-Some-clause-waits c = λ plan no.
     let at = situation c.args.self.now in
     let within = c.if-not-goes_on.ensures.free refl in
-    choice_waits at plan (goes_on at (event_for at plan) within.0 within.1) (λ none. absurd (cc (c.in-Ok-Some.ensures ∙ none)))
+    choice_waits at plan (goes_on at (event_for at plan) within.0 within.1)
+    (λ none. absurd (cc (c.in-Ok-Some.ensures ∙ none)))
 
 pub returns-in-Err-clause-waits : goal.returns-in-Err-clause-waits
 returns-in-Err-clause-waits c = λ plan no.
     let at = situation c.args.self.now in
     let within = c.if-not-goes_on.ensures.free refl in
-    choice_waits at plan (goes_on at (event_for at plan) within.0 within.1) (λ none. absurd (cc (c.in-Err.ensures ∙ none)))
+    choice_waits at plan (goes_on at (event_for at plan) within.0 within.1)
+    (λ none. absurd (cc (c.in-Err.ensures ∙ none)))
 
 pub returns-then-not-goes_on-clause-waits : goal.returns-then-not-goes_on-clause-waits
 returns-then-not-goes_on-clause-waits c = λ plan no.

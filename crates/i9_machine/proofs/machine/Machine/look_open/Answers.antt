@@ -8,13 +8,15 @@ use Rattle.i9_machine.proofs.machine.Machine.look_open.Goals as goal
 
 pub returns-then-not-is_free-clause-arrives : goal.returns-then-not-is_free-clause-arrives
 returns-then-not-is_free-clause-arrives c =
-    waits_arrive (contents_of c.args.self.now) c.args.plan.now c.args.until false c.requires.until c.requires.open c.requires.precise
+    waits_arrive (contents_of c.args.self.now) c.args.plan.now c.args.until false c.requires.until c.requires.open
+    c.requires.precise
     (c.if-not-is_free.ensures.waits c.args.plan.now refl)
 
 pub returns-in-Waits-clause-arrives : goal.returns-in-Waits-clause-arrives
 returns-in-Waits-clause-arrives c =
     let m = c.args.self.now in
-    waits_arrive (contents_of m) c.args.plan.now c.args.until c.in-Waits.read c.requires.until c.requires.open c.requires.precise
+    waits_arrive (contents_of m) c.args.plan.now c.args.until c.in-Waits.read c.requires.until c.requires.open
+    c.requires.precise
     (instruction_waits (situation m) c.args.plan.now (c.if-not-is_free.ensures.free refl) c.in-Waits.ensures.stands.0)
 
 pub returns-in-Waits-clause-ready : goal.returns-in-Waits-clause-ready

@@ -1,4 +1,4 @@
-use Rattle.std.proofs.Common.{ℕ, ◌+◌, ◌≤◌, List, ◌++◌, map, sym, ap, ◌∙◌, subst, subst₂}
+use Rattle.std.proofs.Common.{◌≡◌, ℕ, ◌+◌, ◌≤◌, List, ◌++◌, map, sym, ap, ◌∙◌, subst, subst₂}
 use Rattle.i9_model.specs.declared.need.Need.{Need}
 use Rattle.i9_model.specs.HeldFrames.{Cache, AreWhole, renewed, cache_acted, cache_configured}
 use Rattle.i9_model.specs.PrintedText.{Shown}
@@ -29,7 +29,7 @@ use Rattle.i9_machine.specs.Doing.{action_for, lines_of, asks_room, HasRoomForSt
 use Rattle.i9_machine.specs.Step.{TellsRecord, LeavesFewer, IsStep, Did, Steps, stage, left_from, left_of, event_for, next_for}
 use Rattle.i9_machine.proofs.Arriving.{kept_planned, same_planned}
 use Rattle.i9_machine.proofs.NewPages.{none_then}
-use Rattle.i9_machine.proofs.Performing.{step_covers, step_acts}
+use Rattle.i9_machine.proofs.Issuing.{step_covers, step_acts}
 use Rattle.i9_machine.proofs.Stepping.{no_memory, did_steps, step_after, step_lines, step_needs, fewer_by, did_fewer, did_within, step_within, step_room, plan_is_behind}
 use Rattle.i9_machine.proofs.Turning.{waiting_cost, paced_early}
 use Rattle.i9_machine.proofs.machine.Machine.perform.Goals as goal
@@ -44,16 +44,20 @@ act-answer-requires-clause-ready c =
     let mid = c.make_room.new.self in
     let made = c.make_room.ensures in
     let at = situation mid in
-    let step = (same_planned c.args.self.now mid c.args.plan.now c.args.step.now made.same made.effect made.need c.requires.step).is in
-    let free = next_free at.length at.due (event_for at c.args.plan.now) at.state (record_of step.kind at.state) step.is_next in
+    let step = (same_planned c.args.self.now mid c.args.plan.now c.args.step.now made.same made.effect made.need
+    c.requires.step).is in
+    let free = next_free at.length at.due (event_for at c.args.plan.now) at.state
+    (record_of step.kind at.state) step.is_next in
     record {
       registers = step.effect.registers;
       posts = step.effect.posts;
       changes = step.effect.changes;
       moves = step.effect.moves;
       free = subst (IsFree at.state) (sym step.effect.same) free.1;
-      controls = subst (λ (a : Action). CanControl (moved at.state a) mid.effect.control) (sym step.effect.same) step.effect.controls;
-      below = subst (λ (n : ℕ). at.state.count + n ≤ at.length) (sym step.counts) (did_within at c.args.plan.now step.kind mid.below step.is_next);
+      controls = subst (λ (a : Action). CanControl (moved at.state a) mid.effect.control)
+          (sym step.effect.same) step.effect.controls;
+      below = subst (λ (n : ℕ). at.state.count + n ≤ at.length) (sym step.counts)
+          (did_within at c.args.plan.now step.kind mid.below step.is_next);
     }
 
 pub act-answer-requires-clause-made : goal.act-answer-requires-clause-made
@@ -61,57 +65,64 @@ act-answer-requires-clause-made c =
     let mid = c.make_room.new.self in
     let room = c.make_room.ensures in
     let at = situation mid in
-    let step = (same_planned c.args.self.now mid c.args.plan.now c.args.step.now room.same room.effect room.need c.requires.step).is in
-    let free = next_free at.length at.due (event_for at c.args.plan.now) at.state (record_of step.kind at.state) step.is_next in
+    let step = (same_planned c.args.self.now mid c.args.plan.now c.args.step.now room.same room.effect room.need
+    c.requires.step).is in
+    let free = next_free at.length at.due (event_for at c.args.plan.now) at.state
+    (record_of step.kind at.state) step.is_next in
     let a = action_for mid mid.effect in
-    let made = subst (λ (k : Contents). AreMade k.sets k.at.state.memory mid.effect.control c.in-Ok.sets) (sym room.same) c.in-Ok.ensures.made in
-    made_takes mid.sets at.state.memory mid.effect.control c.in-Ok.sets a.move a.writes made (subst (IsFree at.state) (sym step.effect.same) free.1).controls
+    let made = subst (λ (k : Contents). AreMade k.sets k.at.state.memory mid.effect.control c.in-Ok.sets)
+    (sym room.same) c.in-Ok.ensures.made in
+    made_takes mid.sets at.state.memory mid.effect.control c.in-Ok.sets a.move a.writes made
+    (subst (IsFree at.state) (sym step.effect.same) free.1).controls
 
 pub act-answer-requires-clause-cost : goal.act-answer-requires-clause-cost
 act-answer-requires-clause-cost c =
     let m = c.args.self.now in
     let kept = kept_planned (situation m) c.args.plan.now c.args.step.now m c.requires.step in
-    subst HasCost (sym (c.make_room.ensures.need ∙ kept.fenced)) (waiting_cost m.floor kept.need kept.some)
+    rw (c.make_room.ensures.need ∙ kept.fenced) (waiting_cost m.floor kept.need kept.some)
 
 pub act-answer-requires-clause-turns : goal.act-answer-requires-clause-turns
-act-answer-requires-clause-turns c =
-    let kept = c.requires.step in
-    subst (λ (n : Need). n.cost ≤ most_turns) (sym (c.make_room.ensures.need ∙ kept.fenced)) kept.is.cost
+act-answer-requires-clause-turns c = rw (c.make_room.ensures.need ∙ c.requires.step.fenced) c.requires.step.is.cost
 
 pub act-answer-requires-clause-early : goal.act-answer-requires-clause-early
 act-answer-requires-clause-early c =
     let m = c.args.self.now in
     let u = c.requires.come in
     let kept = kept_planned (situation m) c.args.plan.now c.args.step.now m c.requires.step in
-    subst₂ IsEarly (λ i. (sym c.make_room.ensures.same i).at.board) (sym (c.make_room.ensures.need ∙ kept.fenced))
+    let board : c.make_room.new.self.board ≡ m.board = λ i. (c.make_room.ensures.same i).at.board in
+    rw (board, c.make_room.ensures.need ∙ kept.fenced)
     (paced_early (contents_of m) (left_after u.given (records_of u.items)) kept.need u.stands.paced kept.none kept.cost)
 
 pub act-answer-requires-clause-issue : goal.act-answer-requires-clause-issue
 act-answer-requires-clause-issue c =
-    subst₂ (λ (b : Pending) (n : Need). IssuesAt b.last b.records n c.args.issue) (λ i. (sym c.make_room.ensures.same i).at.board)
-    (sym c.make_room.ensures.need) c.requires.issue
+    let board : c.make_room.new.self.board ≡ c.args.self.now.board = λ i. (c.make_room.ensures.same i).at.board in
+    rw (board, c.make_room.ensures.need) c.requires.issue
 
 pub act-answer-requires-clause-whole : goal.act-answer-requires-clause-whole
 act-answer-requires-clause-whole c =
     let come = c.requires.come in
     let cached = cached-after come.given (records_of come.items) (course_events come.given come.items come.stands.past) in
-    subst (λ (d : Cache). AreWhole d.held) (sym ((λ i. (c.make_room.ensures.same i).at.cache) ∙ come.stands.cache)) cached.youngest.whole
+    subst (λ (d : Cache). AreWhole d.held) (sym ((λ i. (c.make_room.ensures.same i).at.cache) ∙ come.stands.cache))
+    cached.youngest.whole
 
 pub act-answer-requires-clause-covered : goal.act-answer-requires-clause-covered
 act-answer-requires-clause-covered c =
     let mid = c.make_room.new.self in
+    let plan = c.args.plan.now in
+    let step = c.args.step.now in
     let made = c.make_room.ensures in
-    let kept = same_planned c.args.self.now mid c.args.plan.now c.args.step.now made.same made.effect made.need c.requires.step in
-    subst (λ (n : Need). IsCovered n.writes (situation mid).state (action_for mid mid.effect)) (sym kept.fenced)
-    (step_covers (situation mid) c.args.plan.now c.args.step.now kept.need mid.effect kept.is)
+    let kept = same_planned c.args.self.now mid plan step made.same made.effect made.need c.requires.step in
+    rw kept.fenced (step_covers (situation mid) plan step kept.need mid.effect kept.is)
 
 pub act-answer-requires-clause-acts : goal.act-answer-requires-clause-acts
 act-answer-requires-clause-acts c =
     let mid = c.make_room.new.self in
+    let plan = c.args.plan.now in
+    let step = c.args.step.now in
     let made = c.make_room.ensures in
-    let kept = same_planned c.args.self.now mid c.args.plan.now c.args.step.now made.same made.effect made.need c.requires.step in
-    step_acts mid c.args.plan.now c.args.step.now kept.need mid.effect kept.fenced
-    (subst (λ (k : Contents). HasCome k c.args.plan.now) (sym made.same) c.requires.come) kept.is
+    let kept = same_planned c.args.self.now mid plan step made.same made.effect made.need c.requires.step in
+    step_acts mid plan step kept.need mid.effect kept.fenced
+    (subst (λ (k : Contents). HasCome k plan) (sym made.same) c.requires.come) kept.is
 
 pub returns-in-Ok-clause-steps : goal.returns-in-Ok-clause-steps
 returns-in-Ok-clause-steps c =
@@ -128,15 +139,19 @@ returns-in-Ok-clause-steps c =
     let e = mid.effect in
     let lines = c.args.out.now.items in
     let after = stage new c.go_on.new.plan c.act-answer.new.out in
-    let made = subst (λ (k : Contents). AreMade k.sets k.at.state.memory e.control c.in-Ok.sets) (sym room.same) c.in-Ok.ensures.made in
+    let made = subst (λ (k : Contents). AreMade k.sets k.at.state.memory e.control c.in-Ok.sets)
+    (sym room.same) c.in-Ok.ensures.made in
     let done : Did (record (stage old was c.args.out.now) { contents = contents_of mid }) step.answer after = record {
       done = record_of is.kind at.state;
       is_next = is.is_next;
       need = kept.need;
       is_need = is.is_need;
-      issued = subst (λ (a : Action). IsIssued (contents_of mid) kept.need a (contents_of new)) is.effect.same (act.issued kept.need kept.fenced);
+      issued = subst (λ (a : Action). IsIssued (contents_of mid) kept.need a (contents_of new)) is.effect.same
+          (act.issued kept.need kept.fenced);
       state = subst (λ (t : State). AreAlike t (situation new).state) (step_after at was step kept.need e is) act.state;
-      cache = act.cache ∙ ap (λ (a : Action). cache_configured (situation new).state.memory (cache_acted at.size a at.cache)) is.effect.same;
+      cache = act.cache ∙ ap
+          (λ (a : Action). cache_configured (situation new).state.memory (cache_acted at.size a at.cache))
+          is.effect.same;
       size =
           act.size
           ∙ made_size mid.sets at.state.memory e.control c.in-Ok.sets at.size made
@@ -145,18 +160,22 @@ returns-in-Ok-clause-steps c =
       behind = c.go_on.ensures ∙ plan_is_behind at was step kept.need e is;
       lines =
           act.lines
-          ∙ (λ i. map shown_of (room.items i) ++ lines_of e step (c.next_event-event.ensures.event i) at.state (state_behind_of at.state e step))
+          ∙ (λ i. map shown_of (room.items i) ++ lines_of e step (c.next_event-event.ensures.event i) at.state
+          (state_behind_of at.state e step))
           ∙ ap (λ (ls : List Shown). map shown_of lines ++ ls) (step_lines at was step kept.need e is);
       tells = is.tells;
     } in
-    subst₂ (λ (k : Contents) (t : Turn). Steps (record (stage old was c.args.out.now) { contents = k }) t after) room.same (sym act.answer)
+    subst₂ (λ (k : Contents) (t : Turn). Steps (record (stage old was c.args.out.now) { contents = k }) t after)
+    room.same (sym act.answer)
     (did_steps _ step.answer after at.state is.kind is.tells done)
 
 -- what was made room for is what comes next
 made_only : (m new : Machine) (plan : Plan) (step : Step) (need : Need) → IsStep (situation m) plan step need m.effect
-    → AddsActionOnly m.processor new.processor (action_for m m.effect) → AddsNextOnly m.processor new.processor (next_for (situation m) plan)
+    → AddsActionOnly m.processor new.processor (action_for m m.effect)
+    → AddsNextOnly m.processor new.processor (next_for (situation m) plan)
 made_only m new plan step need is only =
-    subst (AddsNextOnly m.processor new.processor) (sym is.is_next) (subst (AddsActionOnly m.processor new.processor) is.effect.same only)
+    subst (AddsNextOnly m.processor new.processor) (sym is.is_next)
+    (subst (AddsActionOnly m.processor new.processor) is.effect.same only)
 
 pub returns-in-Ok-clause-costs : goal.returns-in-Ok-clause-costs
 returns-in-Ok-clause-costs c =
@@ -176,14 +195,17 @@ returns-in-Ok-clause-costs c =
     let after = stage new c.go_on.new.plan c.act-answer.new.out in
     let less = did_fewer before after (record_of is.kind at.state) mid.below is.is_next
     (subst (λ (t : State). AreAlike t (situation new).state) (step_after at was step kept.need mid.effect is) act.state)
-    (act.due ∙ is.due) (λ i. (keeps i).at.length) (c.go_on.ensures ∙ plan_is_behind at was step kept.need mid.effect is) (λ i. (keeps i).turn) in
+    (act.due ∙ is.due) (λ i. (keeps i).at.length) (c.go_on.ensures ∙ plan_is_behind at was step kept.need mid.effect is)
+    (λ i. (keeps i).turn) in
     let fewer = fewer_by step.answer at.state is.kind (left_of before) (left_of after) is.tells less in
     record {
       lacking = λ refused. absurd (none (subst (TellsRecord is.kind at.state) (sym act.answer ∙ refused) is.tells));
-      still_lacking = λ refused. absurd (none (subst (TellsRecord is.kind at.state) (sym act.answer ∙ refused) is.tells));
+      still_lacking = λ refused. absurd
+          (none (subst (TellsRecord is.kind at.state) (sym act.answer ∙ refused) is.tells));
       only = made_only old new was step c.requires.step.need c.requires.step.is
           (none_then old.processor mid.processor new.processor (action_for old old.effect) room.only act.no_more);
-      fewer = subst₂ (λ (k : Contents) (t : Turn). LeavesFewer t (left_from k was) (left_of after)) room.same (sym act.answer) fewer;
+      fewer = subst₂ (λ (k : Contents) (t : Turn). LeavesFewer t (left_from k was) (left_of after)) room.same
+          (sym act.answer) fewer;
     }
 
 pub returns-in-Err-clause-steps : goal.returns-in-Err-clause-steps
@@ -192,9 +214,11 @@ returns-in-Err-clause-steps c =
     let made = c.make_room.ensures in
     let new = c.make_room.new.self in
     record {
-      same = (λ i. record (stage new c.args.plan.now c.make_room.new.out) { contents = made.same i; lines = made.items i });
+      same = (λ i. record
+          (stage new c.args.plan.now c.make_room.new.out) { contents = made.same i; lines = made.items i });
       needed = step_needs (situation m) c.args.plan.now c.args.step.now c.requires.step.need m.effect c.requires.step.is
-          (ap (asks_room (situation m).state m.effect c.args.step.now) (sym c.next_event-event.ensures.event) ∙ c.in-Err.ensures.needed);
+          (ap (asks_room (situation m).state m.effect c.args.step.now) (sym c.next_event-event.ensures.event)
+          ∙ c.in-Err.ensures.needed);
     }
 
 pub returns-in-Err-clause-costs : goal.returns-in-Err-clause-costs
@@ -210,9 +234,11 @@ returns-in-Err-clause-costs c =
     let was = stage old plan c.args.out.now in
     let now = stage new plan c.make_room.new.out in
     record {
-      lacking = λ refused room. c.in-Err.ensures.lacking (subst (HasRoomForStep was.processor was.spare old.effect step) event
+      lacking = λ refused room. c.in-Err.ensures.lacking
+          (subst (HasRoomForStep was.processor was.spare old.effect step) event
           (step_room (situation old) plan step is.need old.effect is.is was.processor was.spare room));
-      still_lacking = λ refused room. c.in-Err.ensures.still_lacking (subst (HasRoomForStep now.processor now.spare new.effect step) event
+      still_lacking = λ refused room. c.in-Err.ensures.still_lacking
+          (subst (HasRoomForStep now.processor now.spare new.effect step) event
           (step_room (situation new) plan step still.need new.effect still.is now.processor now.spare room));
       only = made_only old new plan step is.need is.is made.only;
       fewer = tt;

@@ -28,7 +28,8 @@ returns-in-Faults-clause-need c =
     let mid = c.keep-in-Faults.new.self in
     let need = c.need_faulted-need.ensures in
     let number = c.in-Faults.number in
-    subst (λ (n : DecodeCache). HasNeed at (Faulted (Some (inst_in n)) (fault_at at.state number)) mid.need) (sym c.keep-in-Faults.ensures.decodes) (record {
+    subst (λ (n : DecodeCache). HasNeed at (Faulted (Some (inst_in n)) (fault_at at.state number)) mid.need)
+    (sym c.keep-in-Faults.ensures.decodes) (record {
       need = c.need_faulted-need.result;
       fenced = c.keep-in-Faults.ensures.need;
       is_need = need.need at.size at.cache;

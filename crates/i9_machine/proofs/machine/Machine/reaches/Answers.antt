@@ -24,7 +24,8 @@ returns-in-Ok-clause-next c =
       is = record {
         kind = Reached event plan.0;
         is_next =
-            goes_by_event at (event_for at c.args.plan.now) (record { due = c.requires.free; below = c.requires.below; chosen = c.requires.chosen })
+            goes_by_event at (event_for at c.args.plan.now)
+            (record { due = c.requires.free; below = c.requires.below; chosen = c.requires.chosen })
             ∙ ap (λ (o : Option Event). next_by_event o s) c.requires.stands
             ∙ ap (λ (p : Result Received ℕ). next_by_received s event p) plan.1;
         effect = subst (IsEffect s (receiving plan.0 s)) (sym c.keep.ensures.effect) plan.2;
@@ -45,7 +46,9 @@ returns-in-Err-clause-next c =
     let at = situation c.args.self.now in
     let s = at.state in
     let event = c.args.event.now in
-    goes_by_event at (event_for at c.args.plan.now) (record { due = c.requires.free; below = c.requires.below; chosen = c.requires.chosen })
+    goes_by_event at (event_for at c.args.plan.now)
+    (record { due = c.requires.free; below = c.requires.below; chosen = c.requires.chosen })
     ∙ ap (λ (o : Option Event). next_by_event o s) c.requires.stands
     ∙ ap (λ (p : Result Received ℕ). next_by_received s event p) c.in-Err.ensures
-    ∙ ap (λ (o : Option Event). Ends (record { event = o; end = Hazard c.in-Err.a })) (sym (next_stands at c.args.plan.now event c.requires.stands))
+    ∙ ap (λ (o : Option Event). Ends (record { event = o; end = Hazard c.in-Err.a }))
+    (sym (next_stands at c.args.plan.now event c.requires.stands))

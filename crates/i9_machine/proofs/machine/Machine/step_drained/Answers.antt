@@ -13,7 +13,8 @@ use Rattle.i9_machine.proofs.machine.Machine.step_drained.Goals as goal
 pub issue_turn-issue-requires-clause-pace : goal.issue_turn-issue-requires-clause-pace
 issue_turn-issue-requires-clause-pace c =
     let u = c.requires.come in
-    subst (λ (m : Machine). HasPace (contents_of m)) (sym c.next_step.ensures.like) (left_after u.given (records_of u.items), u.stands.paced)
+    subst (λ (m : Machine). HasPace (contents_of m)) (sym c.next_step.ensures.like)
+    (left_after u.given (records_of u.items), u.stands.paced)
 
 pub issue_turn-issue-requires-clause-need : goal.issue_turn-issue-requires-clause-need
 issue_turn-issue-requires-clause-need c =
@@ -23,13 +24,15 @@ issue_turn-issue-requires-clause-need c =
 
 pub perform-requires-clause-step : goal.perform-requires-clause-step
 perform-requires-clause-step c =
-    subst (λ (m : Machine). IsPlannedIn (situation m) c.args.plan.now c.in-Ok.step c.next_step.new.self) (sym c.next_step.ensures.like) c.in-Ok.ensures.next
+    subst (λ (m : Machine). IsPlannedIn (situation m) c.args.plan.now c.in-Ok.step c.next_step.new.self)
+    (sym c.next_step.ensures.like) c.in-Ok.ensures.next
 
 pub perform-requires-clause-running : goal.perform-requires-clause-running
 perform-requires-clause-running c = (λ i. (c.next_step.ensures.like i).ended) ∙ c.requires.running
 
 pub perform-requires-clause-come : goal.perform-requires-clause-come
-perform-requires-clause-come c = subst (λ (m : Machine). HasCome (contents_of m) c.args.plan.now) (sym c.next_step.ensures.like) c.requires.come
+perform-requires-clause-come c =
+    subst (λ (m : Machine). HasCome (contents_of m) c.args.plan.now) (sym c.next_step.ensures.like) c.requires.come
 
 pub returns-in-Ok-clause-steps : goal.returns-in-Ok-clause-steps
 returns-in-Ok-clause-steps c = rw c.next_step.ensures.like at c.perform.ensures.steps

@@ -16,7 +16,8 @@ perform-requires-clause-step c =
     (faults.ensures.step is.kept.need _ c.args.plan.now is.is_next is.kept.is_need is.kept.cost))
 
 pub perform-requires-clause-come : goal.perform-requires-clause-come
-perform-requires-clause-come c = subst (λ (m : Machine). HasCome (contents_of m) c.args.plan.now) (sym c.faults_by-step.ensures.like) c.requires.come
+perform-requires-clause-come c =
+    subst (λ (m : Machine). HasCome (contents_of m) c.args.plan.now) (sym c.faults_by-step.ensures.like) c.requires.come
 
 pub returns-clause-steps : goal.returns-clause-steps
 returns-clause-steps c = rw c.faults_by-step.ensures.like at c.perform.ensures.steps
