@@ -12,8 +12,8 @@ use Rattle.i9_machine.specs.StandsFor.{StandsFor, Follows, FollowsUntil, DoesNex
 use Rattle.i9_machine.specs.Turned.{steps_on, Turns}
 use Rattle.i9_machine.specs.Progress.{Progress}
 
-does_in_run : (g : Given) (h : List Item) (answer : Turn) (before after : Progress)
-    → DoesNext g h answer before after → IsInRun after.machine after.plan
+does_in_run : (g : Given) (h : List Item) (answer : Turn) (before after : Progress) → DoesNext g h answer before after
+    → IsInRun after.machine after.plan
 does_in_run g h answer before after d = record {
   given = g;
   items = Step d.done ∷ h;
@@ -23,8 +23,8 @@ does_in_run g h answer before after d = record {
 }
 
 -- what came next was done
-pub comes_in_run : (g : Given) (h : List Item) (answer : Turn) (before after : Progress)
-    → Comes g h answer before after → IsInRun after.machine after.plan
+pub comes_in_run : (g : Given) (h : List Item) (answer : Turn) (before after : Progress) → Comes g h answer before after
+    → IsInRun after.machine after.plan
 comes_in_run g h turns.On before after d = does_in_run g h turns.On before after d
 comes_in_run g h (turns.Issued t) before after d = does_in_run g h (turns.Issued t) before after d
 comes_in_run g h (turns.End e) before after d =
@@ -43,24 +43,27 @@ advances_in_run g h (turns.End e) before after d = comes_in_run g h (turns.End e
 advances_in_run g h turns.Memory before after d = comes_in_run g h turns.Memory before after d
 
 -- a whole turn
-pub turns_in_run : (g : Given) (h : List Item) (answer : Turn) (before after : Progress)
-    → Turns g h answer before after → IsInRun after.machine after.plan
+pub turns_in_run : (g : Given) (h : List Item) (answer : Turn) (before after : Progress) → Turns g h answer before after
+    → IsInRun after.machine after.plan
 turns_in_run g h turns.On before after d =
     record { given = g; items = steps_on d.done h; end = None; stands = d.stands; follows = d.follows }
 turns_in_run g h (turns.Issued t) before after d = absurd d
 turns_in_run g h (turns.End e) before after d =
     record { given = g; items = steps_on d.done h; end = Some d.finish; stands = d.stands; follows = tt }
 turns_in_run g h turns.Memory before after d =
-    record { given = g; items = steps_on d.since.done h; end = None; stands = d.since.stands; follows = d.since.follows }
+    record { given = g; items = steps_on d.since.done h; end = None; stands = d.since.stands;
+    follows = d.since.follows }
 
 -- whether an end was answered before or none
 pub behind_in_run : (before m : Machine) (answer : Turn) (was plan : Plan) (old new : List Line)
     → ((g : Given) (h : List Item) → StandsFor g h None before → Follows g h was → IsInRun m plan)
-    → ((g : Given) (h : List Item) (f : Finish) → StandsFor g h (Some f) before → AnswersAgain f answer before m old new × (plan ≡ was))
+    → ((g : Given) (h : List Item) (f : Finish) → StandsFor g h (Some f) before
+    → AnswersAgain f answer before m old new × (plan ≡ was))
     → IsInRun before was → IsInRun m plan
 behind_in_run before m answer was plan old new next again r = by_end r.end r.stands r.follows
   where
-    by_end : (end : Option Finish) → StandsFor r.given r.items end before → FollowsUntil r.given r.items end was → IsInRun m plan
+    by_end : (end : Option Finish) → StandsFor r.given r.items end before → FollowsUntil r.given r.items end was
+        → IsInRun m plan
     by_end None stands follows = next r.given r.items stands follows
     by_end (Some f) stands follows =
         let a = again r.given r.items f stands in

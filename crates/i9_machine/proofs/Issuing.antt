@@ -1,5 +1,5 @@
--- What lands late of a machine, as a record issues and as the turn moves, is what the course of its items has.
-use Rattle.std.proofs.Common.{◌≡◌, ℕ, ◌+◌, ◌*◌, ◌^◌, ◌<◌, ◌≤◌, max, Bool, true, false, List, [], ◌∷◌, ◌++◌, length, length-append, drop, None, Some, refl, sym, ap, ◌∙◌, subst, inl, inr, arith}
+-- A record issues and can act, and what lands late is what the course of the items has.
+use Rattle.std.proofs.Common.{◌≡◌, ℕ, ◌+◌, ◌*◌, ◌^◌, ◌<◌, ◌≤◌, Bool, true, false, List, [], ◌∷◌, ◌++◌, length, length-append, drop, None, Some, refl, sym, ap, ◌∙◌, subst, subst₂, inl, inr, arith, Option, ◌⊎◌}
 use Rattle.std.proofs.lemmas.Bool.{cases_Bool, and_parts}
 use Rattle.i9_model.specs.declared.need.Need.{Need}
 use Rattle.i9_model.specs.declared.need.Placed.{Placed}
@@ -8,19 +8,19 @@ use Rattle.i9_model.specs.HeldFrames.{Cache, sets_in, cache_after}
 use Rattle.i9_model.specs.Late.{turns, resource, resources, landed, issued_cell, wait_of, settled_memory, IsClear}
 use Rattle.i9_model.specs.Left.{left_in}
 use Rattle.i9_model.specs.Memory.{stored}
-use Rattle.i9_model.specs.Run.{Given, Kind, Instruction, Faulted, Entered, Interrupted, Reached, Record, Does, action_done, due_by, reached_by, due_after, reached_after, state_after}
+use Rattle.i9_model.specs.Run.{Given, Kind, Instruction, Faulted, Entered, Interrupted, Reached, Record, Does, action_done, due_by, reached_by, due_after, reached_after, state_after, record_of}
 use Rattle.i9_model.specs.State.{State, boot}
 use Rattle.i9_model.specs.Step.{Action, Move, Stays}
 use Rattle.i9_model.specs.Turns.{Pending, IsAllDone, with_need, waiting_until, placed_record}
 use Rattle.i9_model.specs.Turns as board
-use Rattle.i9_agree.proofs.AlikeSteps.{done_alike}
+use Rattle.i9_agree.proofs.AlikeSteps.{done_alike, does_alike, view_alike}
 use Rattle.i9_past.proofs.Comes.{next_comes}
 use Rattle.i9_model.proofs.Stored.{stored-none}
 use Rattle.i9_past.proofs.Left.{standing_by_place, next_leaves}
 use Rattle.i9_course.specs.NeedOf.{need_of, record_need, need_ahead}
 use Rattle.i9_course.specs.Course.{Item, Step, records_of, course, late_after, move_writes, puts_of, instruction_turn, event_ahead, comes_next, ahead, issue_of_next}
 use Rattle.i9_course.specs.Kernel.{Lands}
-use Rattle.i9_course.proofs.Landed.{acts_at_once}
+use Rattle.i9_course.proofs.Landed.{acts_at_once, request_last}
 use Rattle.i9_course.proofs.Settled.{course_settles}
 use Rattle.i9_course.proofs.NeedActs.{need_still, need_requests}
 use Rattle.i9_course.proofs.NeedAlike.{need_alike}
@@ -30,42 +30,49 @@ use Rattle.i9_course.proofs.Timed.{course_costs}
 use Rattle.i9_course.proofs.Ahead.{ahead_precise}
 use Rattle.i9_course.proofs.Steps.{issues_lands, lands_clear}
 use Rattle.i9_regs.proofs.Shown.{issued_shows}
-use Rattle.i9_processor.specs.Effect.{IsStill}
-use Rattle.i9_processor.specs.State.{state_of, cache_of, size_of, cells_of, bytes_of, queue_of}
+use Rattle.i9_processor.specs.Effect.{IsStill, action_in, CanAct, CanWait}
+use Rattle.i9_processor.specs.State.{state_of, cache_of, IsDrained}
 use Rattle.i9_processor.proofs.Drained.{drained_bytes}
 use Rattle.i9_raw.specs.Raw.{Hides, shades, shades_need, IsShaded}
 use Rattle.i9_raw.proofs.Landed.{record_hides, record_leaves}
 use Rattle.i9_machine.specs.declared.machine.Machine.{Machine}
-use Rattle.i9_machine.specs.Issuing.{kernel_of, most_turns, IsPaced, IsPlaced, IsIssued}
-use Rattle.i9_machine.specs.StandsFor.{StandsFor, left_after}
+use Rattle.i9_machine.specs.Contents.{Contents, contents_of, kernel_of, Situation, situation}
+use Rattle.i9_machine.specs.Issuing.{most_turns, IsPaced, IsPlaced, IsIssued, CanActPlaced}
+use Rattle.i9_machine.specs.StandsFor.{Stand, StandsFor, left_after, HasCome}
+use Rattle.std.specs.List.{AllByRecursion}
+use Rattle.i9_model.specs.PrintedText.{Drained, point_lines}
+use Rattle.i9_model.specs.declared.run.Point.{Point}
+use Rattle.i9_model.specs.declared.view.View.{View}
+use Rattle.i9_agree.proofs.HeldRuns.{next_free}
+use Rattle.i9_schedule.specs.Plan.{Plan}
+use Rattle.i9_regs.specs.Covered.{IsCovered}
+use Rattle.i9_course.proofs.NeedCovers.{need_covers}
+use Rattle.i9_processor.specs.declared.effect.Effect.{Effect}
+use Rattle.i9_machine.specs.declared.step.Step.{Step as Performed}
+use Rattle.i9_machine.specs.Step.{IsStep, next_for}
+use Rattle.i9_machine.proofs.Overtaking.{beside}
 
 -- ---- the need
 
--- what a machine needs is what is needed in the run
-pub same_need : (g : Given) (h : List Item) (before : Machine) (r q : Record) (need : Need) → StandsFor g h None before
-    → AreRecordsAlike r q → r.before ≡ state_after g (records_of h) → q.before ≡ state_of before.processor
-    → need ≡ need_of (size_of before.processor) (cache_of before.processor) (state_of before.processor) q.kind
-    → record_need g.sets (cache_after g (records_of h)) r ≡ need
-same_need g h before r q need stands same old own is =
+-- what is needed is what is needed in the run
+pub same_need : (g : Given) (h : List Item) (k : Contents) (r q : Record) (need : Need) → Stand g h None k
+    → AreRecordsAlike r q → r.before ≡ state_after g (records_of h) → q.before ≡ k.at.state
+    → need ≡ need_of k.at.size k.at.cache k.at.state q.kind → record_need g.sets (cache_after g (records_of h)) r ≡ need
+same_need g h k r q need stands same old own is =
     let c = cache_after g (records_of h) in
     let n = sets_in g.sets r.before in
-    let sets : size_of before.processor ≡ n = stands.size ∙ ap (sets_in g.sets) (sym old) in
+    let size : n ≡ k.at.size = sym (stands.size ∙ ap (sets_in g.sets) (sym old)) in
+    let cache = sym stands.cache in
     sym (need_alike n c r.before q.before r.kind same.before)
-    ∙ ap (need_of n c q.before) (sym same.kind)
-    ∙ ap (λ (s : State). need_of n c s q.kind) own
-    ∙ ap (λ (k : ℕ). need_of k c (state_of before.processor) q.kind) (sym sets)
-    ∙ ap (λ (d : Cache). need_of (size_of before.processor) d (state_of before.processor) q.kind) (sym stands.cache)
+    ∙ (λ i. need_of (size i) (cache i) (own i) (sym same.kind i))
     ∙ sym is
 
 -- no record waits for a turn of its own
 pub waits_for_none : (n : ℕ) (c : Cache) (s : State) (k : Kind) → (need_of n c s k).not_before ≡ 0
 unfolding need_of
-waits_for_none n c s (Instruction i) = refl
 waits_for_none n c s (Faulted None fault) = refl
 waits_for_none n c s (Faulted (Some i) fault) = refl
-waits_for_none n c s (Entered e) = refl
-waits_for_none n c s (Interrupted x e) = refl
-waits_for_none n c s (Reached e u) = refl
+waits_for_none n c s _ = refl
 
 -- ---- a record issues
 
@@ -74,46 +81,50 @@ still_puts : (n : ℕ) (c : Cache) (a : Action) → a.move ≡ Stays → puts_of
 still_puts n c a stays = ap (λ (v : Move). move_writes n c v ++ a.writes) stays
 
 -- before it does, there is room for it
-pub clear_need : (g : Given) (h : List Item) (before : Machine) (r : Record) (need : Need) → StandsFor g h None before
-    → comes_next g h ≡ Does r → (ahead g h).imprecise ≡ None → (ahead g h).turn ≤ before.turn
-    → record_need g.sets (cache_after g (records_of h)) r ≡ need
-    → IsClear (kernel_of before).cells (queue_of before.processor) need
-clear_need g h before r need stands is_next precise now is_need =
-    subst (IsClear (kernel_of before).cells (queue_of before.processor))
+pub clear_need : (g : Given) (h : List Item) (k : Contents) (r : Record) (need : Need) → Stand g h None k
+    → comes_next g h ≡ Does r → (ahead g h).imprecise ≡ None → (ahead g h).turn ≤ k.turn
+    → record_need g.sets (cache_after g (records_of h)) r ≡ need → IsClear (kernel_of k).cells k.queue need
+clear_need g h k r need stands is_next precise now is_need =
+    subst (IsClear (kernel_of k).cells k.queue)
     (ap (need_ahead g.sets (cache_after g (records_of h))) is_next ∙ is_need)
-    (lands_clear g h (kernel_of before) stands.lands precise now)
+    (lands_clear g h (kernel_of k) stands.lands precise now)
 
 -- it is done when its need is, as it was placed
-pub placed_done : (g : Given) (h : List Item) (before : Machine) (r : Record) (need : Need) (p : Placed) (b : Pending) → StandsFor g h None before
-    → record_need g.sets (cache_after g (records_of h)) r ≡ need
-    → IsPlaced before.board (waiting_until before.floor need) p b → (late_after g h r).timed.done ≡ p.done
-placed_done g h before r need p b stands is_need placed =
+pub placed_done : (g : Given) (h : List Item) (k : Contents) (r : Record) (need : Need) (p : Placed) (b : Pending)
+    → Stand g h None k → record_need g.sets (cache_after g (records_of h)) r ≡ need
+    → IsPlaced k.at.board (waiting_until k.at.floor need) p b → (late_after g h r).timed.done ≡ p.done
+placed_done g h k r need p b stands is_need placed =
     let rs = turns (course g h).late in
     (placed_turns g h r need p b is_need
     (subst (λ (t : ℕ). board.StandsFor b (placed_record (waiting_until t need) p ∷ rs)) stands.lands.fence
     (placed rs stands.lands.board))).1
 
-module _ (g : Given) (h : List Item) (before m : Machine) (r q : Record) (need : Need)
-    (stands : StandsFor g h None before) (is_next : comes_next g h ≡ Does r) (same : AreRecordsAlike r q)
-    (precise : (ahead g h).imprecise ≡ None) (now : (ahead g h).turn ≤ before.turn)
-    (is_need : record_need g.sets (cache_after g (records_of h)) r ≡ need) (issued : IsIssued before need (action_done q) m)
-    (after : AreAlike r.after (state_of m.processor))
-    (cache : cache_of m.processor ≡ cache_after g (r ∷ records_of h)) where
+module _ (g : Given) (h : List Item) (old new : Machine) (r q : Record) (need : Need)
+    (stands : StandsFor g h None old) (is_next : comes_next g h ≡ Does r) (same : AreRecordsAlike r q)
+    (precise : (ahead g h).imprecise ≡ None) (now : (ahead g h).turn ≤ old.turn)
+    (is_need : record_need g.sets (cache_after g (records_of h)) r ≡ need)
+    (issued : IsIssued (contents_of old) need (action_done q) (contents_of new))
+    (alike : AreAlike r.after (state_of new.processor))
+    (cache : cache_of new.processor ≡ cache_after g (r ∷ records_of h)) where
+  abbrev before : Contents
+  before = contents_of old
+
+  abbrev after : Contents
+  after = contents_of new
+
   abbrev held : Cache
   held = cache_after g (records_of h)
 
   abbrev sets : ℕ
   sets = sets_in g.sets r.before
 
-  needs : (late_after g h r).timed.need ≡ waiting_until before.floor need
-  needs =
-      ap (waiting_until (course g h).fence) is_need
-      ∙ ap (λ (t : ℕ). waiting_until t need) (sym stands.lands.fence)
+  needs : (late_after g h r).timed.need ≡ waiting_until before.at.floor need
+  needs = λ i. waiting_until (sym stands.lands.fence i) (is_need i)
 
   done : (late_after g h r).timed.done ≡ issued.placed.done
-  done = placed_done g h before r need issued.placed m.board stands is_need issued.board
+  done = placed_done g h before r need issued.placed after.at.board stands is_need issued.board
 
-  clear : IsClear (kernel_of before).cells (queue_of before.processor) need
+  clear : IsClear (kernel_of before).cells before.queue need
   clear = clear_need g h before r need stands is_next precise now is_need
 
   acted : action_done q ≡ action_done r
@@ -130,67 +141,57 @@ module _ (g : Given) (h : List Item) (before m : Machine) (r q : Record) (need :
       let is : x.timed.done ≡ issued.placed.done = done in
       omega (arith, issue, in_time, takes, is)
 
-  cells_issued : (c : ℕ) → c < resources → (kernel_of m).cells c
-      ≡ issued_cell (late_after g h r).timed.need.writes (late_after g h r).timed.done c (resource r.after c) ((kernel_of before).cells c)
+  cells_issued : (c : ℕ) → c < resources → (kernel_of after).cells c
+      ≡ issued_cell (late_after g h r).timed.need.writes (late_after g h r).timed.done c (resource r.after c)
+      ((kernel_of before).cells c)
   cells_issued c lt =
-      ap (λ (t : ℕ). landed t (cells_of m.processor c)) issued.turn
-      ∙ ap (landed before.turn) (issued.acts.cells c lt)
-      ∙ issued_shows before.turn need.writes issued.placed.done c (resource (state_of m.processor) c) (cells_of before.processor c)
-      later (clear.plans c lt)
-      ∙ ap (λ (v : ℕ). issued_cell need.writes issued.placed.done c v ((kernel_of before).cells c))
-      (ap (λ (s : State). resource s c) after.rest)
-      ∙ ap (λ (t : ℕ). issued_cell need.writes t c (resource r.after c) ((kernel_of before).cells c)) (sym done)
-      ∙ ap (λ (n : Need). issued_cell n.writes (late_after g h r).timed.done c (resource r.after c) ((kernel_of before).cells c))
-      (sym needs)
+      (λ i. landed (issued.keeps i).turn (issued.acts.cells c lt i))
+      ∙ issued_shows before.turn need.writes issued.placed.done c (resource after.at.state c) (before.cells c) later
+      (clear.plans c lt)
+      ∙ λ i. issued_cell (sym needs i).writes (sym done i) c (resource (alike.rest i) c) ((kernel_of before).cells c)
 
-  waiting : (late_after g h r).timed.need.request ≡ true → (bytes_of m.processor ≡ bytes_of before.processor)
-      × (queue_of m.processor ≡ queue_of before.processor ++ wait_of (late_after g h r) ∷ [])
+  waiting : (late_after g h r).timed.need.request ≡ true → (after.bytes ≡ before.bytes)
+      × (after.queue ≡ before.queue ++ wait_of (late_after g h r) ∷ [])
   waiting e =
       let is : need.request ≡ true = sym (ap (λ (n : Need). n.request) needs) ∙ e in
       let was : (record_need g.sets held r).request ≡ true = ap (λ (n : Need). n.request) is_need ∙ is in
       let stays = (need_requests sets held r.before r.kind was).0 in
       let puts : (late_after g h r).puts ≡ (action_done q).writes =
       still_puts sets held (action_done r) stays ∙ ap (λ (a : Action). a.writes) (sym acted) in
-      let w = issued.acts.waits is in (
-        w.0,
-        w.1
-            ∙ ap (λ (ps : List (ℕ × ℕ)). queue_of before.processor ++ record { puts = ps; due = issued.placed.done } ∷ []) (sym puts)
-            ∙ ap (λ (t : ℕ). queue_of before.processor ++ record { puts = (late_after g h r).puts; due = t } ∷ []) (sym done),
-      )
+      let w = issued.acts.waits is in
+      (w.0, w.1 ∙ λ i. before.queue ++ record { puts = sym puts i; due = sym done i } ∷ [])
 
   acting : (late_after g h r).timed.need.request ≡ false
-      → (bytes_of m.processor ≡ stored (bytes_of before.processor) (late_after g h r).puts)
-      × (queue_of m.processor ≡ queue_of before.processor)
+      → (after.bytes ≡ stored before.bytes (late_after g h r).puts) × (after.queue ≡ before.queue)
   acting e = by_barrier need.barrier refl
     where
       is : need.request ≡ false
       is = sym (ap (λ (n : Need). n.request) needs) ∙ e
 
-      queue : queue_of m.processor ≡ queue_of before.processor
+      queue : after.queue ≡ before.queue
       queue = issued.acts.acts is
 
       by_barrier : (b : Bool) → need.barrier ≡ b
-          → (bytes_of m.processor ≡ stored (bytes_of before.processor) (late_after g h r).puts)
-          × (queue_of m.processor ≡ queue_of before.processor)
+          → (after.bytes ≡ stored before.bytes (late_after g h r).puts) × (after.queue ≡ before.queue)
       by_barrier true barrier =
           let none = clear.drained barrier in
-          let bytes : bytes_of m.processor ≡ (cache_after g (r ∷ records_of h)).behind.bytes =
-          drained_bytes m.processor (queue ∙ none) ∙ ap (λ (c : Cache). c.behind.bytes) cache in
-          (acts_at_once g h r (kernel_of before) (kernel_of m) stands.lands none bytes, queue)
+          let bytes = drained_bytes new.processor (queue ∙ none) ∙ ap (λ (c : Cache). c.behind.bytes) cache in
+          (acts_at_once g h r (kernel_of before) (kernel_of after) stands.lands none bytes, queue)
       by_barrier false barrier =
           let still = need_still sets held r.before r.kind (ap (λ (n : Need). n.request) is_need ∙ is)
           (ap (λ (n : Need). n.barrier) is_need ∙ barrier) in
           let quiet : IsStill (action_done q) = subst IsStill (sym acted)
           (record { writes = still.0; move = still.1; control = still.2 }) in
           let puts : (late_after g h r).puts ≡ [] = still_puts sets held (action_done r) still.1 ∙ still.0 in
-          (issued.acts.still is quiet ∙ sym (stored-none (bytes_of before.processor)) ∙ ap (stored (bytes_of before.processor)) (sym puts), queue)
+          (issued.acts.still is quiet ∙ sym (stored-none before.bytes) ∙ ap (stored before.bytes) (sym puts), queue)
 
-  pub issued_lands : Lands g (Step r ∷ h) (kernel_of m)
-  issued_lands = issues_lands g h r (kernel_of before) (kernel_of m) stands.lands precise is_next now (record {
-    board = λ rs b. subst (λ (n : Need). board.StandsFor m.board (with_need rs n)) (sym needs) (issued.timed rs b);
-    turn = issued.turn;
-    floor = issued.floor;
-    done = issued.done ∙ sym done;
+  pub issued_lands : Lands g (Step r ∷ h) (kernel_of after)
+  issued_lands = issues_lands g h r (kernel_of before) (kernel_of after) stands.lands precise is_next now (record {
+    board = λ rs b. subst (λ (n : Need). board.StandsFor after.at.board (with_need rs n)) (sym needs)
+        (issued.timed rs b);
+    turn = λ i. (issued.keeps i).turn;
+    floor = λ i. (issued.keeps i).at.floor;
+    done = (λ i. (issued.keeps i).done) ∙ sym done;
     cells = cells_issued;
     waits = waiting;
     acts = acting;
@@ -201,66 +202,130 @@ module _ (g : Given) (h : List Item) (before m : Machine) (r q : Record) (need :
   shades_same : shades (late_after g h r) ≡ shades_need need
   shades_same = ap shades_need needs
 
-  size_is : size_of before.processor ≡ sets
+  size_is : before.at.size ≡ sets
   size_is =
-      let was = (next_comes g.length (due_after (records_of h)) (event_ahead g h) (state_after g (records_of h)) r is_next).0 in
-      stands.size ∙ ap (sets_in g.sets) (sym (ap (λ (x : Record). x.before) was))
+      let was = (next_comes g.length (due_after (records_of h)) (event_ahead g h)
+      (state_after g (records_of h)) r is_next).0 in
+      stands.size ∙ ap (λ (x : Record). sets_in g.sets x.before) (sym was)
 
-  same_puts : puts_of (size_of before.processor) (cache_of before.processor) (action_done q) ≡ (late_after g h r).puts
-  same_puts =
-      ap (λ (n : ℕ). puts_of n (cache_of before.processor) (action_done q)) size_is
-      ∙ ap (λ (c : Cache). puts_of sets c (action_done q)) stands.cache
-      ∙ ap (puts_of sets held) acted
+  same_puts : puts_of before.at.size before.at.cache (action_done q) ≡ (late_after g h r).puts
+  same_puts = λ i. puts_of (size_is i) (stands.cache i) (acted i)
 
   -- nothing waits before a barrier
-  all_acted : shades_need need ≡ true → bytes_of before.processor ≡ settled_memory (boot g.image).memory.bytes (course g h).late
+  all_acted : shades_need need ≡ true → before.bytes ≡ settled_memory (boot g.image).memory.bytes (course g h).late
   all_acted is =
-      drained_bytes before.processor (clear.drained (and_parts _ _ is).0)
+      drained_bytes old.processor (clear.drained (and_parts _ _ is).0)
       ∙ ap (λ (c : Cache). c.behind.bytes) stands.cache
       ∙ sym (course_settles g h)
 
-  pub issued_shaded : IsShaded (boot g.image).memory.bytes (late_after g h r ∷ (course g h).late) m.shade
+  pub issued_shaded : IsShaded (boot g.image).memory.bytes (late_after g h r ∷ (course g h).late) after.shade
   issued_shaded = elim (cases_Bool (shades_need need)) [
     | inl is ↦
-        record_hides (boot g.image).memory.bytes (late_after g h r) (course g h).late m.shade
-        (subst (λ (f : ℕ → ℕ). Hides f (late_after g h r).puts m.shade.pieces) (all_acted is)
-        (subst (λ (ps : List (ℕ × ℕ)). Hides (bytes_of before.processor) ps m.shade.pieces) same_puts (issued.hides.bytes is)))
+        record_hides (boot g.image).memory.bytes (late_after g h r) (course g h).late after.shade
+        (subst₂ (λ (f : ℕ → ℕ) (ps : List (ℕ × ℕ)). Hides f ps after.shade.pieces) (all_acted is) same_puts
+        (issued.hides.bytes is))
         (issued.hides.due is ∙ sym done) (shades_same ∙ is)
     | inr beside ↦
-        record_leaves (boot g.image).memory.bytes (late_after g h r) (course g h).late m.shade (shades_same ∙ beside)
+        record_leaves (boot g.image).memory.bytes (late_after g h r) (course g h).late after.shade
+        (shades_same ∙ beside)
         (subst (IsShaded (boot g.image).memory.bytes (course g h).late) (sym (issued.hides.keeps beside)) stands.shaded)
   ]
 
 -- ---- turns stay small
 
 -- a record leaves less
-pub left_less : (g : Given) (h : List Item) (r : Record) → (state_after g (records_of h)).count ≤ g.length → comes_next g h ≡ Does r
-    → left_after g (r ∷ records_of h) < left_after g (records_of h)
+pub left_less : (g : Given) (h : List Item) (r : Record) → (state_after g (records_of h)).count ≤ g.length
+    → comes_next g h ≡ Does r → left_after g (r ∷ records_of h) < left_after g (records_of h)
 left_less g h r within is =
     let rs = records_of h in
     let s = state_after g rs in
     let place = length (reached_after rs) in
-    let leaves = next_leaves g.length g.plan place (due_after rs) (event_ahead g h) s r (standing_by_place g.plan place s.count (instruction_turn g h)) is in
+    let leaves = next_leaves g.length g.plan place (due_after rs) (event_ahead g h) s r
+    (standing_by_place g.plan place s.count (instruction_turn g h)) is in
     let comes = next_comes g.length (due_after rs) (event_ahead g h) s r is in
     let before : r.before ≡ s = ap (λ (x : Record). x.before) comes.0 in
     subst (λ (n : ℕ). left_in g.length (drop n g.plan) (due_by r.kind r.before) r.after < left_after g rs)
     (sym (length-append (reached_after rs) (reached_by r.kind r.before))) (leaves.less within)
 
 -- a record that issues comes no further than it may
-pub issued_paced : (before m : Machine) (need : Need) (a : Action) (left now : ℕ) → IsIssued before need a m → need.not_before ≡ 0 → now < left
-    → IsPaced before left → IsPaced m now
-issued_paced before m need a left now i none less p =
+pub issued_paced : (before after : Contents) (need : Need) (a : Action) (left now : ℕ) → IsIssued before need a after
+    → need.not_before ≡ 0 → now < left → IsPaced before.at.board before.turn before.at.floor left
+    → IsPaced after.at.board after.turn after.at.floor now
+issued_paced before after need a left now i none less p =
     let cost : need.cost ≤ most_turns = i.cost in
     let far : p.bound + 2 ^ 8 * left < 2 ^ 62 = p.far in
-    let turn : m.turn ≡ before.turn = i.turn in
-    let floor : m.floor ≡ before.floor = i.floor in
-    let turn_was : before.turn ≤ p.bound = p.turn in
-    let floor_was : before.floor ≤ p.bound = p.floor in
-    let waited : max before.floor need.not_before ≤ p.bound = omega (arith, none, floor_was) in
+    let turn : after.turn ≡ before.turn = λ j. (i.keeps j).turn in
+    let floor : after.at.floor ≡ before.at.floor = λ j. (i.keeps j).at.floor in
+    let turn_was : before.turn ≤ p.bound = p.now in
+    let floor_was : before.at.floor ≤ p.bound = p.fence in
     record {
       bound = p.bound + need.cost;
       far = omega (arith, cost, far, less);
-      done = i.bound p.bound p.done waited;
-      turn = omega (arith, turn, turn_was);
-      floor = omega (arith, floor, floor_was);
+      done = i.bound p.bound p.done (omega (arith, none, floor_was));
+      now = omega (arith, turn, turn_was);
+      fence = omega (arith, floor, floor_was);
     }
+
+-- a step's need covers what it changes
+pub step_covers : (at : Situation) (plan : Plan) (step : Performed) (need : Need) (e : Effect) → IsStep at plan step need e
+    → IsCovered need.writes at.state (action_in at.state e)
+step_covers at plan step need e is =
+    subst (λ (n : Need). IsCovered n.writes at.state (action_in at.state e)) (sym is.is_need)
+    (subst (IsCovered (need_of at.size at.cache at.state is.kind).writes at.state) (sym is.effect.same)
+    (need_covers at.size at.cache at.state is.kind))
+
+-- what is neither a request nor a barrier stores nothing
+still_step : (at : Situation) (plan : Plan) (step : Performed) (need : Need) (e : Effect) → IsStep at plan step need e
+    → need.request ≡ false → need.barrier ≡ false → IsStill (action_in at.state e)
+still_step at plan step need e is request barrier =
+    let still = need_still at.size at.cache at.state is.kind (ap (λ (n : Need). n.request) (sym is.is_need) ∙ request)
+    (ap (λ (n : Need). n.barrier) (sym is.is_need) ∙ barrier) in
+    subst IsStill (sym is.effect.same) (record { writes = still.0; move = still.1; control = still.2 })
+
+-- what can act with the turns of a need
+abbrev CanActBy : Machine → Effect → Need → Type 0
+CanActBy m e n =
+    (p : Placed) (b : Pending) → IsPlaced m.board n p b → CanAct m.processor
+    (record { writes = n.writes; done = p.done; request = n.request }) e
+
+-- a step can act with the turns that its need is placed with
+pub step_acts : (m : Machine) (plan : Plan) (step : Performed) (need : Need) (e : Effect)
+    → m.need ≡ waiting_until m.floor need → HasCome (contents_of m) plan → IsStep (situation m) plan step need e
+    → CanActPlaced m e
+step_acts m plan step need e fenced u is = subst (CanActBy m e) (sym fenced) by_need
+  where
+    by_barrier : (c : Bool) → need.barrier ≡ c → (need.barrier ≡ true → IsDrained m.processor) → need.request ≡ false
+        → IsDrained m.processor ⊎ IsStill (action_in (situation m).state e)
+    by_barrier true barrier drained request = inl (drained barrier)
+    by_barrier false barrier drained request = inr (still_step (situation m) plan step need e is request barrier)
+
+    by_need : CanActBy m e (waiting_until m.floor need)
+    by_need p b placed =
+        let g = u.given in
+        let h = u.items in
+        let j = contents_of m in
+        let q = record_of is.kind j.at.state in
+        let found = does_alike (comes_next g h) (next_for j.at plan) q
+        (beside g h j plan u.stands u.follows) is.is_next in
+        let r = found.0 in
+        let run = next_free g.length (due_after (records_of h)) (event_ahead g h)
+        (state_after g (records_of h)) r found.1 in
+        let own = same_need g h j r q need u.stands found.2 (ap (λ (x : Record). x.before) run.0) refl is.is_need in
+        let clear = clear_need g h j r need u.stands found.1 u.precise u.now own in
+        let done = placed_done g h j r need p b u.stands own placed in
+        let waits : need.request ≡ true → CanWait m.processor p.done e = λ request.
+        let row = is.row request in
+        let order = request_last g h r (kernel_of j) u.stands.lands (ap (λ (n : Need). n.request) own ∙ request) in
+        record {
+          row = row.requests;
+          move = row.frames;
+          control = row.control;
+          few = clear.few request;
+          order = subst (λ (t : ℕ). AllByRecursion (λ w. w.due ≤ t) j.queue) done order;
+        } in
+        (waits, by_barrier need.barrier refl clear.drained)
+
+-- states that are alike show the same
+pub points_alike : (p : Option Point) (s t : State) → AreAlike s t → point_lines p t ≡ point_lines p s
+points_alike None s t alike = refl
+points_alike (Some kind) s t alike = ap (λ (v : View). Drained kind v ∷ []) (view_alike s t alike)

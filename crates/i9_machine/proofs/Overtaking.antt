@@ -1,5 +1,5 @@
--- An arithmetic fault whose entry is due while something is open: whether the instruction behind it overtakes it.
-use Rattle.std.proofs.Common.{◌≡◌, ℕ, ◌<◌, ◌≤◌, Bool, true, false, cond, ◌==◌, List, [], ◌∷◌, Option, Some, None, refl, sym, ap, ◌∙◌, arith}
+-- What comes next for a machine is what comes next in the run that it stands for, and whether that overtakes a fault.
+use Rattle.std.proofs.Common.{◌≡◌, ℕ, ◌<◌, ◌≤◌, Bool, true, false, cond, ◌==◌, List, [], ◌∷◌, Option, Some, None, refl, sym, ap, ◌∙◌, arith, subst}
 use Rattle.std.specs.Prelude.{nat_lt, ◌&&◌, not}
 use Rattle.std.proofs.lemmas.Bool.{lt-ltb}
 use Rattle.i9_isa.specs.declared.inst.Inst.{Inst}
@@ -9,28 +9,32 @@ use Rattle.i9_model.specs.declared.need.TimedNeed.{TimedNeed}
 use Rattle.i9_model.specs.declared.run.End.{End}
 use Rattle.i9_model.specs.declared.trace.Trace.{Trace}
 use Rattle.i9_model.specs.State.{State}
-use Rattle.i9_model.specs.Alike.{AreAlike}
+use Rattle.i9_model.specs.Alike.{AreAlike, AreNextAlike}
 use Rattle.i9_model.specs.HeldFrames.{Cache, sets_in, cache_after}
 use Rattle.i9_model.specs.Standing.{Standing, Meets, Refused, Faults, Runs, stands_at}
 use Rattle.i9_model.specs.Traced.{traced_action}
 use Rattle.i9_model.specs.Turns.{last_issue, issue_turn, end_turn, waiting_until}
 use Rattle.i9_model.specs.Turns as board
 use Rattle.i9_model.specs.Late.{turns}
-use Rattle.i9_model.specs.Run.{Given, Kind, Instruction, Faulted, Entered, Interrupted, Reached, Record, fault_at, due_in, due_by, due_after, next_by_standing, state_after}
-use Rattle.i9_agree.proofs.AlikeSteps.{IsBlind, agree-alike}
+use Rattle.i9_model.specs.Run.{Given, Kind, Instruction, Faulted, Entered, Interrupted, Reached, Record, fault_at, due_in, due_by, due_after, next_by_standing, state_after, Next, next_in}
+use Rattle.i9_agree.proofs.AlikeSteps.{IsBlind, agree-alike, next_alike}
 use Rattle.i9_agree.proofs.AgreeStands.{stands-same}
 use Rattle.i9_agree.proofs.BlindRuns.{blind-after}
 use Rattle.i9_course.specs.NeedOf.{need_of, need_ahead}
-use Rattle.i9_course.specs.Course.{Item, IsCourse, records_of, course, instruction_ahead, issue_of_next, late_fault, last_fault, last_done, to_issue, ahead}
+use Rattle.i9_course.specs.Course.{Item, IsCourse, records_of, course, instruction_ahead, issue_of_next, late_fault, last_fault, last_done, to_issue, ahead, instruction_turn, event_ahead, comes_next}
 use Rattle.i9_course.proofs.Ahead.{imprecise_overtaken, precise_by}
 use Rattle.i9_course.proofs.Barriers.{next_barrier, last_reached}
 use Rattle.i9_course.proofs.NeedAlike.{need_alike}
 use Rattle.i9_course.proofs.Orderly.{course_events}
 use Rattle.i9_plan.specs.Open.{WaitsForAll, NeedsAhead}
-use Rattle.i9_processor.specs.State.{state_of, cache_of, size_of}
-use Rattle.i9_machine.specs.declared.machine.Machine.{Machine}
-use Rattle.i9_machine.specs.StandsFor.{StandsFor}
-use Rattle.i9_machine.specs.Overtaking.{late_entry, late_due, IsNeedAhead, IssuesAhead}
+use Rattle.i9_machine.specs.Contents.{Situation, Contents}
+use Rattle.i9_machine.specs.StandsFor.{Stand, Follows}
+use Rattle.i9_machine.specs.Overtaking.{late_entry, late_due, IssuesAhead}
+use Rattle.i9_model.specs.ScheduleText.{standing_by}
+use Rattle.i9_agree.proofs.SoundRuns.{sound-after}
+use Rattle.i9_turns.proofs.TurnPending.{stands-pending_turn}
+use Rattle.i9_schedule.specs.Plan.{Plan}
+use Rattle.i9_machine.specs.Step.{need_at, turn_at, event_for, next_for}
 
 -- ---- the last fault, by what is due
 
@@ -46,24 +50,20 @@ kind_fault (Faulted inst fault) s = by_kind (fault.kind == ARITHMETIC)
     by_kind : (b : Bool) → cond b (Some fault.address) None ≡ cond (not b) None (Some fault.address)
     by_kind true = refl
     by_kind false = refl
-kind_fault (Entered e) s = refl
-kind_fault (Interrupted c e) s = refl
-kind_fault (Reached e u) s = refl
+kind_fault _ s = refl
 
 -- the entry of an arithmetic fault is due where the last record is one
 entry_fault : (rs : List Record) → late_entry (due_after rs) ≡ last_fault rs
 entry_fault [] = refl
 entry_fault (r ∷ rs) = kind_fault r.kind r.before
 
--- the same for a machine, within the length
-late_is : (g : Given) (h : List Item) (m : Machine) → StandsFor g h None m
-    → late_due m ≡ cond (nat_lt (state_after g (records_of h)).count g.length) (last_fault (records_of h)) None
-late_is g h m stands =
-    let rs = records_of h in
-    ap (λ (s : State). cond (nat_lt s.count m.length) (late_entry m.due) None) stands.state.rest
-    ∙ ap (λ (n : ℕ). cond (nat_lt (state_after g rs).count n) (late_entry m.due) None) stands.length
-    ∙ ap (λ (o : Option ℕ). cond (nat_lt (state_after g rs).count g.length) o None)
-    (ap late_entry stands.due ∙ entry_fault rs)
+-- the same for contents, within the length
+late_is : (g : Given) (h : List Item) (k : Contents) → Stand g h None k
+    → late_due k.at ≡ cond (nat_lt (state_after g (records_of h)).count g.length) (last_fault (records_of h)) None
+late_is g h k stands =
+    (λ i. cond (nat_lt (stands.state.rest i).count (stands.length i)) (late_entry (stands.due i)) None)
+    ∙ ap (λ (o : Option ℕ). cond (nat_lt (state_after g (records_of h)).count g.length) o None)
+    (entry_fault (records_of h))
 
 none_by : (b c : Bool) (o : Option ℕ) → cond b o None ≡ None → cond (b && c) o None ≡ None
 none_by true true o h = h
@@ -71,23 +71,23 @@ none_by true false o h = refl
 none_by false c o h = refl
 
 -- where none is due, none is imprecise
-pub calm_precise : (g : Given) (h : List Item) (m : Machine) → StandsFor g h None m → late_due m ≡ None
+pub calm_precise : (g : Given) (h : List Item) (k : Contents) → Stand g h None k → late_due k.at ≡ None
     → (ahead g h).imprecise ≡ None
-calm_precise g h m stands none =
+calm_precise g h k stands none =
     none_by (nat_lt (state_after g (records_of h)).count g.length) _ (last_fault (records_of h))
-    (sym (late_is g h m stands) ∙ none)
+    (sym (late_is g h k stands) ∙ none)
 
 both_some : (b : Bool) (o : Option ℕ) (a : ℕ) → cond b o None ≡ Some a → (b ≡ true) × (o ≡ Some a)
 both_some true o a h = (refl, h)
 both_some false o a h = absurd (cc h)
 
 -- where one is due, it is imprecise if it is overtaken
-late_imprecise : (g : Given) (h : List Item) (m : Machine) (a : ℕ) → StandsFor g h None m → late_due m ≡ Some a
+late_imprecise : (g : Given) (h : List Item) (k : Contents) (a : ℕ) → Stand g h None k → late_due k.at ≡ Some a
     → issue_of_next g h (instruction_ahead (state_after g (records_of h))) < last_done (course g h).late
     → (ahead g h).imprecise ≡ Some a
-late_imprecise g h m a stands late before =
+late_imprecise g h k a stands late before =
     let both = both_some (nat_lt (state_after g (records_of h)).count g.length) (last_fault (records_of h)) a
-    (sym (late_is g h m stands) ∙ late) in
+    (sym (late_is g h k stands) ∙ late) in
     let issue = issue_of_next g h (instruction_ahead (state_after g (records_of h))) in
     ap (λ (b : Bool). cond (b && nat_lt issue (last_done (course g h).late)) (last_fault (records_of h)) None) both.0
     ∙ ap (λ (b : Bool). cond b (last_fault (records_of h)) None) (lt-ltb issue (last_done (course g h).late) before)
@@ -122,7 +122,8 @@ standing_alike : (s t : State) → IsBlind s → AreAlike s t → stands_at t �
 standing_alike s t blind alike =
     let agree = agree-alike s t blind alike in
     ap stands_at agree.rest
-    ∙ stands-same false s t.regs t.memory.bytes t.reading (record { regs = agree.regs; bytes = agree.bytes; reading = agree.reading })
+    ∙ stands-same false s t.regs t.memory.bytes t.reading
+    (record { regs = agree.regs; bytes = agree.bytes; reading = agree.reading })
 
 pub ahead_need : (asked : Option ℕ) (c : Cache) (s t : State) → IsBlind s → AreAlike s t
     → need_ahead asked c (instruction_ahead t) ≡ need_ahead asked c (instruction_ahead s)
@@ -131,76 +132,116 @@ ahead_need asked c s t blind alike =
     ∙ standing_need asked c s t alike (stands_at s)
 
 -- it issues at the turn that the scoreboard gives its need
-pub ahead_issues : (m : Machine) (need : Need) (t : ℕ) → IsNeedAhead m need
-    → ((rs : List TimedNeed) → board.StandsFor m.board rs → t ≡ issue_turn (last_issue rs) rs (waiting_until m.floor need))
-    → IssuesAhead m t
-ahead_issues m need t is turn g h stands =
+pub ahead_issues : (k : Contents) (need : Need) (t : ℕ) → NeedsAhead k.at.state need
+    → ((rs : List TimedNeed) → board.StandsFor k.at.board rs
+    → t ≡ issue_turn (last_issue rs) rs (waiting_until k.at.floor need))
+    → IssuesAhead k t
+ahead_issues k need t is turn g h stands =
     let rs = turns (course g h).late in
-    let s = state_after g (records_of h) in
     let c = cache_after g (records_of h) in
-    turn rs stands.lands.board
-    ∙ ap (λ (f : ℕ). issue_turn (last_issue rs) rs (waiting_until f need)) stands.lands.fence
-    ∙ ap (λ (n : Need). issue_turn (last_issue rs) rs (waiting_until (course g h).fence n))
-    (sym (is.ahead g.sets c) ∙ ahead_need g.sets c s (state_of m.processor) (course_blind g h stands.past) stands.state)
+    let same = sym (is g.sets c) ∙ ahead_need g.sets c (state_after g (records_of h)) k.at.state
+    (course_blind g h stands.past) stands.state in
+    turn rs stands.lands.board ∙ λ i. issue_turn (last_issue rs) rs (waiting_until (stands.lands.fence i) (same i))
 
 -- where it waits for all, it overtakes nothing
-pub waits_precise : (g : Given) (h : List Item) (m : Machine) → StandsFor g h None m
-    → WaitsForAll (state_of m.processor) (stands_at (state_of m.processor)) → (ahead g h).imprecise ≡ None
-waits_precise g h m stands waits =
+pub waits_precise : (g : Given) (h : List Item) (k : Contents) → Stand g h None k
+    → WaitsForAll k.at.state (stands_at k.at.state) → (ahead g h).imprecise ≡ None
+waits_precise g h k stands waits =
     let s = state_after g (records_of h) in
     let c = cache_after g (records_of h) in
-    let barrier = sym (ap (λ (n : Need). n.barrier) (ahead_need g.sets c s (state_of m.processor) (course_blind g h stands.past) stands.state)) ∙ waits g.sets c in
-    let turn : issue_of_next g h (instruction_ahead s) ≡ end_turn (turns (course g h).late) = next_barrier g h (instruction_ahead s) barrier in
+    let barrier = sym (ap (λ (n : Need). n.barrier)
+    (ahead_need g.sets c s k.at.state (course_blind g h stands.past) stands.state)) ∙ waits g.sets c in
+    let turn : issue_of_next g h (instruction_ahead s) ≡ end_turn (turns (course g h).late) = next_barrier g h
+    (instruction_ahead s) barrier in
     let reached : last_done (course g h).late ≤ end_turn (turns (course g h).late) = last_reached (course g h).late in
     precise_by g h (omega (arith, turn, reached))
 
 -- where it would not issue before the last record is done, neither
-pub later_precise : (g : Given) (h : List Item) (m : Machine) (t : ℕ) → StandsFor g h None m → IssuesAhead m t
-    → m.done ≤ t → (ahead g h).imprecise ≡ None
-later_precise g h m t stands issues le =
+pub later_precise : (g : Given) (h : List Item) (k : Contents) (t : ℕ) → Stand g h None k → IssuesAhead k t → k.done ≤ t
+    → (ahead g h).imprecise ≡ None
+later_precise g h k t stands issues le =
     let is : t ≡ issue_of_next g h (instruction_ahead (state_after g (records_of h))) = issues g h stands in
-    let last : m.done ≡ last_done (course g h).late = stands.lands.last in
+    let last : k.done ≡ last_done (course g h).late = stands.lands.last in
     precise_by g h (omega (arith, is, last, le))
 
 -- nor where all records are done
-pub drained_precise : (g : Given) (h : List Item) (m : Machine) → StandsFor g h None m
-    → end_turn (turns (course g h).late) ≤ m.turn → (ahead g h).imprecise ≡ None
-drained_precise g h m stands le = by_fault (ahead g h).imprecise refl
+pub drained_precise : (g : Given) (h : List Item) (k : Contents) → Stand g h None k
+    → end_turn (turns (course g h).late) ≤ k.turn → (ahead g h).imprecise ≡ None
+drained_precise g h k stands le = by_fault (ahead g h).imprecise refl
   where
     by_fault : (o : Option ℕ) → (ahead g h).imprecise ≡ o → (ahead g h).imprecise ≡ None
     by_fault None is = is
     by_fault (Some a) is =
         let before : (ahead g h).turn < last_done (course g h).late = (imprecise_overtaken g h a is).0 in
-        let in_time : m.turn ≤ (ahead g h).turn = stands.lands.in_time in
-        let reached : last_done (course g h).late ≤ end_turn (turns (course g h).late) = last_reached (course g h).late in
+        let in_time : k.turn ≤ (ahead g h).turn = stands.lands.in_time in
+        let reached : last_done (course g h).late ≤ end_turn (turns (course g h).late) = last_reached
+        (course g h).late in
         absurd (omega (arith, before, in_time, reached, le))
 
 -- where it would, the fault is imprecise, and the run ends at that turn
-pub sooner_imprecise : (g : Given) (h : List Item) (m : Machine) (a t : ℕ) → StandsFor g h None m → IssuesAhead m t
-    → late_due m ≡ Some a → t < m.done → ((ahead g h).imprecise ≡ Some a) × ((ahead g h).turn ≡ t)
-sooner_imprecise g h m a t stands issues late before =
+pub sooner_imprecise : (g : Given) (h : List Item) (k : Contents) (a t : ℕ) → Stand g h None k → IssuesAhead k t
+    → late_due k.at ≡ Some a → t < k.done → ((ahead g h).imprecise ≡ Some a) × ((ahead g h).turn ≡ t)
+sooner_imprecise g h k a t stands issues late before =
     let issue = issue_of_next g h (instruction_ahead (state_after g (records_of h))) in
     let is : t ≡ issue = issues g h stands in
-    let last : m.done ≡ last_done (course g h).late = stands.lands.last in
-    let fault = late_imprecise g h m a stands late (omega (arith, is, last, before)) in
+    let last : k.done ≡ last_done (course g h).late = stands.lands.last in
+    let fault = late_imprecise g h k a stands late (omega (arith, is, last, before)) in
     (fault, ap (λ (o : Option ℕ). issue_of_next g h (to_issue g h o)) fault ∙ sym is)
 
 -- ---- what it needs
 
 -- an instruction that runs
-pub runs_ahead : (m : Machine) (need : Need) (i : Inst) (known : Need) → stands_at (state_of m.processor) ≡ Runs i → NeedsAhead (state_of m.processor) known
-    → need ≡ need_of (size_of m.processor) (cache_of m.processor) (state_of m.processor) (Instruction i) → NeedsAhead (state_of m.processor) need
-runs_ahead m need i known stands ahead is asked c =
-    let s = state_of m.processor in
-    let n = size_of m.processor in
-    ahead asked c ∙ sym (ahead (Some n) (cache_of m.processor))
-    ∙ ap (λ (x : Standing). need_ahead (Some n) (cache_of m.processor) (next_by_standing s x)) stands
+pub runs_ahead : (at : Situation) (need : Need) (i : Inst) (known : Need) → stands_at at.state ≡ Runs i
+    → NeedsAhead at.state known → need ≡ need_of at.size at.cache at.state (Instruction i) → NeedsAhead at.state need
+runs_ahead at need i known stands ahead is asked c =
+    ahead asked c ∙ sym (ahead (Some at.size) at.cache)
+    ∙ ap (λ (x : Standing). need_ahead (Some at.size) at.cache (next_by_standing at.state x)) stands
     ∙ sym is
 
 -- one that faults
-pub faults_ahead : (m : Machine) (need : Need) (i : Inst) (number : ℕ × ℕ) → stands_at (state_of m.processor) ≡ Faults i number
-    → ((n : ℕ) (c : Cache) → need ≡ need_of n c (state_of m.processor) (Faulted (Some i) (fault_at (state_of m.processor) number)))
-    → NeedsAhead (state_of m.processor) need
-faults_ahead m need i number stands is asked c =
-    let s = state_of m.processor in
+pub faults_ahead : (s : State) (need : Need) (i : Inst) (number : ℕ × ℕ) → stands_at s ≡ Faults i number
+    → ((n : ℕ) (c : Cache) → need ≡ need_of n c s (Faulted (Some i) (fault_at s number))) → NeedsAhead s need
+faults_ahead s need i number stands is asked c =
     ap (λ (x : Standing). need_ahead asked c (next_by_standing s x)) stands ∙ sym (is (sets_in asked s) c)
+
+-- a number of sets that is the one that is asked for, or that the PRCB asks for
+standing_sets : (asked : Option ℕ) (n : ℕ) (c : Cache) (s : State) (x : Standing) → n ≡ sets_in asked s
+    → need_ahead (Some n) c (next_by_standing s x) ≡ need_ahead asked c (next_by_standing s x)
+standing_sets asked n c s (Meets a) is = refl
+standing_sets asked n c s (Refused number) is = ap (λ (k : ℕ). need_of k c s (Faulted None (fault_at s number))) is
+standing_sets asked n c s (Faults i number) is = ap (λ (k : ℕ). need_of k c s (Faulted (Some i) (fault_at s number))) is
+standing_sets asked n c s (Runs i) is = ap (λ (k : ℕ). need_of k c s (Instruction i)) is
+
+-- the instruction ahead needs the same
+same_need_at : (g : Given) (h : List Item) (k : Contents) → Stand g h None k
+    → need_at k.at ≡ need_ahead g.sets (cache_after g (records_of h)) (instruction_ahead (state_after g (records_of h)))
+same_need_at g h k stands =
+    let s = state_after g (records_of h) in
+    let c = cache_after g (records_of h) in
+    let size = stands.size ∙ sym (ap (sets_in g.sets) stands.state.rest) in
+    ap (λ (d : Cache). need_ahead (Some k.at.size) d (instruction_ahead k.at.state)) stands.cache
+    ∙ standing_sets g.sets k.at.size c k.at.state (stands_at k.at.state) size
+    ∙ ahead_need g.sets c s k.at.state (course_blind g h stands.past) stands.state
+
+-- so it would issue at the same turn
+pub same_turn_at : (g : Given) (h : List Item) (k : Contents) → Stand g h None k → turn_at k.at ≡ instruction_turn g h
+same_turn_at g h k stands =
+    let rs = turns (course g h).late in
+    stands-pending_turn k.at.board rs (waiting_until k.at.floor (need_at k.at)) stands.lands.board
+    ∙ λ i. issue_turn (last_issue rs) rs (waiting_until (stands.lands.fence i) (same_need_at g h k stands i))
+
+-- the event that stands there for contents stands there in the run
+same_event : (g : Given) (h : List Item) (k : Contents) (plan : Plan) → Stand g h None k → Follows g h plan
+    → event_for k.at plan ≡ event_ahead g h
+same_event g h k plan stands follows =
+    λ i. standing_by (follows.events i) (follows.place i) (stands.state.rest i).count (same_turn_at g h k stands i)
+
+-- what comes next for contents, beside what comes next in the run
+pub beside : (g : Given) (h : List Item) (k : Contents) (plan : Plan) → Stand g h None k → Follows g h plan
+    → AreNextAlike (comes_next g h) (next_for k.at plan)
+beside g h k plan stands follows =
+    let s = state_after g (records_of h) in
+    subst (λ (n : Next). AreNextAlike n (next_for k.at plan))
+    (λ i. next_in (stands.length i) (stands.due i) (same_event g h k plan stands follows i) s)
+    (next_alike k.at.length k.at.due (event_for k.at plan) s k.at.state
+    (sound-after g (records_of h) (course_events g h stands.past)) (course_blind g h stands.past) stands.state)

@@ -18,13 +18,8 @@ use Rattle.i9_machine.specs.StandsFor.{left_after}
 
 -- an event is little work
 event_few : (e : Event) → event_work e ≤ 2
-event_few (Pin x) = omega arith
-event_few (Low x) = omega arith
-event_few (High x) = omega arith
 event_few Nmi = omega arith
-event_few (Dma c) = omega arith
-event_few (Feed c bytes) = omega arith
-event_few (Show a n) = omega arith
+event_few _ = omega arith
 
 plan_few : (ts : List Timed) → plan_work ts ≤ 2 * length ts
 plan_few [] = omega arith
@@ -57,8 +52,8 @@ none_done = record { in_order = omega arith; done = tt }
 
 -- what lands late, before anything is done
 pub first_lands : (g : Given) (k : Kernel) → k.board ≡ pending_of [] → k.turn ≡ 1 → k.floor ≡ 0 → k.done ≡ 1
-    → ((r : ℕ) → r < resources → k.cells r ≡ cell (resource (boot g.image) r) None) → k.bytes ≡ (boot g.image).memory.bytes
-    → k.queue ≡ [] → Lands g [] k
+    → ((r : ℕ) → r < resources → k.cells r ≡ cell (resource (boot g.image) r) None)
+    → k.bytes ≡ (boot g.image).memory.bytes → k.queue ≡ [] → Lands g [] k
 first_lands g k board turn floor done cells bytes queue =
     let later : 1 ≤ (ahead g []).turn = ahead_later g [] in
     record {

@@ -10,14 +10,10 @@ use Rattle.i9_machine.specs.Step.{TellsRecord}
 pub issued_counts : (kind : Kind) (s : State) (t : Issued) → TellsRecord kind s (answers.Issued t) → counts_of kind ≡ 1
 issued_counts (Instruction i) s t h = refl
 issued_counts (Faulted inst fault) s t h = refl
-issued_counts (Entered e) s t h = absurd h
-issued_counts (Interrupted c e) s t h = absurd h
-issued_counts (Reached e u) s t h = absurd h
+issued_counts _ s t h = absurd h
 
 -- and no other one does
 pub on_counts : (kind : Kind) (s : State) → TellsRecord kind s answers.On → counts_of kind ≡ 0
 on_counts (Instruction i) s h = absurd h
 on_counts (Faulted inst fault) s h = absurd h
-on_counts (Entered e) s h = refl
-on_counts (Interrupted c e) s h = refl
-on_counts (Reached e u) s h = refl
+on_counts _ s h = refl

@@ -17,7 +17,7 @@ use Rattle.i9_model.specs.Turns.{last_issue}
 use Rattle.i9_turns.proofs.LateRegisters.{cell-busy}
 use Rattle.i9_course.specs.Course.{Item, Step, records_of, course, comes_next}
 use Rattle.i9_regs.proofs.Shown.{landed_busy}
-use Rattle.i9_processor.specs.State.{cells_of, bytes_of}
+use Rattle.i9_processor.specs.State.{cells_of, bytes_of, queue_of}
 use Rattle.i9_raw.specs.Raw.{raw_memory}
 use Rattle.i9_course.proofs.Orderly.{registers_settle}
 use Rattle.i9_raw.proofs.Landed.{course_shows, flushed_raw}
@@ -27,7 +27,8 @@ use Rattle.i9_machine.specs.declared.line.Raw.{Raw}
 use Rattle.i9_machine.specs.declared.line.Turn.{Turn}
 use Rattle.i9_machine.specs.declared.line.Turn.TheVariants as answers
 use Rattle.i9_machine.specs.declared.machine.Machine.{Machine}
-use Rattle.i9_machine.specs.Issuing.{kernel_of, IsQuiet}
+use Rattle.i9_machine.specs.Contents.{contents_of, kernel_of}
+use Rattle.i9_machine.specs.Issuing.{IsQuiet}
 use Rattle.i9_machine.specs.Line.{AddsLines, shown_of}
 use Rattle.i9_machine.specs.Progress.{Progress}
 use Rattle.i9_machine.specs.Raw.{raw_at, IsFlushed, IsLevel}
@@ -38,7 +39,8 @@ use Rattle.i9_machine.specs.Turned.{steps_on, Since, TurnsOn, EndsTurn, StopsTur
 
 -- ---- lines
 
-pub more_lines : (old mid new : List Line) (xs ys : List Shown) → AddsLines old mid xs → AddsLines mid new ys → AddsLines old new (xs ++ ys)
+pub more_lines : (old mid new : List Line) (xs ys : List Shown) → AddsLines old mid xs → AddsLines mid new ys
+    → AddsLines old new (xs ++ ys)
 more_lines old mid new xs ys first then =
     then ∙ ap (λ (ls : List Shown). ls ++ ys) first ∙ append_assoc (map shown_of old) xs ys
 
@@ -49,9 +51,11 @@ same_lines old mid new xs first same = ap (map shown_of) same ∙ first
 
 -- records were done since a machine, and a page that is new is one of them
 abbrev pub SinceOnly : Given → List Item → Progress → Progress → Type 0
-SinceOnly g h before after = (since : Since g h before after) × AddsRecordsOnly before.machine after.machine since.done
+SinceOnly g h before after =
+    (since : Since g h before after) × AddsRecordsOnly before.machine.processor after.machine.processor since.done
 
-pub none_done : (g : Given) (h : List Item) (at : Progress) → StandsFor g h None at.machine → Follows g h at.plan → SinceOnly g h at at
+pub none_done : (g : Given) (h : List Item) (at : Progress) → StandsFor g h None at.machine → Follows g h at.plan
+    → SinceOnly g h at at
 none_done g h at stands follows = (
   record {
     done = [];
@@ -60,19 +64,20 @@ none_done g h at stands follows = (
     follows = follows;
     lines = sym (append-nil (map shown_of at.lines));
   },
-  no_records at.machine,
+  no_records at.machine.processor,
 )
 
 module _ (g : Given) (h : List Item) (before mid : Progress) (held : SinceOnly g h before mid) (after : Progress)
-    (only : AddsNextOnly mid.machine after.machine (comes_next g (steps_on held.0.done h))) where
+    (only : AddsNextOnly mid.machine.processor after.machine.processor (comes_next g (steps_on held.0.done h))) where
   abbrev since : Since g h before mid
   since = held.0
 
   abbrev items : List Item
   items = steps_on since.done h
 
-  pages : AddsRecordsOnly before.machine after.machine (with_next (comes_next g items) since.done)
-  pages = more_pages before.machine mid.machine after.machine since.done (comes_next g items) held.1 only
+  pages : AddsRecordsOnly before.machine.processor after.machine.processor (with_next (comes_next g items) since.done)
+  pages = more_pages before.machine.processor mid.machine.processor after.machine.processor since.done
+      (comes_next g items) held.1 only
 
   -- one more
   pub does_since : (answer : Turn) → DoesNext g items answer mid after → SinceOnly g h before after
@@ -82,9 +87,11 @@ module _ (g : Given) (h : List Item) (before mid : Progress) (held : SinceOnly g
       turn = d.turn ∙ since.turn;
       stands = d.stands;
       follows = d.follows;
-      lines = more_lines before.lines mid.lines after.lines (lines_of since.done) (record_lines d.done) since.lines d.lines;
+      lines = more_lines before.lines mid.lines after.lines (lines_of since.done)
+          (record_lines d.done) since.lines d.lines;
     },
-    subst (λ (n : Next). AddsRecordsOnly before.machine after.machine (with_next n since.done)) d.is_next pages,
+    subst (λ (n : Next). AddsRecordsOnly before.machine.processor after.machine.processor (with_next n since.done))
+    d.is_next pages,
   )
 
   -- the turn moves
@@ -114,7 +121,8 @@ module _ (g : Given) (h : List Item) (before mid : Progress) (held : SinceOnly g
     now = d.now ∙ since.turn;
     stands = d.stands;
     follows = d.follows;
-    lines = more_lines before.lines mid.lines after.lines (lines_of since.done) (end_lines (state_after g (records_of items)) d.finish) since.lines d.lines;
+    lines = more_lines before.lines mid.lines after.lines (lines_of since.done)
+        (end_lines (state_after g (records_of items)) d.finish) since.lines d.lines;
     pages = pages;
   }
 
@@ -133,11 +141,13 @@ module _ (g : Given) (h : List Item) (before mid : Progress) (held : SinceOnly g
   }
 
   -- where the turn has risen it moved, and else an event or an entry was done
-  pub risen_since : Advances g items answers.On mid after → (after.machine.turn ≡ before.machine.turn → ⊥) → TurnsOn g h before after
+  pub risen_since : Advances g items answers.On mid after → (after.machine.turn ≡ before.machine.turn → ⊥)
+      → TurnsOn g h before after
   risen_since (inl moves) risen = turns_since moves
   risen_since (inr does) risen = absurd (risen (does.turn ∙ since.turn))
 
-  pub still_since : Advances g items answers.On mid after → after.machine.turn ≡ before.machine.turn → SinceOnly g h before after
+  pub still_since : Advances g items answers.On mid after → after.machine.turn ≡ before.machine.turn
+      → SinceOnly g h before after
   still_since (inl moves) still =
       let turn : after.machine.turn ≡ mid.machine.turn + 1 = moves.turn in
       let was_turn : mid.machine.turn ≡ before.machine.turn = since.turn in
@@ -145,17 +155,21 @@ module _ (g : Given) (h : List Item) (before mid : Progress) (held : SinceOnly g
   still_since (inr does) still = does_since answers.On does
 
 -- a machine is still under way
-pub does_under_way : (g : Given) (h : List Item) (answer : Turn) (before after : Progress) → DoesNext g h answer before after
-    → IsUnderWay after.machine after.plan
-does_under_way g h answer before after d = record { given = g; items = Step d.done ∷ h; stands = d.stands; follows = d.follows }
+pub does_under_way : (g : Given) (h : List Item) (answer : Turn) (before after : Progress)
+    → DoesNext g h answer before after → IsUnderWay after.machine after.plan
+does_under_way g h answer before after d =
+    record { given = g; items = Step d.done ∷ h; stands = d.stands; follows = d.follows }
 
-pub still_under_way : (g : Given) (h : List Item) (before after : Progress) → Advances g h answers.On before after → IsUnderWay after.machine after.plan
-still_under_way g h before after (inl moves) = record { given = g; items = h; stands = moves.stands; follows = moves.follows }
+pub still_under_way : (g : Given) (h : List Item) (before after : Progress) → Advances g h answers.On before after
+    → IsUnderWay after.machine after.plan
+still_under_way g h before after (inl moves) =
+    record { given = g; items = h; stands = moves.stands; follows = moves.follows }
 still_under_way g h before after (inr does) = does_under_way g h answers.On before after does
 
 -- ---- the raw state
 
-same_map : (f k : ℕ → ℕ) (a n : ℕ) → ((r : ℕ) → r < a + n → f r ≡ k r) → map f (range_with_len a n) ≡ map k (range_with_len a n)
+same_map : (f k : ℕ → ℕ) (a n : ℕ) → ((r : ℕ) → r < a + n → f r ≡ k r)
+    → map f (range_with_len a n) ≡ map k (range_with_len a n)
 same_map f k a zero same = refl
 same_map f k a (suc n) same =
     ap (λ (x : ℕ). x ∷ map f (range_with_len (a + 1) n)) (same a (omega arith))
@@ -172,12 +186,14 @@ same_set (suc n) p q same =
     ap (λ (b : Bool). set_below n p + cond b (2 ^ n) 0) (same n (omega arith))
     ∙ ap (λ (x : ℕ). x + cond (q n) (2 ^ n) 0) (same_set n p q (λ r lt. same r (omega (arith, lt))))
 
-shows_of : (g : Given) (h : List Item) (end : Option Finish) (m : Machine) → StandsFor g h end m
-    → Shows (boot g.image) m.turn (course g h).late (kernel_of m).cells (kernel_of m).bytes (kernel_of m).queue
+pub shows_of : (g : Given) (h : List Item) (end : Option Finish) (m : Machine) → StandsFor g h end m
+    → Shows (boot g.image) m.turn (course g h).late (kernel_of (contents_of m)).cells (bytes_of m.processor)
+    (queue_of m.processor)
 shows_of g h None m stands = stands.lands.shows
 shows_of g h (Some f) m stands = stands.lands.shows
 
-begun_of : (g : Given) (h : List Item) (end : Option Finish) (m : Machine) → StandsFor g h end m → last_issue (late_turns (course g h).late) ≤ m.turn
+begun_of : (g : Given) (h : List Item) (end : Option Finish) (m : Machine) → StandsFor g h end m
+    → last_issue (late_turns (course g h).late) ≤ m.turn
 begun_of g h None m stands = stands.lands.begun
 begun_of g h (Some f) m stands = stands.lands.begun
 
@@ -191,21 +207,22 @@ raw_is g h end m raw stands turn regs busy =
     let values = regs ∙ same_list (λ r. (landed m.turn (cells_of m.processor r)).value) (raw_value first m.turn late)
     (λ r lt. ap (λ (c : Cell). c.value) (shows.registers r (omega (arith, lt)))) in
     let marks = busy ∙ same_set 32 (λ r. is_plan_open m.turn (cells_of m.processor r).plan) (is_busy m.turn late)
-    (λ r lt. sym (landed_busy m.turn (cells_of m.processor r)) ∙ ap (λ (c : Cell). is_plan_open m.turn c.plan) (shows.registers r (omega (arith, lt))) ∙ cell-busy m.turn r late) in
-    ap (λ (t : ℕ). record { turn = t; regs = raw.regs; busy = raw.busy }) turn
-    ∙ ap (λ (rs : List ℕ). record { turn = m.turn; regs = rs; busy = raw.busy }) values
-    ∙ ap (λ (b : ℕ). record { turn = m.turn; regs = register_list (raw_value first m.turn late); busy = b }) marks
+    (λ r lt. sym (landed_busy m.turn (cells_of m.processor r)) ∙ ap (λ (c : Cell). is_plan_open m.turn c.plan)
+    (shows.registers r (omega (arith, lt))) ∙ cell-busy m.turn r late) in
+    λ i. record { turn = turn i; regs = values i; busy = marks i }
 
 -- a byte of raw memory
 pub raw_byte_is : (g : Given) (h : List Item) (end : Option Finish) (m : Machine) (a : ℕ) → StandsFor g h end m
-    → unwrap_or (shown m.shade a m.turn) (bytes_of m.processor a) ≡ raw_memory (boot g.image).memory.bytes m.turn (course g h).late a
+    → unwrap_or (shown m.shade a m.turn) (bytes_of m.processor a) ≡ raw_memory (boot g.image).memory.bytes m.turn
+    (course g h).late a
 raw_byte_is g h end m a stands =
     let shows = shows_of g h end m stands in
     ap (λ (f : ℕ → ℕ). unwrap_or (shown m.shade a m.turn) (f a)) shows.memory
     ∙ course_shows g h m.turn m.shade a (begun_of g h end m stands) stands.shaded
 
 -- where nothing is open and no frame is live
-pub raw_byte_flushed : (g : Given) (h : List Item) (end : Option Finish) (m : Machine) (a : ℕ) → StandsFor g h end m → IsFlushed g h m.turn a
+pub raw_byte_flushed : (g : Given) (h : List Item) (end : Option Finish) (m : Machine) (a : ℕ) → StandsFor g h end m
+    → IsFlushed g h m.turn a
     → unwrap_or (shown m.shade a m.turn) (bytes_of m.processor a) ≡ (state_after g (records_of h)).memory.bytes a
 raw_byte_flushed g h end m a stands flushed =
     raw_byte_is g h end m a stands ∙ flushed_raw g h m.turn a stands.past flushed.done flushed.live flushed.hard
@@ -223,7 +240,8 @@ none_in (suc n) p none =
 is_register : (s : State) (r : ℕ) → r < 32 → resource s r ≡ s.regs r
 is_register s r lt = cond-false (r == CONDITION_CODE) (s.ac % 8) (s.regs r) (grind (arith, nat_tests, lt))
 
-pub level_is : (g : Given) (h : List Item) (end : Option Finish) (m : Machine) → StandsFor g h end m → IsQuiet m → IsLevel g h m.turn
+pub level_is : (g : Given) (h : List Item) (end : Option Finish) (m : Machine) → StandsFor g h end m → IsQuiet m
+    → IsLevel g h m.turn
 level_is g h end m stands quiet =
     let shows = shows_of g h end m stands in
     let late = (course g h).late in

@@ -1,77 +1,57 @@
--- The turn moves, and turns stay small enough for the scoreboard.
-use Rattle.std.proofs.Common.{◌≡◌, ℕ, ◌+◌, ◌*◌, ◌^◌, ◌<◌, ◌≤◌, max, List, [], ◌∷◌, drop, None, Some, true, inl, inr, refl, sym, ap, ◌∙◌, subst, arith}
-use Rattle.std.specs.List.{AllByRecursion}
-use Rattle.std.specs.Prelude.{IsTrue}
+-- The turn moves: what is planned stays, and what comes next comes at its turn.
+use Rattle.std.proofs.Common.{◌≡◌, ℕ, ◌+◌, ◌*◌, ◌^◌, ◌<◌, ◌≤◌, max, true, List, [], ◌∷◌, Some, None, refl, sym, ap, ◌∙◌, subst, inl, inr, arith, Bool, false, cond, Option}
+use Rattle.std.specs.List.{AllByRecursion, slice_get}
+use Rattle.std.specs.Prelude.{IsTrue, nat_le}
 use Rattle.i9_model.specs.declared.need.Need.{Need}
 use Rattle.i9_model.specs.declared.need.TimedNeed.{TimedNeed}
-use Rattle.i9_model.specs.declared.run.Due.{Due}
-use Rattle.i9_model.specs.Left.{left_in}
-use Rattle.i9_model.specs.ScheduleText.{standing_by}
 use Rattle.i9_model.specs.Run.{Given, Kind, Record, Does, record_of, due_after, state_after}
-use Rattle.i9_model.specs.State.{State, boot}
-use Rattle.i9_model.specs.HeldFrames.{Cache, cache_after}
-use Rattle.i9_model.specs.Alike.{AreAlike}
+use Rattle.i9_model.specs.State.{State}
+use Rattle.i9_model.specs.HeldFrames.{cache_after}
 use Rattle.i9_model.specs.Turns.{HasCost, Pending, IsAllDone, AreAllDone, last_issue, issue_turn, end_turn, done_from, waiting_until}
 use Rattle.i9_model.specs.Turns as board
 use Rattle.i9_turns.proofs.TurnOpen.{open-all_done}
-use Rattle.i9_model.specs.Late.{turns, landed}
-use Rattle.i9_model.specs.declared.need.Cell.{Cell}
+use Rattle.i9_turns.proofs.TurnPending.{stands-pending_turn}
+use Rattle.i9_model.specs.Late.{turns}
 use Rattle.i9_regs.proofs.Shown.{landed_later}
-use Rattle.i9_processor.specs.State.{cells_of, state_of, cache_of, size_of, IsDrained}
 use Rattle.i9_issue.specs.Room.{IsEarly}
 use Rattle.i9_schedule.specs.Plan.{Plan}
 use Rattle.i9_course.specs.NeedOf.{need_of, need_ahead}
-use Rattle.i9_course.specs.Course.{Item, records_of, course, need_after, issue_of_next, instruction_ahead, event_ahead, comes_next, ahead}
+use Rattle.i9_course.specs.Course.{Item, records_of, course, need_after, issue_of_next, event_ahead, comes_next, ahead, issue_after, instruction_ahead, instruction_turn}
+use Rattle.i9_course.specs.Kernel.{MovesTo}
 use Rattle.i9_course.proofs.Ahead.{ahead_by_end, ahead_precise}
+use Rattle.i9_course.proofs.Barriers.{next_barrier, next_by_end}
+use Rattle.i9_course.proofs.Checks.{checked_waits}
+use Rattle.i9_course.proofs.Landed.{done_landed}
 use Rattle.i9_course.proofs.NeedAlike.{next_need_alike}
 use Rattle.i9_course.proofs.Placing.{next_turn}
 use Rattle.i9_course.proofs.Steps.{moves_lands}
-use Rattle.i9_raw.specs.Raw.{IsShaded}
-use Rattle.i9_machine.specs.declared.line.Line.{Line}
-use Rattle.i9_machine.specs.declared.machine.Machine.{Machine}
-use Rattle.i9_machine.specs.Issuing.{kernel_of, most_turns, IsPaced, IsMovedTo, IsMoved, IsEndTurn}
-use Rattle.i9_machine.specs.Step.{need_at, turn_at, event_for, next_where, next_for, records_left}
-use Rattle.i9_machine.specs.StandsFor.{StandsFor, Follows, IsUnderWay, MovesOn, left_after}
-use Rattle.i9_machine.specs.Opening.{IsFreeToIssue, NextWaits}
-use Rattle.i9_machine.proofs.Stepping.{goes_by_itself}
-use Rattle.i9_turns.proofs.TurnPending.{stands-pending_turn}
-use Rattle.i9_machine.specs.Overtaking.{HasPace}
-use Rattle.i9_machine.specs.Progress.{progress}
-use Rattle.i9_course.proofs.Checks.{checked_waits}
-use Rattle.i9_course.proofs.Landed.{done_landed}
-use Rattle.i9_course.proofs.Barriers.{next_barrier}
 use Rattle.i9_agree.proofs.AlikeSteps.{does_alike}
 use Rattle.i9_agree.proofs.HeldRuns.{next_free}
-use Rattle.i9_machine.proofs.Beside.{beside}
+use Rattle.i9_machine.specs.declared.line.Line.{Line}
+use Rattle.i9_machine.specs.declared.machine.Machine.{Machine}
+use Rattle.i9_machine.specs.Contents.{Situation, Contents, contents_of, kernel_of, moved_to, settled_to, IsMovedTo}
+use Rattle.i9_machine.specs.Issuing.{most_turns, IsPaced, IsEndTurn}
+use Rattle.i9_machine.specs.Step.{need_at, turn_at, next_where, next_for, event_for}
+use Rattle.i9_machine.specs.StandsFor.{Stand, StandsFor, Follows, IsUnderWay, MovesOn, left_after}
+use Rattle.i9_machine.specs.Opening.{IsFreeToIssue, NextWaits, IsTimely}
+use Rattle.i9_machine.specs.Overtaking.{HasPace}
+use Rattle.i9_machine.specs.Progress.{progress}
+use Rattle.i9_machine.proofs.Overtaking.{beside, same_turn_at, drained_precise, ahead_need, course_blind}
 use Rattle.i9_machine.proofs.Issuing.{same_need}
-use Rattle.i9_machine.proofs.Overtaking.{drained_precise}
-
--- ---- what is planned, as the turn moves
-
--- the instruction ahead needs the same as the turn moves, and would issue at the same turn
-moved_need_at : (t : ℕ) (before m : Machine) → IsMovedTo t before m → need_at m ≡ need_at before
-moved_need_at t before m i =
-    ap (λ (n : ℕ). need_ahead (Some n) (cache_of m.processor) (instruction_ahead (state_of m.processor))) i.size
-    ∙ ap (λ (c : Cache). need_ahead (Some (size_of before.processor)) c (instruction_ahead (state_of m.processor))) i.cache
-    ∙ ap (λ (s : State). need_ahead (Some (size_of before.processor)) (cache_of before.processor) (instruction_ahead s)) i.state
-
-pub moved_turn_at : (t : ℕ) (before m : Machine) → IsMovedTo t before m → turn_at m ≡ turn_at before
-moved_turn_at t before m i =
-    ap (λ (p : Pending). issue_turn p.last p.records (waiting_until m.floor (need_at m))) i.board
-    ∙ ap (λ (f : ℕ). issue_turn before.board.last before.board.records (waiting_until f (need_at m))) i.floor
-    ∙ ap (λ (n : Need). issue_turn before.board.last before.board.records (waiting_until before.floor n)) (moved_need_at t before m i)
-
--- so the same event stands there
-moved_event : (t : ℕ) (before m : Machine) (plan : Plan) → IsMovedTo t before m → event_for m plan ≡ event_for before plan
-moved_event t before m plan i =
-    ap (λ (s : State). standing_by plan.events plan.place s.count (turn_at m)) i.state
-    ∙ ap (standing_by plan.events plan.place (state_of before.processor).count) (moved_turn_at t before m i)
+use Rattle.i9_machine.proofs.Stepping.{goes_by_itself}
+use Rattle.std.proofs.lemmas.Bool.{cases_lt, le-leb, lt-leb}
+use Rattle.i9_model.specs.declared.event.Event.{Event}
+use Rattle.i9_model.specs.declared.event.Timed.{Timed}
+use Rattle.i9_model.specs.declared.event.When.{When}
+use Rattle.i9_model.specs.declared.event.When.TheVariants.{At, Turn}
+use Rattle.i9_model.specs.ScheduleText.{event_where, has_come_by, standing_by}
 
 -- ---- the turn moves
 
 done_least : (t : ℕ) (rs : List TimedNeed) (b : ℕ) → t ≤ b → AllByRecursion (λ r. r.done ≤ b) rs → done_from t rs ≤ b
 done_least t [] b le done = le
-done_least t (r ∷ rs) b le done = let one : r.done ≤ b = done.0 in done_least (max t r.done) rs b (omega (arith, le, one)) done.1
+done_least t (r ∷ rs) b le done =
+    let one : r.done ≤ b = done.0 in done_least (max t r.done) rs b (omega (arith, le, one)) done.1
 
 -- all records are done by the bound
 pub ended_by : (p : Pending) (rs : List TimedNeed) (b : ℕ) → board.StandsFor p rs → IsAllDone p b → end_turn rs ≤ b
@@ -79,99 +59,81 @@ ended_by p rs b stands done =
     let is : AreAllDone rs b = open-all_done rs b (subst (λ (q : Pending). IsAllDone q b) stands.pending done) in
     done_least (last_issue rs) rs b is.in_order is.done
 
--- so what is paced stays so as the turn moves
-moved_paced : (g : Given) (h : List Item) (t : ℕ) (before m : Machine) (wait : ℕ) → StandsFor g h None before
-    → t ≤ (ahead g h).turn → IsMovedTo t (record before { wait = wait }) m → IsPaced m (left_after g (records_of h))
-moved_paced g h t before m wait stands bound i =
+-- what shows at a later turn is what showed, landed by then
+pub moves_to : (t floor : ℕ) (k : Contents) → k.turn ≤ t → MovesTo t (kernel_of k) (kernel_of (settled_to t floor k))
+moves_to t floor k le = record {
+  board = refl;
+  turn = refl;
+  done = refl;
+  cells = λ r lt. sym (landed_later k.turn t (k.cells r) le);
+  bytes = refl;
+  queue = refl;
+}
+
+-- to a turn below which nothing comes next, so that what is paced stays so
+pub moved_stands : (g : Given) (h : List Item) (t : ℕ) (k : Contents) (wait : ℕ) → Stand g h None k → k.turn ≤ t
+    → t ≤ (ahead g h).turn → wait ≤ (ahead g h).turn → Stand g h None (record (moved_to t k) { wait = wait })
+moved_stands g h t k wait stands later within bound =
     let p = stands.paced in
     let by_end : (ahead g h).turn ≤ end_turn (turns (course g h).late) = ahead_by_end g h in
-    let ended : end_turn (turns (course g h).late) ≤ p.bound = ended_by before.board (turns (course g h).late) p.bound stands.lands.board p.done in
-    let turn : m.turn ≡ t = i.turn in
-    let floor : m.floor ≡ before.floor = i.floor in
-    let floor_was : before.floor ≤ p.bound = p.floor in
-    record {
-      bound = p.bound;
-      far = p.far;
-      done = subst (λ (b : Pending). IsAllDone b p.bound) (sym i.board) p.done;
-      turn = omega (arith, turn, bound, by_end, ended);
-      floor = omega (arith, floor, floor_was);
-    }
-
--- what shows at a later turn is what showed, landed by then
-pub moved_cells : (before m : Machine) (r : ℕ) → cells_of m.processor ≡ cells_of before.processor → before.turn ≤ m.turn
-    → landed m.turn (cells_of m.processor r) ≡ landed m.turn (landed before.turn (cells_of before.processor r))
-moved_cells before m r same le =
-    ap (λ (c : ℕ → Cell). landed m.turn (c r)) same
-    ∙ sym (landed_later before.turn m.turn (cells_of before.processor r) le)
-
--- to a turn below which nothing comes next
-pub moved_stands : (g : Given) (h : List Item) (t : ℕ) (before m : Machine) (wait : ℕ)
-    → StandsFor g h None before → before.turn ≤ t → t ≤ (ahead g h).turn → wait ≤ (ahead g h).turn
-    → IsMovedTo t (record before { wait = wait }) m → StandsFor g h None m
-moved_stands g h t before m wait stands later within bound i =
-    let turn : m.turn ≡ t = i.turn in
-    let wait_now : m.wait ≡ wait = i.wait in
+    let ended : end_turn (turns (course g h).late) ≤ p.bound = ended_by k.at.board
+    (turns (course g h).late) p.bound stands.lands.board p.done in
     record {
       past = stands.past;
-      state = subst (AreAlike (state_after g (records_of h))) (sym i.state) stands.state;
-      size = i.size ∙ stands.size;
-      cache = i.cache ∙ stands.cache;
-      lands = moves_lands g h m.turn (kernel_of before) (kernel_of m) stands.lands (omega (arith, turn, later)) (omega (arith, turn, within))
-          (record { board = i.board; turn = refl; done = i.done; cells = λ r lt. moved_cells before m r i.cells (omega (arith, turn, later)); bytes = i.bytes; queue = i.queue }) i.floor;
-      shaded = subst (IsShaded (boot g.image).memory.bytes (course g h).late) (sym i.shade) stands.shaded;
-      early = omega (arith, wait_now, bound);
-      paced = moved_paced g h t before m wait stands within i;
-      due = i.due ∙ stands.due;
-      length = i.length ∙ stands.length;
-      sets = i.sets ∙ stands.sets;
-      ended = i.ended ∙ stands.ended;
+      state = stands.state;
+      size = stands.size;
+      cache = stands.cache;
+      lands = moves_lands g h t (kernel_of k) (kernel_of (moved_to t k)) stands.lands later within
+          (moves_to t k.at.floor k later) refl;
+      shaded = stands.shaded;
+      early = bound;
+      paced = record { bound = p.bound; far = p.far; done = p.done; now = omega
+          (arith, within, by_end, ended); fence = p.fence };
+      due = stands.due;
+      length = stands.length;
+      sets = stands.sets;
+      ended = stands.ended;
       over = tt;
     }
 
 -- by one
 pub moved : (g : Given) (h : List Item) (before m : Machine) (plan : Plan) (lines : List Line) (wait : ℕ)
     → StandsFor g h None before → Follows g h plan → before.turn < wait → wait ≤ (ahead g h).turn
-    → IsMoved (record before { wait = wait }) m → MovesOn g h (progress before plan lines) (progress m plan lines)
+    → IsMovedTo (before.turn + 1) (record before { wait = wait }) m
+    → MovesOn g h (progress before plan lines) (progress m plan lines)
 moved g h before m plan lines wait stands follows later bound i = record {
   early = omega (arith, later, bound);
-  turn = i.turn;
-  stands = moved_stands g h (before.turn + 1) before m wait stands (omega arith) (omega (arith, later, bound)) bound i;
+  turn = λ j. (i j).turn;
+  stands = subst (Stand g h None) (sym i)
+      (moved_stands g h (before.turn + 1) (contents_of before) wait stands (omega arith)
+      (omega (arith, later, bound)) bound);
   follows = follows;
   lines = refl;
 }
 
--- no record is done
-pub same_left : (t : ℕ) (before m : Machine) (plan : Plan) (wait : ℕ) → IsMovedTo t (record before { wait = wait }) m
-    → records_left m plan ≡ records_left before plan
-same_left t before m plan wait i =
-    let events = drop plan.place plan.events in
-    ap (λ (l : ℕ). left_in l events m.due (state_of m.processor)) i.length
-    ∙ ap (λ (d : Due). left_in before.length events d (state_of m.processor)) i.due
-    ∙ ap (λ (s : State). left_in before.length events before.due s) i.state
-
 -- the turn is small
-pub has_pace : (m : Machine) (plan : Plan) → IsUnderWay m plan → HasPace m
+pub has_pace : (m : Machine) (plan : Plan) → IsUnderWay m plan → HasPace (contents_of m)
 has_pace m plan u = (left_after u.given (records_of u.items), u.stands.paced)
 
-pub paced_turn : (m : Machine) → HasPace m → m.turn < 2 ^ 62
-paced_turn m pace =
+pub paced_turn : (k : Contents) → HasPace k → k.turn < 2 ^ 62
+paced_turn k pace =
     let p = pace.1 in
     let far : p.bound + 2 ^ 8 * pace.0 < 2 ^ 62 = p.far in
-    let turn : m.turn ≤ p.bound = p.turn in
+    let turn : k.turn ≤ p.bound = p.now in
     omega (arith, far, turn)
 
 -- ---- turns stay small
 
 -- a need behind the last fence is early enough for the scoreboard
-pub paced_early : (m : Machine) (left : ℕ) (need : Need) → IsPaced m left → need.not_before ≡ 0 → need.cost ≤ most_turns
-    → IsEarly m.board (waiting_until m.floor need)
-paced_early m left need p none cost =
+pub paced_early : (k : Contents) (left : ℕ) (need : Need) → IsPaced k.at.board k.turn k.at.floor left
+    → need.not_before ≡ 0 → need.cost ≤ most_turns → IsEarly k.at.board (waiting_until k.at.floor need)
+paced_early k left need p none cost =
     let far : p.bound + 2 ^ 8 * left < 2 ^ 62 = p.far in
-    let in_order : m.board.last ≤ p.bound = p.done.in_order in
-    let floor : m.floor ≤ p.bound = p.floor in
+    let in_order : k.at.board.last ≤ p.bound = p.done.in_order in
+    let floor : k.at.floor ≤ p.bound = p.fence in
     record {
       last = omega (arith, far, in_order);
-      done = below m.board.records p.done.done;
+      done = below k.at.board.records p.done.done;
       waited = omega (arith, far, floor, none);
       cost = omega (arith, cost);
     }
@@ -190,62 +152,129 @@ waiting_cost t need h = record { some = h.some; plain = h.plain }
 -- ---- the turn of what comes next
 
 -- what waits for all comes when all is done
-pub waits_until : (m : Machine) (plan : Plan) (until : ℕ) → IsEndTurn m until → NextWaits m plan → (g : Given) (h : List Item) → StandsFor g h None m → Follows g h plan
-    → (ahead g h).imprecise ≡ None → until ≤ (ahead g h).turn
-waits_until m plan until end (inl check) g h stands follows precise =
+pub waits_until : (k : Contents) (plan : Plan) (until : ℕ) → IsEndTurn k.at.board until → NextWaits k.at plan
+    → (g : Given) (h : List Item) → Stand g h None k → Follows g h plan → (ahead g h).imprecise ≡ None
+    → until ≤ (ahead g h).turn
+waits_until k plan until end (inl check) g h stands follows precise =
     let rs = turns (course g h).late in
     let is : until ≡ end_turn rs = end rs stands.lands.board in
-    let set : (state_after g (records_of h)).check ≡ true = sym (ap (λ (s : State). s.check) stands.state.rest) ∙ check in
+    let set : (state_after g (records_of h)).check ≡ true = sym (ap (λ (s : State). s.check) stands.state.rest)
+    ∙ check in
     let turn : (ahead g h).turn ≡ end_turn rs = checked_waits g h stands.past precise set in
     omega (arith, is, turn)
-waits_until m plan until end (inr held) g h stands follows precise =
+waits_until k plan until end (inr held) g h stands follows precise =
     let rs = turns (course g h).late in
     let is : until ≡ end_turn rs = end rs stands.lands.board in
     let o = comes_next g h in
-    let need = next_need_alike g.sets (cache_after g (records_of h)) o (next_for m plan) (beside g h m plan stands follows) in
-    let barrier : IsTrue (need_after g h o).barrier = sym (ap (λ (n : Need). n.barrier) need) ∙ held g.sets (cache_after g (records_of h)) in
+    let need = next_need_alike g.sets (cache_after g (records_of h)) o (next_for k.at plan)
+    (beside g h k plan stands follows) in
+    let barrier : IsTrue (need_after g h o).barrier = sym (ap (λ (n : Need). n.barrier) need) ∙ held g.sets
+    (cache_after g (records_of h)) in
     let turn : issue_of_next g h o ≡ end_turn rs = next_barrier g h o barrier in
     let ahead_turn : (ahead g h).turn ≡ issue_of_next g h o = ahead_precise g h precise in
     omega (arith, is, turn, ahead_turn)
 
 -- an instruction comes at the turn that the scoreboard gives its need
-pub comes_at : (m : Machine) (plan : Plan) (k : Kind) (need : Need) (t : ℕ) → next_for m plan ≡ Does (record_of k (state_of m.processor))
-    → need ≡ need_of (size_of m.processor) (cache_of m.processor) (state_of m.processor) k
-    → ((rs : List TimedNeed) → board.StandsFor m.board rs → t ≡ issue_turn (last_issue rs) rs (waiting_until m.floor need))
-    → (g : Given) (h : List Item) → StandsFor g h None m → Follows g h plan → (ahead g h).imprecise ≡ None
+pub comes_at : (j : Contents) (plan : Plan) (k : Kind) (need : Need) (t : ℕ)
+    → next_for j.at plan ≡ Does (record_of k j.at.state)
+    → need ≡ need_of j.at.size j.at.cache j.at.state k
+    → ((rs : List TimedNeed) → board.StandsFor j.at.board rs
+    → t ≡ issue_turn (last_issue rs) rs (waiting_until j.at.floor need))
+    → (g : Given) (h : List Item) → Stand g h None j → Follows g h plan → (ahead g h).imprecise ≡ None
     → t ≡ (ahead g h).turn
-comes_at m plan k need t is_next is_need turn g h stands follows precise =
+comes_at j plan k need t is_next is_need turn g h stands follows precise =
     let rs = turns (course g h).late in
-    let q = record_of k (state_of m.processor) in
-    let found = does_alike (comes_next g h) (next_for m plan) q (beside g h m plan stands follows) is_next in
-    let run = next_free g.length (due_after (records_of h)) (event_ahead g h) (state_after g (records_of h)) found.0 found.1 in
-    let same = same_need g h m found.0 q need stands found.2 (ap (λ (x : Record). x.before) run.0) refl is_need in
+    let found = does_alike (comes_next g h) (next_for j.at plan) (record_of k j.at.state)
+    (beside g h j plan stands follows) is_next in
+    let run = next_free g.length (due_after (records_of h)) (event_ahead g h)
+    (state_after g (records_of h)) found.0 found.1 in
+    let same = same_need g h j found.0 (record_of k j.at.state) need stands found.2
+    (ap (λ (x : Record). x.before) run.0) refl is_need in
     turn rs stands.lands.board
     ∙ ap (λ (f : ℕ). issue_turn (last_issue rs) rs (waiting_until f need)) stands.lands.fence
     ∙ sym (next_turn g h need precise (ap (need_ahead g.sets (cache_after g (records_of h))) found.1 ∙ same))
 
 -- an instruction that comes where no event stands would issue at the turn of the instruction ahead
-pub open_turn : (m : Machine) (k : Kind) (need : Need) (t : ℕ) (rs : List TimedNeed) → board.StandsFor m.board rs → IsFreeToIssue m
-    → next_where m None ≡ Does (record_of k (state_of m.processor))
-    → need ≡ need_of (size_of m.processor) (cache_of m.processor) (state_of m.processor) k
-    → t ≡ issue_turn (last_issue rs) rs (waiting_until m.floor need) → t ≡ turn_at m
-open_turn m k need t rs stands free is_next is_need turn =
-    let s = state_of m.processor in
-    let itself : instruction_ahead s ≡ Does (record_of k s) = sym (goes_by_itself m free) ∙ is_next in
-    let same : need ≡ need_at m = is_need ∙ sym (ap (need_ahead (Some (size_of m.processor)) (cache_of m.processor)) itself) in
+pub open_turn : (at : Situation) (k : Kind) (need : Need) (t : ℕ) (rs : List TimedNeed) → board.StandsFor at.board rs
+    → IsFreeToIssue at → next_where at None ≡ Does (record_of k at.state) → need ≡ need_of at.size at.cache at.state k
+    → t ≡ issue_turn (last_issue rs) rs (waiting_until at.floor need) → t ≡ turn_at at
+open_turn at k need t rs stands free is_next is_need turn =
+    let same : need ≡ need_at at = is_need ∙ sym
+    (ap (need_ahead (Some at.size) at.cache) (sym (goes_by_itself at free) ∙ is_next)) in
     turn
-    ∙ sym (stands-pending_turn m.board rs (waiting_until m.floor need) stands)
-    ∙ ap (λ (n : Need). issue_turn m.board.last m.board.records (waiting_until m.floor n)) same
+    ∙ sym (stands-pending_turn at.board rs (waiting_until at.floor need) stands)
+    ∙ ap (λ (n : Need). issue_turn at.board.last at.board.records (waiting_until at.floor n)) same
 
 -- where nothing is open, what comes next may issue, and nothing waits
-pub all_now : (g : Given) (h : List Item) (m : Machine) (until : ℕ) → IsEndTurn m until → until ≤ m.turn → StandsFor g h None m
-    → ((ahead g h).imprecise ≡ None) × ((ahead g h).turn ≤ m.turn)
-all_now g h m until end le stands =
+pub all_now : (g : Given) (h : List Item) (k : Contents) (until : ℕ) → IsEndTurn k.at.board until → until ≤ k.turn
+    → Stand g h None k → ((ahead g h).imprecise ≡ None) × ((ahead g h).turn ≤ k.turn)
+all_now g h k until end le stands =
     let is : until ≡ end_turn (turns (course g h).late) = end (turns (course g h).late) stands.lands.board in
     let by_end : (ahead g h).turn ≤ end_turn (turns (course g h).late) = ahead_by_end g h in
-    (drained_precise g h m stands (omega (arith, is, le)), omega (arith, is, le, by_end))
+    (drained_precise g h k stands (omega (arith, is, le)), omega (arith, is, le, by_end))
 
-pub all_landed : (g : Given) (h : List Item) (m : Machine) (until : ℕ) → StandsFor g h None m → IsEndTurn m until → until ≤ m.turn → IsDrained m.processor
-all_landed g h m until stands end le =
+pub all_landed : (g : Given) (h : List Item) (k : Contents) (until : ℕ) → Stand g h None k → IsEndTurn k.at.board until
+    → until ≤ k.turn → k.queue ≡ []
+all_landed g h k until stands end le =
     let is : until ≡ end_turn (turns (course g h).late) = end (turns (course g h).late) stands.lands.board in
-    done_landed g h (kernel_of m) stands.lands (omega (arith, is, le))
+    done_landed g h (kernel_of k) stands.lands (omega (arith, is, le))
+
+-- where the instruction comes next, it issues at its turn
+itself_issues : (g : Given) (h : List Item) (k : Contents) (plan : Plan) → Stand g h None k → Follows g h plan
+    → IsFreeToIssue k.at → event_for k.at plan ≡ None → issue_of_next g h (comes_next g h) ≡ instruction_turn g h
+itself_issues g h k plan stands follows free none =
+    let c = cache_after g (records_of h) in
+    let same = next_need_alike g.sets c (comes_next g h) (next_for k.at plan) (beside g h k plan stands follows) in
+    ap (issue_after (course g h))
+    (sym same
+    ∙ ap (need_ahead g.sets c) (ap (next_where k.at) none ∙ goes_by_itself k.at free)
+    ∙ ahead_need g.sets c (state_after g (records_of h)) k.at.state (course_blind g h stands.past) stands.state)
+
+pub is_timely : (g : Given) (h : List Item) (k : Contents) (plan : Plan) → Stand g h None k → Follows g h plan
+    → end_turn (turns (course g h).late) ≤ k.turn → IsTimely k.at k.turn plan
+is_timely g h k plan stands follows ended =
+    let same : turn_at k.at ≡ instruction_turn g h = same_turn_at g h k stands in
+    let by_end : instruction_turn g h ≤ end_turn (turns (course g h).late) = next_by_end g h
+    (instruction_ahead (state_after g (records_of h))) in
+    record {
+      come = omega (arith, same, by_end, ended);
+      early = λ free none.
+          let in_time : k.turn ≤ (ahead g h).turn = stands.lands.in_time in
+          let turn : (ahead g h).turn ≡ issue_of_next g h (comes_next g h) = ahead_precise g h
+          (drained_precise g h k stands ended) in
+          let itself : issue_of_next g h (comes_next g h) ≡ instruction_turn g h = itself_issues g h k plan stands
+          follows free none in
+          omega (arith, in_time, turn, itself, same);
+    }
+
+-- the event that stands there by the machine's turn
+pub timely_event : (at : Situation) (now : ℕ) (plan : Plan) → IsTimely at now plan → IsFreeToIssue at
+    → standing_by plan.events plan.place at.state.count now ≡ event_for at plan
+timely_event at now plan timely free = by_next (slice_get plan.events plan.place) refl
+  where
+    by_form : (w : When) (e : Event)
+        → (cond (has_come_by at.state.count (turn_at at) w) (Some e) None ≡ None → now ≤ turn_at at)
+        → cond (has_come_by at.state.count now w) (Some e) None ≡ cond (has_come_by at.state.count (turn_at at) w)
+        (Some e) None
+    by_form (At n) e early = refl
+    by_form (Turn n) e early = elim (cases_lt (turn_at at) n) [
+      | inl later ↦
+          let not_yet : nat_le n (turn_at at) ≡ false = lt-leb n (turn_at at) later in
+          let none : cond (nat_le n (turn_at at)) (Some e) None ≡ None = ap (λ (b : Bool). cond b (Some e) None)
+          not_yet in
+          let turn : now ≤ turn_at at = early none in
+          let also : nat_le n now ≡ false = lt-leb n now (omega (arith, later, turn)) in
+          ap (λ (b : Bool). cond b (Some e) None) also ∙ sym none
+      | inr come ↦
+          let here : nat_le n (turn_at at) ≡ true = le-leb n (turn_at at) come in
+          let before : turn_at at ≤ now = timely.come in
+          let there : nat_le n now ≡ true = le-leb n now (omega (arith, come, before)) in
+          ap (λ (b : Bool). cond b (Some e) None) (there ∙ sym here)
+    ]
+
+    by_next : (o : Option Timed) → slice_get plan.events plan.place ≡ o
+        → event_where (has_come_by at.state.count now) o ≡ event_where (has_come_by at.state.count (turn_at at)) o
+    by_next None is = refl
+    by_next (Some t) is =
+        by_form t.when t.event
+        (λ none. timely.early free (ap (event_where (has_come_by at.state.count (turn_at at))) is ∙ none))

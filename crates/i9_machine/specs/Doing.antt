@@ -14,6 +14,7 @@ use Rattle.i9_processor.specs.State.{state_of}
 use Rattle.i9_model.specs.declared.run.Point.{Point}
 use Rattle.i9_model.specs.PrintedText.{Shown, Journal, bytes_lines, out_lines, point_lines}
 use Rattle.i9_processor.specs.declared.effect.Effect.{Effect}
+use Rattle.i9_processor.specs.declared.processor.Processor.{Processor}
 use Rattle.i9_processor.specs.Effect.{writes_in, action_in, control_in, AreRegisters, CanPost, CanChange, CanControl}
 use Rattle.i9_processor.specs.Effect.{CanMove, HasSpaceFor, IsLight, has_writes, is_restart}
 use Rattle.i9_machine.specs.declared.machine.Machine.{Machine}
@@ -68,9 +69,9 @@ asks_room s e step event =
 
 -- There is room for a step, with this many lines to spare: for its lines, and for what it stores and saves; and no new
 -- sets are made.
-pub record HasRoomForStep (m : Machine) (spare : ℕ) (e : Effect) (step : Step) (event : Option Event) : Type 0 where
+pub record HasRoomForStep (p : Processor) (spare : ℕ) (e : Effect) (step : Step) (event : Option Event) : Type 0 where
   pub lines : line_count e step event ≤ spare
-  pub effect : HasSpaceFor m.processor e
+  pub effect : HasSpaceFor p e
   pub no_sets : is_restart (control_in e.control) ≡ false
 
 -- what is planned in a machine has a light effect, and is no barrier

@@ -15,12 +15,12 @@ use Rattle.i9_course.specs.Course.{Item, Step, records_of, course, last_done, co
 use Rattle.i9_course.specs.Kernel.{Kernel, Lands}
 use Rattle.i9_course.specs.LateRun.{end_ahead}
 use Rattle.i9_raw.specs.Raw.{IsShaded}
-use Rattle.i9_processor.specs.State.{state_of, cache_of, size_of}
 use Rattle.i9_machine.specs.declared.line.Line.{Line}
 use Rattle.i9_machine.specs.declared.line.Turn.{Turn}
 use Rattle.i9_machine.specs.declared.line.Turn.TheVariants as turns
 use Rattle.i9_machine.specs.declared.machine.Machine.{Machine}
-use Rattle.i9_machine.specs.Issuing.{kernel_of, IsPaced}
+use Rattle.i9_machine.specs.Contents.{Contents, contents_of, kernel_of}
+use Rattle.i9_machine.specs.Issuing.{IsPaced}
 use Rattle.i9_machine.specs.Line.{AddsLines}
 use Rattle.i9_machine.specs.Progress.{Progress}
 use Rattle.i9_machine.specs.Step.{TellsRecord, NeedsRoom, HasRoom}
@@ -63,30 +63,34 @@ abbrev pub IsLanding : Given → List Item → Option Finish → Kernel → Type
 IsLanding g h None k = Lands g h k
 IsLanding g h (Some f) k = HasLanded g h k
 
--- as long as no end was answered, the machine waits to no turn above that of what lies ahead
-abbrev pub IsInTime : Given → List Item → Option Finish → Machine → Type 0
-IsInTime g h None m = m.wait ≤ (ahead g h).turn
-IsInTime g h (Some f) m = Unit {0}
+-- as long as no end was answered, nothing waits to a turn above that of what lies ahead
+abbrev pub IsInTime : Given → List Item → Option Finish → ℕ → Type 0
+IsInTime g h None wait = wait ≤ (ahead g h).turn
+IsInTime g h (Some f) wait = Unit {0}
 
--- The machine stands for the first items of the run of what is given, its records and the fences between them, and has
--- answered this end of it, if any: its state is the one after them but for bytes that are not compared; it has as many
--- sets as are asked for, or as the PRCB asks for, and the frames in them and the memory behind, with all that waits,
--- are those of the run; what lands late is as the course of the items has it at the machine's turn, which is at most
--- that of what lies ahead as long as no end was answered; and what stood under an open barrier's writes is kept.
-pub record StandsFor (g : Given) (h : List Item) (end : Option Finish) (m : Machine) : Type 0 where
+-- Contents stand for the first items of the run of what is given, its records and the fences between them, with this
+-- end of it answered, if any: the state is the one after them but for bytes that are not compared; there are as many
+-- sets as are asked for, or as the PRCB asks for, and the frames in them and the memory behind, with all that waits, are
+-- those of the run; what lands late is as the course of the items has it at the turn, which is at most that of what lies
+-- ahead as long as no end was answered; and what stood under an open barrier's writes is kept.
+pub record Stand (g : Given) (h : List Item) (end : Option Finish) (k : Contents) : Type 0 where
   pub past : IsCourse g h
-  pub state : AreAlike (state_after g (records_of h)) (state_of m.processor)
-  pub size : size_of m.processor ≡ sets_in g.sets (state_after g (records_of h))
-  pub cache : cache_of m.processor ≡ cache_after g (records_of h)
-  pub lands : IsLanding g h end (kernel_of m)
-  pub shaded : IsShaded (boot g.image).memory.bytes (course g h).late m.shade
-  pub early : IsInTime g h end m
-  pub paced : IsPaced m (left_after g (records_of h))
-  pub due : m.due ≡ due_after (records_of h)
-  pub length : m.length ≡ g.length
-  pub sets : m.sets ≡ g.sets
-  pub ended : m.ended ≡ option_map (λ f. f.end) end
+  pub state : AreAlike (state_after g (records_of h)) k.at.state
+  pub size : k.at.size ≡ sets_in g.sets (state_after g (records_of h))
+  pub cache : k.at.cache ≡ cache_after g (records_of h)
+  pub lands : IsLanding g h end (kernel_of k)
+  pub shaded : IsShaded (boot g.image).memory.bytes (course g h).late k.shade
+  pub early : IsInTime g h end k.wait
+  pub paced : IsPaced k.at.board k.turn k.at.floor (left_after g (records_of h))
+  pub due : k.at.due ≡ due_after (records_of h)
+  pub length : k.at.length ≡ g.length
+  pub sets : k.sets ≡ g.sets
+  pub ended : k.ended ≡ option_map (λ f. f.end) end
   pub over : IsOver g h end
+
+-- those of a machine do
+abbrev pub StandsFor : Given → List Item → Option Finish → Machine → Type 0
+StandsFor g h end m = Stand g h end (contents_of m)
 
 -- a machine that has answered no end stands for the first items of some run, and a schedule follows them
 pub record IsUnderWay (m : Machine) (plan : Plan) : Type 0 where
@@ -95,14 +99,14 @@ pub record IsUnderWay (m : Machine) (plan : Plan) : Type 0 where
   pub stands : StandsFor given items None m
   pub follows : Follows given items plan
 
--- such a machine, where no fault is imprecise, and the turn of what comes next has come
-pub record HasCome (m : Machine) (plan : Plan) : Type 0 where
+-- the same of contents, where no fault is imprecise, and the turn of what comes next has come
+pub record HasCome (k : Contents) (plan : Plan) : Type 0 where
   pub given : Given
   pub items : List Item
-  pub stands : StandsFor given items None m
+  pub stands : Stand given items None k
   pub follows : Follows given items plan
   pub precise : (ahead given items).imprecise ≡ None
-  pub now : (ahead given items).turn ≤ m.turn
+  pub now : (ahead given items).turn ≤ k.turn
 
 -- the turn moves by one, and is not above that of what lies ahead
 pub record MovesOn (g : Given) (h : List Item) (before after : Progress) : Type 0 where
@@ -163,7 +167,7 @@ pub record Proceeds (g : Given) (h : List Item) (answer : Turn) (spare : ℕ) (b
   pub now : (ahead g h).turn ≡ mid.turn
   pub stands : StandsFor g h None mid
   pub comes : Comes g h answer (record before { machine = mid }) after
-  pub lacking : answer ≡ turns.Memory → HasRoom before.machine spare (comes_next g h) → ⊥
+  pub lacking : answer ≡ turns.Memory → HasRoom before.machine.processor spare (comes_next g h) → ⊥
 
 -- Nothing comes below a turn, which the machine's became, unless that was above it; and nothing was done.
 pub record PassesTo (g : Given) (h : List Item) (until : ℕ) (before after : Progress) : Type 0 where
@@ -186,10 +190,3 @@ pub record AnswersAgain (f : Finish) (answer : Turn) (before m : Machine) (old n
   pub answers : answer ≡ turns.End f.end
   pub same : m ≡ before
   pub lines : new ≡ old
-
--- a record, or a move of the turn, leaves less
-abbrev pub LeavesFewer : Turn → ℕ → ℕ → Type 0
-LeavesFewer turns.On before now = now < before
-LeavesFewer (turns.Issued t) before now = now < before
-LeavesFewer (turns.End e) before now = Unit {0}
-LeavesFewer turns.Memory before now = Unit {0}

@@ -38,7 +38,8 @@ pub record TurnsOn (g : Given) (h : List Item) (before after : Progress) : Type 
   pub stands : StandsFor g (steps_on done h) None after.machine
   pub follows : Follows g (steps_on done h) after.plan
   pub lines : AddsLines before.lines after.lines (lines_of done)
-  pub pages : AddsRecordsOnly before.machine after.machine (with_next (comes_next g (steps_on done h)) done)
+  pub pages : AddsRecordsOnly before.machine.processor after.machine.processor
+      (with_next (comes_next g (steps_on done h)) done)
 
 -- the end was answered, at the machine's turn
 pub record EndsTurn (g : Given) (h : List Item) (e : End) (before after : Progress) : Type 0 where
@@ -52,13 +53,15 @@ pub record EndsTurn (g : Given) (h : List Item) (e : End) (before after : Progre
   pub follows : FollowsTo g (steps_on done h) finish after.plan
   pub lines : AddsLines before.lines after.lines
       (lines_of done ++ end_lines (state_after g (records_of (steps_on done h))) finish)
-  pub pages : AddsRecordsOnly before.machine after.machine (with_next (comes_next g (steps_on done h)) done)
+  pub pages : AddsRecordsOnly before.machine.processor after.machine.processor
+      (with_next (comes_next g (steps_on done h)) done)
 
 -- memory was refused behind whole steps
 pub record StopsTurn (g : Given) (h : List Item) (before after : Progress) : Type 0 where
   pub since : Since g h before after
   pub needed : NeedsRoom (comes_next g (steps_on since.done h))
-  pub pages : AddsRecordsOnly before.machine after.machine (with_next (comes_next g (steps_on since.done h)) since.done)
+  pub pages : AddsRecordsOnly before.machine.processor after.machine.processor
+      (with_next (comes_next g (steps_on since.done h)) since.done)
 
 -- what a turn does, by its answer, which is no instruction
 abbrev pub Turns : Given → List Item → Turn → Progress → Progress → Type 0

@@ -1,6 +1,6 @@
 //! The machine, one step at a time.
-ghost use Rattle.std.specs.Prelude.{◌≡◌, ◌-◌, ◌^◌, ◌<◌, ◌≤◌, [], ◌∷◌, length, max, ℕ, List, Option, None, Some, IfOk};
-ghost use Rattle.std.specs.Prelude.{IfSome, IsSome, vec_len, vec_capacity, true, false};
+ghost use Rattle.std.specs.Prelude.{◌≡◌, ◌+◌, ◌-◌, ◌^◌, ◌<◌, ◌≤◌, [], ◌∷◌, length, max, ℕ, List, Option, None, Some};
+ghost use Rattle.std.specs.Prelude.{IfOk, IfSome, IsSome, vec_len, vec_capacity, true, false};
 ghost use Rattle.std.proofs.Props.{props};
 ghost use Rattle.i9_model.specs.declared.layout.TheConstants.{MAX_LENGTH};
 ghost use Rattle.i9_model.specs.declared.event.Timed.{Timed};
@@ -73,15 +73,16 @@ pub struct Machine {
 
 impl Machine {
     ghost use Rattle.i9_machine.specs.Coming.{HasArrived, HasRead, IsAhead, RunsAhead, IsReadyFor, Came};
+    ghost use Rattle.i9_machine.specs.Contents.{situation, outlook, contents_of, settled_to, IsMovedTo, IsPassedTo};
     ghost use Rattle.i9_machine.specs.StandsFor.{StandsFor, Follows, Advances, Proceeds, ProceedsUntil, AnswersAgain};
-    ghost use Rattle.i9_machine.specs.StandsFor.{LeavesFewer, IsUnderWay, HasCome};
-    ghost use Rattle.i9_machine.specs.Issuing.{KeepsPlanned, IsMovedTo, IsPassedTo, IsMoved, IsSettled, IsQuiet};
+    ghost use Rattle.i9_machine.specs.StandsFor.{IsUnderWay, HasCome};
+    ghost use Rattle.i9_machine.specs.Issuing.{IsQuiet};
     ghost use Rattle.i9_machine.specs.NewPages.{AddsNextOnly};
     ghost use Rattle.i9_machine.specs.Progress.{progress};
     ghost use Rattle.i9_machine.specs.Doing.{PlansLight};
     ghost use Rattle.i9_machine.specs.Opening.{IsTimely};
     ghost use Rattle.i9_machine.specs.Raw.{IsLevel};
-    ghost use Rattle.i9_machine.specs.Step.{HasRoom, Steps, Issues, next_for, steps_left};
+    ghost use Rattle.i9_machine.specs.Step.{HasRoom, LeavesFewer, Steps, Costs, stage, steps_left};
 
     /// A machine before its first step: its run has the image's bytes, so many register sets or as many
     /// as the PRCB asks for, and at most so many instructions. It has pages for the image's bytes alone.
@@ -177,8 +178,7 @@ impl Machine {
 
     /// The turn becomes this one, unless it is above it, what is due lands, and nothing is waited for.
     fn land_all(&mut self, until: u64, floor: u64)
-        ensures settled { IsSettled self.old self.new until }
-        ensures floor { self.new.floor ≡ floor }
+        ensures settled { contents_of self.new ≡ settled_to (max self.old.turn until) floor (contents_of self.old) }
         ensures room { KeepsRoom self.old.processor self.new.processor }
         ensures no_more { AddsNoPage self.old.processor self.new.processor }
     {
@@ -202,7 +202,7 @@ impl Machine {
     #[inline(always)]
     fn move_to(&mut self, turn: u64)
         ensures moved { IsMovedTo turn self.old self.new }
-        ensures keeps { KeepsPlanned self.old self.new }
+        ensures keeps { outlook self.new ≡ outlook self.old }
         ensures room { KeepsRoom self.old.processor self.new.processor }
         ensures no_more { AddsNoPage self.old.processor self.new.processor }
     {
@@ -214,7 +214,7 @@ impl Machine {
     #[inline(always)]
     fn pass_to(&mut self, turn: u64)
         ensures passed { IsPassedTo turn self.old self.new }
-        ensures keeps { KeepsPlanned self.old self.new }
+        ensures keeps { outlook self.new ≡ outlook self.old }
         ensures room { KeepsRoom self.old.processor self.new.processor }
         ensures no_more { AddsNoPage self.old.processor self.new.processor }
     {
@@ -226,7 +226,7 @@ impl Machine {
     /// The turn moves by one, to which something waits, and what is due lands.
     fn move_on(&mut self)
         requires { self.old.turn < self.old.wait }
-        ensures moved { IsMoved self.old self.new }
+        ensures moved { IsMovedTo (self.old.turn + 1) self.old self.new }
         ensures no_more { AddsNoPage self.old.processor self.new.processor }
     {
         self.move_to(self.turn + 1);
@@ -236,7 +236,7 @@ impl Machine {
     fn wait_until(&mut self, turn: u64) -> Turn
         requires { self.old.turn < turn }
         ensures answer { result ≡ Turn.On }
-        ensures moved { IsMoved (record self.old { wait = turn }) self.new }
+        ensures moved { IsMovedTo (self.old.turn + 1) (record self.old { wait = turn }) self.new }
         ensures no_more { AddsNoPage self.old.processor self.new.processor }
     {
         self.wait = turn;
@@ -250,19 +250,12 @@ impl Machine {
     #[inline(never)]
     fn step_drained(&mut self, read: bool, plan: &mut Schedule, out: &mut Vec<Line>) -> Turn
         requires running { self.old.ended ≡ None }
-        requires come { HasCome self.old plan.old }
+        requires come { HasCome (contents_of self.old) plan.old }
         requires drained { IsDrained self.old.processor }
-        requires timely { IsTimely self.old plan.old }
-        requires read { read ≡ true → HasRead self.old }
-        ensures steps { Steps (progress self.old plan.old out.old.items) result
-            (progress self.new plan.new out.new.items) }
-        ensures issues { Issues self.old result self.new plan.old }
-        ensures lacking { result ≡ Turn.Memory
-            → HasRoom self.old (vec_capacity out.old - vec_len out.old) (next_for self.old plan.old) → ⊥ }
-        ensures still_lacking { result ≡ Turn.Memory
-            → HasRoom self.new (vec_capacity out.new - vec_len out.new) (next_for self.new plan.new) → ⊥ }
-        ensures only { AddsNextOnly self.old self.new (next_for self.old plan.old) }
-        ensures fewer { LeavesFewer result (steps_left self.old plan.old) (steps_left self.new plan.new) }
+        requires timely { IsTimely (situation self.old) self.old.turn plan.old }
+        requires read { read ≡ true → HasRead (outlook self.old) }
+        ensures steps { Steps (stage self.old plan.old out.old) result (stage self.new plan.new out.new) }
+        ensures costs { Costs (stage self.old plan.old out.old) result (stage self.new plan.new out.new) }
     {
         match self.next_step(read, plan) {
             Ok(step) => {
@@ -284,18 +277,11 @@ impl Machine {
         out: &mut Vec<Line>,
     ) -> Turn
         requires running { self.old.ended ≡ None }
-        requires come { HasCome self.old plan.old }
-        requires ahead { IsAhead self.old plan.old issue
+        requires come { HasCome (contents_of self.old) plan.old }
+        requires ahead { IsAhead (outlook self.old) plan.old issue
             (Faulted (Some (inst_in self.old.decodes)) (fault_at (state_of self.old.processor) number)) }
-        ensures steps { Steps (progress self.old plan.old out.old.items) result
-            (progress self.new plan.new out.new.items) }
-        ensures issues { Issues self.old result self.new plan.old }
-        ensures lacking { result ≡ Turn.Memory
-            → HasRoom self.old (vec_capacity out.old - vec_len out.old) (next_for self.old plan.old) → ⊥ }
-        ensures still_lacking { result ≡ Turn.Memory
-            → HasRoom self.new (vec_capacity out.new - vec_len out.new) (next_for self.new plan.new) → ⊥ }
-        ensures only { AddsNextOnly self.old self.new (next_for self.old plan.old) }
-        ensures fewer { LeavesFewer result (steps_left self.old plan.old) (steps_left self.new plan.new) }
+        ensures steps { Steps (stage self.old plan.old out.old) result (stage self.new plan.new out.new) }
+        ensures costs { Costs (stage self.old plan.old out.old) result (stage self.new plan.new out.new) }
     {
         let step = self.faults_by(number);
         self.perform(&step, false, issue, plan, out)
@@ -313,17 +299,10 @@ impl Machine {
     ) -> Turn
         requires light { light ≡ true → PlansLight self.old }
         requires running { self.old.ended ≡ None }
-        requires come { HasCome self.old plan.old }
-        requires runs { RunsAhead self.old plan.old issue }
-        ensures steps { Steps (progress self.old plan.old out.old.items) result
-            (progress self.new plan.new out.new.items) }
-        ensures issues { Issues self.old result self.new plan.old }
-        ensures lacking { result ≡ Turn.Memory
-            → HasRoom self.old (vec_capacity out.old - vec_len out.old) (next_for self.old plan.old) → ⊥ }
-        ensures still_lacking { result ≡ Turn.Memory
-            → HasRoom self.new (vec_capacity out.new - vec_len out.new) (next_for self.new plan.new) → ⊥ }
-        ensures only { AddsNextOnly self.old self.new (next_for self.old plan.old) }
-        ensures fewer { LeavesFewer result (steps_left self.old plan.old) (steps_left self.new plan.new) }
+        requires come { HasCome (contents_of self.old) plan.old }
+        requires runs { RunsAhead (outlook self.old) plan.old issue }
+        ensures steps { Steps (stage self.old plan.old out.old) result (stage self.new plan.new out.new) }
+        ensures costs { Costs (stage self.old plan.old out.old) result (stage self.new plan.new out.new) }
     {
         let step = self.does(light);
         self.perform(&step, light, issue, plan, out)
@@ -334,17 +313,10 @@ impl Machine {
     #[inline(never)]
     fn step_storing(&mut self, issue: u64, plan: &mut Schedule, out: &mut Vec<Line>) -> Turn
         requires running { self.old.ended ≡ None }
-        requires come { HasCome self.old plan.old }
-        requires runs { RunsAhead self.old plan.old issue }
-        ensures steps { Steps (progress self.old plan.old out.old.items) result
-            (progress self.new plan.new out.new.items) }
-        ensures issues { Issues self.old result self.new plan.old }
-        ensures lacking { result ≡ Turn.Memory
-            → HasRoom self.old (vec_capacity out.old - vec_len out.old) (next_for self.old plan.old) → ⊥ }
-        ensures still_lacking { result ≡ Turn.Memory
-            → HasRoom self.new (vec_capacity out.new - vec_len out.new) (next_for self.new plan.new) → ⊥ }
-        ensures only { AddsNextOnly self.old self.new (next_for self.old plan.old) }
-        ensures fewer { LeavesFewer result (steps_left self.old plan.old) (steps_left self.new plan.new) }
+        requires come { HasCome (contents_of self.old) plan.old }
+        requires runs { RunsAhead (outlook self.old) plan.old issue }
+        ensures steps { Steps (stage self.old plan.old out.old) result (stage self.new plan.new out.new) }
+        ensures costs { Costs (stage self.old plan.old out.old) result (stage self.new plan.new out.new) }
     {
         self.step_running(false, issue, plan, out)
     }
@@ -363,17 +335,11 @@ impl Machine {
     #[inline(always)]
     fn come(&mut self, turn: u64, coming: Coming, plan: &mut Schedule, out: &mut Vec<Line>) -> Turn
         requires running { self.old.ended ≡ None }
-        requires arrived { HasArrived self.old plan.old coming }
+        requires arrived { HasArrived (contents_of self.old) plan.old coming }
         requires turn { turn ≤ self.old.turn }
-        requires ready { IsReadyFor self.old plan.old turn coming }
-        ensures came { Came coming (progress self.old plan.old out.old.items) result
-            (progress self.new plan.new out.new.items) }
-        ensures lacking { result ≡ Turn.Memory
-            → HasRoom self.old (vec_capacity out.old - vec_len out.old) (next_for self.old plan.old) → ⊥ }
-        ensures still_lacking { result ≡ Turn.Memory
-            → HasRoom self.new (vec_capacity out.new - vec_len out.new) (next_for self.new plan.new) → ⊥ }
-        ensures only { AddsNextOnly self.old self.new (next_for self.old plan.old) }
-        ensures fewer { LeavesFewer result (steps_left self.old plan.old) (steps_left self.new plan.new) }
+        requires ready { IsReadyFor (outlook self.old) plan.old turn coming }
+        ensures came { Came coming (stage self.old plan.old out.old) result (stage self.new plan.new out.new) }
+        ensures costs { Costs (stage self.old plan.old out.old) result (stage self.new plan.new out.new) }
     {
         match coming {
             Coming::Waiting { read } => self.step_drained(read, plan, out),
@@ -404,11 +370,13 @@ impl Machine {
         ensures again { (g : Given) (h : List Item) (f : Finish) → StandsFor g h (Some f) self.old
             → AnswersAgain f result self.old self.new out.old.items out.new.items × (plan.new ≡ plan.old) }
         ensures lacking { (g : Given) (h : List Item) → StandsFor g h None self.old → Follows g h plan.old
-            → result ≡ Turn.Memory → HasRoom self.old (vec_capacity out.old - vec_len out.old) (comes_next g h) → ⊥ }
+            → result ≡ Turn.Memory
+            → HasRoom self.old.processor (vec_capacity out.old - vec_len out.old) (comes_next g h) → ⊥ }
         ensures still_lacking { (g : Given) (h : List Item) → StandsFor g h None self.new → Follows g h plan.new
-            → result ≡ Turn.Memory → HasRoom self.new (vec_capacity out.new - vec_len out.new) (comes_next g h) → ⊥ }
+            → result ≡ Turn.Memory
+            → HasRoom self.new.processor (vec_capacity out.new - vec_len out.new) (comes_next g h) → ⊥ }
         ensures only { (g : Given) (h : List Item) → StandsFor g h None self.old → Follows g h plan.old
-            → AddsNextOnly self.old self.new (comes_next g h) }
+            → AddsNextOnly self.old.processor self.new.processor (comes_next g h) }
         ensures fewer { LeavesFewer result (steps_left self.old plan.old) (steps_left self.new plan.new) }
     {
         match self.ended {
@@ -441,7 +409,7 @@ impl Machine {
         ensures again { (g : Given) (h : List Item) (f : Finish) → StandsFor g h (Some f) self.old
             → AnswersAgain f result self.old self.new out.old.items out.new.items × (plan.new ≡ plan.old) }
         ensures only { (g : Given) (h : List Item) → StandsFor g h None self.old → Follows g h plan.old
-            → AddsNextOnly self.old self.new (comes_next g h) }
+            → AddsNextOnly self.old.processor self.new.processor (comes_next g h) }
         ensures fewer { LeavesFewer result (steps_left self.old plan.old) (steps_left self.new plan.new) }
     {
         match self.ended {
@@ -471,7 +439,7 @@ impl Machine {
             → IsSome result × IfSome result (λ t. AnswersAgain f t self.old self.new out.old.items out.new.items)
             × (plan.new ≡ plan.old) }
         ensures only { (g : Given) (h : List Item) → StandsFor g h None self.old → Follows g h plan.old
-            → AddsNextOnly self.old self.new (comes_next g h) }
+            → AddsNextOnly self.old.processor self.new.processor (comes_next g h) }
         ensures fewer { IfSome result
             (λ t. LeavesFewer t (steps_left self.old plan.old) (steps_left self.new plan.new)) }
     {
@@ -496,7 +464,7 @@ impl Machine {
             → ProceedsUntil g h until result (vec_capacity out.old - vec_len out.old)
             (progress self.old plan.old out.old.items) (progress self.new plan.new out.new.items) }
         ensures only { (g : Given) (h : List Item) → StandsFor g h None self.old → Follows g h plan.old
-            → AddsNextOnly self.old self.new (comes_next g h) }
+            → AddsNextOnly self.old.processor self.new.processor (comes_next g h) }
         ensures fewer { IfSome result
             (λ t. LeavesFewer t (steps_left self.old plan.old) (steps_left self.new plan.new)) }
     {

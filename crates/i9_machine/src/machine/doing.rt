@@ -13,10 +13,11 @@ ghost use Rattle.i9_model.specs.Run.{Ends};
 ghost use Rattle.i9_model.specs.PrintedText.{Drained, Last, view_of, out_lines, point_lines, last_lines, overlays};
 ghost use Rattle.i9_model.specs.PrintedText.{journal_lines};
 ghost use Rattle.i9_course.specs.LateRun.{is_imprecise};
+ghost use Rattle.i9_course.specs.Course.{puts_of};
 ghost use Rattle.i9_processor.specs.Effect.{action_in, move_in, control_in, AreRegisters, AreMade, CanControl, CanMove};
 ghost use Rattle.i9_processor.specs.Effect.{CanTake, HasSpaceFor, IsLight, cache_through, size_with, has_writes};
 ghost use Rattle.i9_processor.specs.Effect.{is_restart};
-ghost use Rattle.i9_processor.specs.State.{state_of, cache_of, size_of};
+ghost use Rattle.i9_processor.specs.State.{state_of, cache_of, size_of, bytes_of};
 ghost use Rattle.i9_processor.specs.Pages.{AddsActionOnly, AddsNoPage};
 ghost use Rattle.i9_model.specs.Events.{IsInRange};
 ghost use Rattle.i9_model.specs.Turns.{HasCost, IssuesAt, waiting_until};
@@ -218,7 +219,8 @@ fn reached_count(event: Option<&Event>) -> usize
 fn hide_under(p: &Processor, e: &Effect, need: &Need, light: bool, done: u64, shade: &mut Shade)
     requires light { light ≡ true → need.now.barrier ≡ false }
     requires whole { AreWhole (cache_of p.now).held }
-    ensures { Hidden p.now shade.old need.now (action_in (state_of p.now) e.now) done shade.new }
+    ensures { Hidden (bytes_of p.now) (puts_of (size_of p.now) (cache_of p.now) (action_in (state_of p.now) e.now))
+        shade.old need.now done shade.new }
 {
     if light {
         return;
@@ -253,25 +255,19 @@ fn go_on(reaches: bool, plan: &mut Schedule)
 }
 
 impl Machine {
-    ghost use Rattle.i9_machine.specs.StandsFor.{LeavesFewer};
-    ghost use Rattle.i9_machine.specs.Step.{IsPlanned, IsSame, Steps, Finishes, Issues, HasRoom, finish_in, next_for};
-    ghost use Rattle.i9_machine.specs.Step.{steps_left};
-    ghost use Rattle.i9_machine.specs.NewPages.{AddsNextOnly};
-    ghost use Rattle.i9_machine.specs.Progress.{progress};
+    ghost use Rattle.i9_machine.specs.Contents.{contents_of};
+    ghost use Rattle.i9_machine.specs.Step.{IsPlanned, Steps, Costs, Finishes, finish_in, stage};
     ghost use Rattle.i9_machine.specs.Doing.{lines_of, line_count, asks_room, HasRoomForStep, IsReady, action_for};
     ghost use Rattle.i9_machine.specs.Doing.{PlansLight, state_behind};
-    ghost use Rattle.i9_machine.specs.Issuing.{most_turns, IsIssued, CanActPlaced};
+    ghost use Rattle.i9_machine.specs.Issuing.{most_turns, keeping, IsIssued, CanActPlaced};
     ghost use Rattle.i9_machine.specs.StandsFor.{HasCome};
 
     /// Answers an end, once its lines are written; the schedule goes on behind an event that is reached with it.
     pub(super) fn answer_end(&mut self, f: Ending, plan: &mut Schedule, out: &mut Vec<Line>) -> Turn
         requires running { self.old.ended ≡ None }
-        ensures finishes { Finishes (progress self.old plan.old out.old.items) (finish_in plan.old f)
-            (vec_capacity out.old - vec_len out.old) result
-            (progress self.new plan.new out.new.items) }
+        ensures finishes { Finishes (stage self.old plan.old out.old) (finish_in plan.old f) result
+            (stage self.new plan.new out.new) }
         ensures processor { self.new.processor ≡ self.old.processor }
-        ensures spare { result ≡ Turn.Memory
-            → vec_capacity out.new - vec_len out.new ≡ vec_capacity out.old - vec_len out.old }
     {
         let event = next_event(plan, f.reaches());
         let reaches = event.is_some();
@@ -319,8 +315,7 @@ impl Machine {
         out: &mut Vec<Line>,
     ) -> Result<Option<Sets>, NoMemory>
         requires light { light ≡ true → PlansLight self.old }
-        ensures same { IsSame self.old self.new }
-        ensures ended { self.new.ended ≡ self.old.ended }
+        ensures same { contents_of self.new ≡ contents_of self.old }
         ensures effect { self.new.effect ≡ self.old.effect }
         ensures need { self.new.need ≡ self.old.need }
         ensures items { out.new.items ≡ out.old.items }
@@ -332,10 +327,11 @@ impl Machine {
         ensures needed { OnErr result
             (asks_room (state_of self.old.processor) self.old.effect step.now (option_copied event.entry) ≡ true) }
         ensures lacking { OnErr result
-            (HasRoomForStep self.old (vec_capacity out.old - vec_len out.old) self.old.effect step.now
-            (option_copied event.entry) → ⊥) }
-        ensures still_lacking { OnErr result (HasRoomForStep self.new (vec_capacity out.new - vec_len out.new) self.new.effect step.now
-            (option_copied event.entry) → ⊥) }
+            (HasRoomForStep self.old.processor (vec_capacity out.old - vec_len out.old) self.old.effect
+            step.now (option_copied event.entry) → ⊥) }
+        ensures still_lacking { OnErr result
+            (HasRoomForStep self.new.processor (vec_capacity out.new - vec_len out.new) self.new.effect
+            step.now (option_copied event.entry) → ⊥) }
         ensures only { AddsActionOnly self.old.processor self.new.processor (action_for self.old self.old.effect) }
     {
         let sets = self.make_sets(light)?;
@@ -376,13 +372,11 @@ impl Machine {
             ≡ cache_through self.old.processor (action_for self.old self.old.effect) self.new.processor }
         ensures size { size_of self.new.processor ≡ size_with sets (size_of self.old.processor) }
         ensures due { self.new.due ≡ step.now.due }
-        ensures length { self.new.length ≡ self.old.length }
-        ensures sets { self.new.sets ≡ self.old.sets }
-        ensures ended { self.new.ended ≡ self.old.ended }
+        ensures keeps { contents_of self.new ≡ keeping (contents_of self.old) self.new.done (contents_of self.new) }
         ensures answer { result ≡ step.now.answer }
         ensures count { (state_of self.new.processor).count ≡ (state_of self.old.processor).count + step.now.counts }
         ensures issued { (need : Need) → self.old.need ≡ waiting_until self.old.floor need
-            → IsIssued self.old need (action_for self.old self.old.effect) self.new }
+            → IsIssued (contents_of self.old) need (action_for self.old self.old.effect) (contents_of self.new) }
         ensures lines { AddsLines out.old.items out.new.items
             (lines_of self.old.effect step.now (option_copied event.entry) (state_of self.old.processor)
             (state_behind self.old self.old.effect step.now)) }
@@ -428,16 +422,9 @@ impl Machine {
         requires running { self.old.ended ≡ None }
         requires step { IsPlanned self.old plan.old step.now }
         requires issue { IssuesAt self.old.board.last self.old.board.records self.old.need issue }
-        requires come { HasCome self.old plan.old }
-        ensures steps { Steps (progress self.old plan.old out.old.items) result
-            (progress self.new plan.new out.new.items) }
-        ensures issues { Issues self.old result self.new plan.old }
-        ensures lacking { result ≡ Turn.Memory
-            → HasRoom self.old (vec_capacity out.old - vec_len out.old) (next_for self.old plan.old) → ⊥ }
-        ensures still_lacking { result ≡ Turn.Memory
-            → HasRoom self.new (vec_capacity out.new - vec_len out.new) (next_for self.new plan.new) → ⊥ }
-        ensures only { AddsNextOnly self.old self.new (next_for self.old plan.old) }
-        ensures fewer { LeavesFewer result (steps_left self.old plan.old) (steps_left self.new plan.new) }
+        requires come { HasCome (contents_of self.old) plan.old }
+        ensures steps { Steps (stage self.old plan.old out.old) result (stage self.new plan.new out.new) }
+        ensures costs { Costs (stage self.old plan.old out.old) result (stage self.new plan.new out.new) }
     {
         let event = next_event(plan, step.reaches);
         match self.make_room(step, light, event, out) {

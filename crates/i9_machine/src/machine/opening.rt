@@ -7,6 +7,7 @@ ghost use Rattle.i9_model.specs.Turns.{StandsFor, IssuesAt, last_issue, issue_tu
 ghost use Rattle.i9_plan.specs.Open.{OpenStands, OpenPlanned, WaitsForAll};
 ghost use Rattle.i9_processor.specs.State.{state_of};
 ghost use Rattle.i9_schedule.specs.Plan.{Plan};
+ghost use Rattle.i9_machine.specs.Contents.{situation, outlook, contents_of, IsLike};
 ghost use Rattle.i9_machine.specs.Opening.{IsFreeToIssue, NextWaits, HasOpenNeed, HasKept};
 
 use super::Machine;
@@ -19,7 +20,7 @@ use i9_schedule::Schedule;
 
 impl Machine {
     ghost use Rattle.i9_machine.specs.Coming.{Arrives, IsReadyFor, IsNextInstruction};
-    ghost use Rattle.i9_machine.specs.Issuing.{IsLike, IsEndTurn};
+    ghost use Rattle.i9_machine.specs.Issuing.{IsEndTurn};
     ghost use Rattle.i9_machine.specs.Overtaking.{late_due, HasPace, IssuesAhead};
     ghost use Rattle.i9_machine.specs.StandsFor.{IsUnderWay};
     ghost use Rattle.i9_machine.specs.Step.{event_for};
@@ -29,7 +30,7 @@ impl Machine {
     fn goes_on(&self) -> bool
         ensures free { result ≡ true → (self.now.due ≡ Due.Nothing)
             × ((state_of self.now.processor).count < self.now.length) }
-        ensures waits { (plan : Plan) → result ≡ false → NextWaits self.now plan }
+        ensures waits { (plan : Plan) → result ≡ false → NextWaits (situation self.now) plan }
     {
         match &self.due {
             Due::Nothing => self.processor.count() != self.length,
@@ -42,8 +43,8 @@ impl Machine {
     /// comes next where no event stands there. While software's requests are to be looked at, a barrier is open.
     #[inline(always)]
     fn is_free(&self) -> bool
-        ensures free { result ≡ true → IsFreeToIssue self.now }
-        ensures waits { (plan : Plan) → result ≡ false → NextWaits self.now plan }
+        ensures free { result ≡ true → IsFreeToIssue (situation self.now) }
+        ensures waits { (plan : Plan) → result ≡ false → NextWaits (situation self.now) plan }
     {
         if !self.goes_on() || self.processor.check() {
             return false;
@@ -62,7 +63,7 @@ impl Machine {
     fn plan_instruction(&mut self) -> Open
         ensures stands { OpenStands (state_of self.old.processor) self.new.decodes result }
         ensures planned { OpenPlanned (state_of self.old.processor) self.new.decodes result self.new.effect }
-        ensures need { HasOpenNeed self.old result self.new }
+        ensures need { HasOpenNeed (situation self.old) result self.new.decodes self.new.need }
         ensures like { IsLike self.old self.new }
     {
         let open = plan_open(&self.processor, &mut self.decodes, &mut self.effect);
@@ -83,8 +84,8 @@ impl Machine {
     /// The turn at which a record issues whose need is kept.
     #[inline(always)]
     pub(super) fn issue_turn(&self) -> u64
-        requires pace { HasPace self.now }
-        requires need { HasKept self.now }
+        requires pace { HasPace (contents_of self.now) }
+        requires need { HasKept self.now.floor self.now.need }
         ensures computed { (rs : List TimedNeed) → StandsFor self.now.board rs
             → result ≡ issue_turn (last_issue rs) rs self.now.need }
         ensures least { IssuesAt self.now.board.last self.now.board.records self.now.need result }
@@ -95,9 +96,9 @@ impl Machine {
     /// The turn at which the instruction at the instruction address would issue, as if no entry and no event
     /// stood before it; nothing where it waits for all that is open.
     fn issue_ahead(&mut self) -> Option<u64>
-        requires pace { HasPace self.old }
+        requires pace { HasPace (contents_of self.old) }
         ensures like { IsLike self.old self.new }
-        ensures turn { IfSome result (λ t. IssuesAhead self.old t) }
+        ensures turn { IfSome result (λ t. IssuesAhead (contents_of self.old) t) }
         ensures waits { IsNone result
             → WaitsForAll (state_of self.old.processor) (stands_at (state_of self.old.processor)) }
     {
@@ -114,13 +115,13 @@ impl Machine {
     // It is seldom so, and this is no part of the code that calls it.
     #[inline(never)]
     fn look_behind(&mut self, address: u32, until: u64) -> (u64, Coming)
-        requires pace { HasPace self.old }
-        requires until { IsEndTurn self.old until }
+        requires pace { HasPace (contents_of self.old) }
+        requires until { IsEndTurn self.old.board until }
         requires open { self.old.turn < until }
-        requires late { late_due self.old ≡ Some address }
+        requires late { late_due (situation self.old) ≡ Some address }
         ensures like { IsLike self.old self.new }
-        ensures arrives { (plan : Plan) → Arrives self.old plan result.0 result.1 }
-        ensures ready { (plan : Plan) → IsReadyFor self.new plan result.0 result.1 }
+        ensures arrives { (plan : Plan) → Arrives (contents_of self.old) plan result.0 result.1 }
+        ensures ready { (plan : Plan) → IsReadyFor (outlook self.new) plan result.0 result.1 }
     {
         match self.issue_ahead() {
             Some(issue) if issue < self.done => (issue, Coming::Overtaking(address)),
@@ -133,15 +134,15 @@ impl Machine {
     #[inline(always)]
     fn look_at(&self, until: u64, plan: &Schedule, coming: Coming) -> (u64, Coming)
         requires stands { IsUnderWay self.now plan.now }
-        requires until { IsEndTurn self.now until }
+        requires until { IsEndTurn self.now.board until }
         requires open { self.now.turn < until }
-        requires precise { late_due self.now ≡ None }
-        requires next { IsNextInstruction self.now coming }
-        requires ready { (t : ℕ) → event_for self.now plan.now ≡ None
+        requires precise { late_due (situation self.now) ≡ None }
+        requires next { IsNextInstruction (outlook self.now) coming }
+        requires ready { (t : ℕ) → event_for (situation self.now) plan.now ≡ None
             → IssuesAt self.now.board.last self.now.board.records self.now.need t
-            → IsReadyFor self.now plan.now t coming }
-        ensures arrives { Arrives self.now plan.now result.0 result.1 }
-        ensures ready { IsReadyFor self.now plan.now result.0 result.1 }
+            → IsReadyFor (outlook self.now) plan.now t coming }
+        ensures arrives { Arrives (contents_of self.now) plan.now result.0 result.1 }
+        ensures ready { IsReadyFor (outlook self.now) plan.now result.0 result.1 }
     {
         let turn = self.issue_turn();
         if standing(plan, self.processor.count(), turn).is_some() {
@@ -156,12 +157,12 @@ impl Machine {
     #[inline(always)]
     fn look_open(&mut self, until: u64, plan: &Schedule) -> (u64, Coming)
         requires stands { IsUnderWay self.old plan.now }
-        requires until { IsEndTurn self.old until }
+        requires until { IsEndTurn self.old.board until }
         requires open { self.old.turn < until }
-        requires precise { late_due self.old ≡ None }
+        requires precise { late_due (situation self.old) ≡ None }
         ensures like { IsLike self.old self.new }
-        ensures arrives { Arrives self.old plan.now result.0 result.1 }
-        ensures ready { IsReadyFor self.new plan.now result.0 result.1 }
+        ensures arrives { Arrives (contents_of self.old) plan.now result.0 result.1 }
+        ensures ready { IsReadyFor (outlook self.new) plan.now result.0 result.1 }
     {
         if !self.is_free() {
             return (until, Coming::Waiting { read: false });
@@ -179,8 +180,8 @@ impl Machine {
     pub(super) fn look(&mut self, plan: &Schedule) -> (u64, Coming)
         requires stands { IsUnderWay self.old plan.now }
         ensures like { IsLike self.old self.new }
-        ensures arrives { Arrives self.old plan.now result.0 result.1 }
-        ensures ready { IsReadyFor self.new plan.now result.0 result.1 }
+        ensures arrives { Arrives (contents_of self.old) plan.now result.0 result.1 }
+        ensures ready { IsReadyFor (outlook self.new) plan.now result.0 result.1 }
     {
         let until = self.board.all_done();
         if until <= self.turn {
@@ -198,7 +199,7 @@ impl Machine {
     /// The address of the instruction whose arithmetic fault is to be entered, where it may be imprecise.
     #[inline(always)]
     fn late_fault(&self) -> Option<u32>
-        ensures { result ≡ late_due self.now }
+        ensures { result ≡ late_due (situation self.now) }
     {
         if self.processor.count() >= self.length {
             return None;

@@ -112,8 +112,8 @@ pub(super) fn standing(plan: &Schedule, count: u64, turn: u64) -> Option<&Event>
 
 impl Machine {
     ghost use Rattle.i9_machine.specs.Coming.{HasRead};
-    ghost use Rattle.i9_machine.specs.Issuing.{IsLike};
-    ghost use Rattle.i9_machine.specs.Step.{IsStepWhere, IsPlannedIn, IsNext, event_for, next_where};
+    ghost use Rattle.i9_machine.specs.Contents.{situation, outlook, IsLike};
+    ghost use Rattle.i9_machine.specs.Step.{IsStepIn, IsNext, event_for, next_where};
 
     /// What is told of an instruction of these words.
     #[inline(always)]
@@ -174,11 +174,11 @@ impl Machine {
             (traced_action (inst_in self.now.decodes) (state_of self.now.processor)) self.now.effect }
         requires row { AreRequestsInRow (inst_in self.now.decodes) self.now.effect }
         ensures { (need : Need) (stands : Option event.Event) (plan : Plan)
-            → next_where self.now stands
+            → next_where (situation self.now) stands
             ≡ Does (record_of (Instruction (inst_in self.now.decodes)) (state_of self.now.processor))
             → need ≡ need_of (size_of self.now.processor) (cache_of self.now.processor) (state_of self.now.processor)
             (Instruction (inst_in self.now.decodes))
-            → need.cost ≤ most_turns → IsStepWhere self.now stands plan result need self.now.effect }
+            → need.cost ≤ most_turns → IsStepIn (situation self.now) stands plan result need self.now.effect }
     {
         Step {
             reaches: false,
@@ -194,12 +194,12 @@ impl Machine {
         requires words { TellsWords count (state_of self.old.processor) words }
         ensures step { (need : Need) (inst : Option Inst) (stands : Option event.Event) (plan : Plan)
             → count ≡ faulted_words inst
-            → next_where self.old stands
+            → next_where (situation self.old) stands
             ≡ Does (record_of (Faulted inst (fault_at (state_of self.old.processor) number))
             (state_of self.old.processor))
             → need ≡ need_of (size_of self.old.processor) (cache_of self.old.processor) (state_of self.old.processor)
             (Faulted inst (fault_at (state_of self.old.processor) number))
-            → need.cost ≤ most_turns → IsStepWhere self.old stands plan result need self.new.effect }
+            → need.cost ≤ most_turns → IsStepIn (situation self.old) stands plan result need self.new.effect }
         ensures like { IsLike self.old self.new }
         ensures need { self.new.need ≡ self.old.need }
     {
@@ -223,12 +223,12 @@ impl Machine {
         requires words { TellsWords (words_of (inst_in self.old.decodes)) (state_of self.old.processor)
             (words_in self.old.decodes) }
         ensures step { (need : Need) (stands : Option event.Event) (plan : Plan)
-            → next_where self.old stands
+            → next_where (situation self.old) stands
             ≡ Does (record_of (Faulted (Some (inst_in self.old.decodes))
             (fault_at (state_of self.old.processor) number)) (state_of self.old.processor))
             → need ≡ need_of (size_of self.old.processor) (cache_of self.old.processor) (state_of self.old.processor)
             (Faulted (Some (inst_in self.old.decodes)) (fault_at (state_of self.old.processor) number))
-            → need.cost ≤ most_turns → IsStepWhere self.old stands plan result need self.new.effect }
+            → need.cost ≤ most_turns → IsStepIn (situation self.old) stands plan result need self.new.effect }
         ensures like { IsLike self.old self.new }
         ensures need { self.new.need ≡ self.old.need }
     {
@@ -242,10 +242,10 @@ impl Machine {
         requires below { (state_of self.old.processor).count < self.old.length }
         requires free { self.old.due ≡ Due.Nothing }
         requires chosen { choice_in (state_of self.old.processor) ≡ Ok None }
-        requires stands { event_for self.old plan.now ≡ None }
+        requires stands { event_for (situation self.old) plan.now ≡ None }
         requires drained { IsDrained self.old.processor }
         requires read { read ≡ true → IsRead (state_of self.old.processor) self.old.decodes }
-        ensures next { IsNext self.old plan.now result self.new }
+        ensures next { IsNext (situation self.old) plan.now result self.new }
         ensures like { IsLike self.old self.new }
     {
         match plan_here(&self.processor, read, &mut self.decodes, &mut self.effect) {
@@ -275,7 +275,7 @@ impl Machine {
     fn entry(&mut self, fault: &Fault, plan: &Schedule) -> Result<Step, Ending>
         requires due { self.old.due ≡ Due.Entry fault.now }
         requires drained { IsDrained self.old.processor }
-        ensures next { IsNext self.old plan.now result self.new }
+        ensures next { IsNext (situation self.old) plan.now result self.new }
         ensures like { IsLike self.old self.new }
     {
         match plan_entry(&self.processor, fault) {
@@ -296,7 +296,7 @@ impl Machine {
         requires free { self.old.due ≡ Due.Nothing }
         requires chosen { choice_in (state_of self.old.processor) ≡ Ok (Some choice.now) }
         requires drained { IsDrained self.old.processor }
-        ensures next { IsNext self.old plan.now result self.new }
+        ensures next { IsNext (situation self.old) plan.now result self.new }
         ensures like { IsLike self.old self.new }
     {
         match plan_interrupt(&self.processor, choice) {
@@ -315,10 +315,10 @@ impl Machine {
         requires below { (state_of self.old.processor).count < self.old.length }
         requires free { self.old.due ≡ Due.Nothing }
         requires chosen { choice_in (state_of self.old.processor) ≡ Ok None }
-        requires stands { event_for self.old plan.now ≡ Some event.now }
+        requires stands { event_for (situation self.old) plan.now ≡ Some event.now }
         requires ranges { IsInRange event.now }
         requires drained { IsDrained self.old.processor }
-        ensures next { IsNext self.old plan.now result self.new }
+        ensures next { IsNext (situation self.old) plan.now result self.new }
         ensures like { IsLike self.old self.new }
     {
         match plan_event(&self.processor, event) {
@@ -338,9 +338,9 @@ impl Machine {
         requires free { self.old.due ≡ Due.Nothing }
         requires chosen { choice_in (state_of self.old.processor) ≡ Ok None }
         requires drained { IsDrained self.old.processor }
-        requires timely { IsTimely self.old plan.now }
+        requires timely { IsTimely (situation self.old) self.old.turn plan.now }
         requires read { read ≡ true → IsRead (state_of self.old.processor) self.old.decodes }
-        ensures next { IsNext self.old plan.now result self.new }
+        ensures next { IsNext (situation self.old) plan.now result self.new }
         ensures like { IsLike self.old self.new }
     {
         match standing(plan, self.processor.count(), self.turn) {
@@ -355,8 +355,8 @@ impl Machine {
         requires below { (state_of self.old.processor).count < self.old.length }
         requires free { self.old.due ≡ Due.Nothing }
         requires drained { IsDrained self.old.processor }
-        requires timely { IsTimely self.old plan.now }
-        ensures next { IsNext self.old plan.now result self.new }
+        requires timely { IsTimely (situation self.old) self.old.turn plan.now }
+        ensures next { IsNext (situation self.old) plan.now result self.new }
         ensures like { IsLike self.old self.new }
     {
         match self.processor.choose() {
@@ -371,9 +371,9 @@ impl Machine {
     /// instruction in the decode cache but an event.
     pub(super) fn next_step(&mut self, read: bool, plan: &Schedule) -> Result<Step, Ending>
         requires drained { IsDrained self.old.processor }
-        requires timely { IsTimely self.old plan.now }
-        requires read { read ≡ true → HasRead self.old }
-        ensures next { IsNext self.old plan.now result self.new }
+        requires timely { IsTimely (situation self.old) self.old.turn plan.now }
+        requires read { read ≡ true → HasRead (outlook self.old) }
+        ensures next { IsNext (situation self.old) plan.now result self.new }
         ensures like { IsLike self.old self.new }
     {
         if read {

@@ -32,7 +32,8 @@ impl Machine {
         ensures again { (g : Given) (h : List Item) (f : Finish) → StandsFor g h (Some f) self.old
             → AnswersAgain f result self.old self.new out.old.items out.new.items × (plan.new ≡ plan.old) }
         ensures lacking { (g : Given) (h : List Item) → StandsFor g h None self.new → Follows g h plan.new
-            → result ≡ Turn.Memory → HasRoom self.new (vec_capacity out.new - vec_len out.new) (comes_next g h) → ⊥ }
+            → result ≡ Turn.Memory
+            → HasRoom self.new.processor (vec_capacity out.new - vec_len out.new) (comes_next g h) → ⊥ }
     {
         match self.ended {
             Some(e) => Turn::End(e),
@@ -46,7 +47,8 @@ impl Machine {
         ensures next { (g : Given) (h : List Item) → StandsFor g h None self.old → Follows g h plan.old
             → Turns g h result (progress self.old plan.old out.old.items) (progress self.new plan.new out.new.items) }
         ensures lacking { (g : Given) (h : List Item) → StandsFor g h None self.new → Follows g h plan.new
-            → result ≡ Turn.Memory → HasRoom self.new (vec_capacity out.new - vec_len out.new) (comes_next g h) → ⊥ }
+            → result ≡ Turn.Memory
+            → HasRoom self.new.processor (vec_capacity out.new - vec_len out.new) (comes_next g h) → ⊥ }
     {
         let begun = self.turn;
         'steps: loop {

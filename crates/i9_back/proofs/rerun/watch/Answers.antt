@@ -8,7 +8,7 @@ use Rattle.i9_back.proofs.rerun.watch.Goals as goal
 pub steps-init : goal.steps-init
 steps-init c = record {
   watching = λ what s. watching_begins what c.args.a c.args.from c.args.to c.args.m.now c.args.plan.now _ c.requires.order s
-      (shown_steps what _ _ _ (λ rs stands. c.byte-before.ensures what (steps rs) None stands));
+      (shown_steps what c.args.m.now _ _ (λ rs stands. c.byte-before.ensures what (steps rs) None stands));
   events = refl;
 }
 
@@ -29,7 +29,7 @@ steps-preserved-in-On c =
           let at = c.steps.invariant.watching what s in
           let came = c.in-On.ensures.next what (steps (at.newer ++ s.records)) at.going.stands at.going.follows in
           on_watched what c.args.a s.records _ _ _ _ _ _ at came.mid _ _ _ _ below _
-          (shown_steps what _ _ _ (λ rs stands. c.byte-before-in-On.ensures what (steps rs) None stands)) came.comes;
+          (shown_steps what c.proceed.new.self _ _ (λ rs stands. c.byte-before-in-On.ensures what (steps rs) None stands)) came.comes;
       events = same_events w.given (now.newer ++ w.stands.records) _ _ _ _ now.going came.mid _ _ _ _ answers.On came.comes ∙ c.steps.invariant.events;
     }
 
@@ -44,7 +44,7 @@ steps-preserved c =
           let at = c.steps.invariant.watching what s in
           let came = c.in-Issued.ensures.next what (steps (at.newer ++ s.records)) at.going.stands at.going.follows in
           issued_watched what c.args.a s.records _ _ _ _ _ _ at came.mid _ _ _ _ below _
-          (shown_steps what _ _ _ (λ rs stands. c.byte-after.ensures what (steps rs) None stands)) c.in-Issued.issued came.comes
+          (shown_steps what c.proceed.new.self _ _ (λ rs stands. c.byte-after.ensures what (steps rs) None stands)) c.in-Issued.issued came.comes
           c.newer_change-found.result c.newer_change-found.ensures;
       events = same_events w.given (now.newer ++ w.stands.records) _ _ _ _ now.going came.mid _ _ _ _ (answers.Issued c.in-Issued.issued) came.comes
           ∙ c.steps.invariant.events;

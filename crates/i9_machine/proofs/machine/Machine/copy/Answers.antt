@@ -1,32 +1,22 @@
-use Rattle.std.proofs.Common.{◌≤◌, None, refl, sym, subst}
+use Rattle.std.proofs.Common.{◌≤◌, None, sym, subst}
 use Rattle.i9_model.specs.State.{State}
-use Rattle.i9_machine.proofs.Unmoved.{same_stands}
+use Rattle.i9_machine.specs.Contents.{situation, contents_of}
+use Rattle.i9_machine.specs.StandsFor.{Stand}
 use Rattle.i9_machine.proofs.machine.Machine.copy.Goals as goal
 
 pub returns-clause-stands : goal.returns-clause-stands
 returns-clause-stands c = λ g h stands.
+    let m = c.args.self.now in
     let made = c.in_ok-processor.ensures.contents in
-    same_stands g h c.args.self.now _ None
-    record {
-      state = made.seen.state;
-      cache = made.seen.cache;
-      size = made.seen.size;
-      due = refl;
-      length = refl;
-      sets = refl;
-      unmoved = record {
-        board = c.copy-board.ensures;
-        turn = refl;
-        floor = refl;
-        wait = refl;
-        done = refl;
-        cells = made.seen.cells;
-        bytes = made.bytes;
-        queue = made.queue;
-        shade = c.copy-shade.ensures;
-      };
-    }
-    stands.ended tt stands
+    let seen = made.seen in
+    subst (Stand g h None) (λ i. record (contents_of m) {
+      at = record (situation m) { state = sym seen.state i; size = sym seen.size i; cache = sym seen.cache i;
+          board = sym c.copy-board.ensures i };
+      cells = sym seen.cells i;
+      bytes = sym made.bytes i;
+      queue = sym made.queue i;
+      shade = sym c.copy-shade.ensures i;
+    }) stands
 
 pub invariant_of-result : goal.invariant_of-result
 invariant_of-result c =

@@ -1,4 +1,5 @@
 use Rattle.std.proofs.Common.{inl, sym, refl, ◌∙◌}
+use Rattle.i9_machine.specs.Contents.{situation}
 use Rattle.i9_machine.specs.Step.{event_for}
 use Rattle.i9_machine.proofs.Opening.{choice_waits}
 use Rattle.i9_machine.proofs.Stepping.{goes_on}
@@ -7,15 +8,17 @@ use Rattle.i9_machine.proofs.machine.Machine.is_free.Goals.{then-not-goes_on-via
 
 pub returns-in-Ok-Some-clause-waits : goal.returns-in-Ok-Some-clause-waits
 returns-in-Ok-Some-clause-waits c = λ plan no.
-    let m = c.args.self.now in
+    let at = situation c.args.self.now in
     let within = c.if-not-goes_on.ensures.free refl in
-    choice_waits m plan (goes_on m (event_for m plan) within.0 within.1) (λ none. absurd (cc (c.in-Ok-Some.ensures ∙ none)))
+    choice_waits at plan (goes_on at (event_for at plan) within.0 within.1)
+    (λ none. absurd (cc (c.in-Ok-Some.ensures ∙ none)))
 
 pub returns-in-Err-clause-waits : goal.returns-in-Err-clause-waits
 returns-in-Err-clause-waits c = λ plan no.
-    let m = c.args.self.now in
+    let at = situation c.args.self.now in
     let within = c.if-not-goes_on.ensures.free refl in
-    choice_waits m plan (goes_on m (event_for m plan) within.0 within.1) (λ none. absurd (cc (c.in-Err.ensures ∙ none)))
+    choice_waits at plan (goes_on at (event_for at plan) within.0 within.1)
+    (λ none. absurd (cc (c.in-Err.ensures ∙ none)))
 
 pub returns-then-not-goes_on-clause-waits : goal.returns-then-not-goes_on-clause-waits
 returns-then-not-goes_on-clause-waits c = λ plan no.

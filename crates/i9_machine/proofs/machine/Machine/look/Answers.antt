@@ -1,5 +1,6 @@
 use Rattle.std.proofs.Common.{◌≢◌, false, sym, ◌∙◌, arith}
 use Rattle.i9_model.specs.declared.run.Due.TheVariants as dues
+use Rattle.i9_machine.specs.Contents.{situation, contents_of}
 use Rattle.i9_machine.proofs.Arriving.{drained_arrive, waits_arrive}
 use Rattle.i9_machine.proofs.Opening.{due_waits}
 use Rattle.i9_machine.proofs.machine.Machine.look.Goals as goal
@@ -7,7 +8,8 @@ use Rattle.i9_machine.proofs.machine.Machine.look.Goals.{in-Nothing, in_default}
 
 pub returns-then-until-self-clause-arrives : goal.returns-then-until-self-clause-arrives
 returns-then-until-self-clause-arrives c =
-    drained_arrive c.args.self.now c.args.plan.now c.all_done-until.result c.all_done-until.ensures.computed (omega (arith, c.if-until-self.true))
+    drained_arrive (contents_of c.args.self.now) c.args.plan.now c.all_done-until.result
+    c.all_done-until.ensures.computed (omega (arith, c.if-until-self.true))
 
 pub returns-in-Some-clause-arrives : goal.returns-in-Some-clause-arrives
 returns-in-Some-clause-arrives c = c.look_behind.ensures.arrives c.args.plan.now
@@ -23,5 +25,6 @@ returns-in-None-clause-arrives c =
       | in-Nothing w ↦ absurd (cc (sym w.matches-is ∙ c.if-matches.false))
       | in_default w ↦ w.in_default.not-Nothing
     ] in
-    waits_arrive m c.args.plan.now c.all_done-until.result false c.all_done-until.ensures.computed (omega (arith, c.if-until-self.false)) (sym c.late_fault.ensures ∙ c.in-None.is)
-    (due_waits m c.args.plan.now due)
+    waits_arrive (contents_of m) c.args.plan.now c.all_done-until.result false c.all_done-until.ensures.computed
+    (omega (arith, c.if-until-self.false)) (sym c.late_fault.ensures ∙ c.in-None.is)
+    (due_waits (situation m) c.args.plan.now due)

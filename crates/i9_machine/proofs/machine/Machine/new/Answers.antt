@@ -17,18 +17,20 @@ returns-clause-stands c = λ plan is_plan.
     let board = c.new-2.ensures.pending in
     record {
       past = tt;
-      state = subst (AreAlike (boot (pairs_of c.args.image.now))) (sym booted.state) (alike_same (boot (pairs_of c.args.image.now)));
+      state = subst (AreAlike (boot (pairs_of c.args.image.now))) (sym booted.state)
+          (alike_same (boot (pairs_of c.args.image.now)));
       size = booted.size;
       cache = booted.cache;
-      lands = first_lands g _ board refl refl refl (λ r few. ap (landed 1) (booted.cells r few)) booted.bytes booted.queue;
+      lands = first_lands g _ board refl refl refl
+          (λ r few. ap (landed 1) (booted.cells r few)) booted.bytes booted.queue;
       shaded = none_hidden (boot (pairs_of c.args.image.now)).memory.bytes _ c.new-3.ensures.due;
       early = omega arith;
       paced = record {
         bound = 1;
         far = first_far g is_plan c.requires.length;
         done = subst (λ (b : Pending). IsAllDone b 1) (sym board) none_done;
-        turn = omega arith;
-        floor = omega arith;
+        now = omega arith;
+        fence = omega arith;
       };
       due = refl;
       length = refl;

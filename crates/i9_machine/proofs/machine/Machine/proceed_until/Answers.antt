@@ -2,91 +2,111 @@ use Rattle.std.specs.Prelude.{◌-◌, vec_capacity, vec_len}
 use Rattle.std.proofs.Common.{◌≡◌, ℕ, ◌<◌, ◌≤◌, max, List, Option, None, Some, IfSome, refl, sym, ◌∙◌, subst, arith}
 use Rattle.i9_model.specs.Given.{Given}
 use Rattle.i9_course.specs.Course.{Item, ahead, comes_next}
-use Rattle.i9_processor.specs.declared.processor.Processor.{Processor}
 use Rattle.i9_processor.specs.Effect.{KeepsRoom}
 use Rattle.i9_processor.specs.Pages.{AddsNoPage}
-use Rattle.i9_machine.specs.StandsFor.{ProceedsUntil}
+use Rattle.i9_machine.specs.declared.machine.Machine.{Machine}
+use Rattle.i9_machine.specs.Coming.{IsReadyFor}
+use Rattle.i9_machine.specs.Contents.{Outlook, contents_of}
+use Rattle.i9_machine.specs.StandsFor.{StandsFor, ProceedsUntil}
 use Rattle.i9_machine.specs.Step.{steps_left}
 use Rattle.i9_machine.specs.Progress.{progress}
-use Rattle.i9_machine.proofs.Arriving.{passed_arrived, passed_ended, passed_stands, passed_turn, passed_ready, passed_left, fewer_from}
+use Rattle.i9_machine.proofs.Arriving.{come_passed, here_arrived, passed_ended, passed_stands, passed_turn, passed_left, like_left, fewer_from}
 use Rattle.i9_machine.proofs.Lifting.{came_comes, next_room, kept_room}
 use Rattle.i9_machine.proofs.NewPages.{none_next, next_behind, run_only}
-use Rattle.i9_machine.proofs.Performing.{like_stands, like_left}
 use Rattle.i9_machine.proofs.machine.Machine.proceed_until.Goals as goal
 use Rattle.i9_machine.proofs.machine.Machine.proceed_until.Goals.{in_default-via-in-Some+else-until-max, in_default-via-in_default}
 
 -- where no turn is given, nothing is asked
-none_below : (g : Given) (h : List Item) (until : Option ℕ) → ((u : ℕ) → until ≡ Some u → ⊥) → IfSome until (λ u. (ahead g h).turn < u)
+none_below : (g : Given) (h : List Item) (until : Option ℕ) → ((u : ℕ) → until ≡ Some u → ⊥)
+    → IfSome until (λ u. (ahead g h).turn < u)
 none_below g h None none = tt
 none_below g h (Some u) none = absurd (none u refl)
 
 pub come-requires-clause-arrived : goal.come-requires-clause-arrived
 come-requires-clause-arrived c =
-    passed_arrived c.look-turn.result.0 c.args.self.now c.look-turn.new.self c.pass_to-in_default.new.self c.args.plan.now c.look-turn.result.1 c.requires.stands
-    c.look-turn.ensures.like c.look-turn.ensures.arrives c.pass_to-in_default.ensures.passed
+    let m = c.args.self.now in
+    let next = c.pass_to-in_default.new.self in
+    let u = c.requires.stands in
+    let t = c.look-turn.result.0 in
+    let like = c.look-turn.ensures.like in
+    let at = c.look-turn.ensures.arrives u.given u.items u.stands u.follows in
+    let come = come_passed u.given u.items m _ next t _ like at c.pass_to-in_default.ensures.passed u.stands in
+    here_arrived u.given u.items (contents_of m) (contents_of next) t c.args.plan.now _ at come.0 u.follows
+    (omega (arith, come.1))
 
 pub come-requires-clause-turn : goal.come-requires-clause-turn
 come-requires-clause-turn c =
-    let now = passed_turn c.look-turn.result.0 c.look-turn.new.self c.pass_to-in_default.new.self c.pass_to-in_default.ensures.passed in
+    let now = passed_turn c.look-turn.result.0 c.look-turn.new.self c.pass_to-in_default.new.self
+    c.pass_to-in_default.ensures.passed in
     omega (arith, now)
 
 pub come-requires-clause-ready : goal.come-requires-clause-ready
 come-requires-clause-ready c =
-    passed_ready c.look-turn.result.0 c.look-turn.new.self c.pass_to-in_default.new.self c.args.plan.now c.look-turn.result.1 c.pass_to-in_default.ensures.passed c.pass_to-in_default.ensures.keeps c.look-turn.ensures.ready
+    subst (λ (o : Outlook). IsReadyFor o c.args.plan.now c.look-turn.result.0 c.look-turn.result.1)
+    (sym c.pass_to-in_default.ensures.keeps) c.look-turn.ensures.ready
 
 pub come-requires-clause-running : goal.come-requires-clause-running
 come-requires-clause-running c =
-    passed_ended c.look-turn.result.0 c.look-turn.new.self c.pass_to-in_default.new.self c.pass_to-in_default.ensures.passed ∙ c.look-turn.ensures.like.ended ∙ c.requires.running
+    passed_ended c.look-turn.result.0 c.look-turn.new.self c.pass_to-in_default.new.self
+    c.pass_to-in_default.ensures.passed
+    ∙ (λ i. (c.look-turn.ensures.like i).ended) ∙ c.requires.running
 
 pub returns-in_default-clause-next : goal.returns-in_default-clause-next
 returns-in_default-clause-next c = λ g h stands follows.
     let m = c.args.self.now in
     let mid = c.look-turn.new.self in
+    let next = c.pass_to-in_default.new.self in
     let t = c.look-turn.result.0 in
-    let at = c.look-turn.ensures.arrives g h stands follows in
-    let turn : (ahead g h).turn ≡ max m.turn t = at.turn in
-    let same : mid.turn ≡ m.turn = c.look-turn.ensures.like.turn in
-    let now : c.pass_to-in_default.new.self.turn ≡ max mid.turn t = passed_turn t mid c.pass_to-in_default.new.self c.pass_to-in_default.ensures.passed in
-    let stands_now = passed_stands g h t mid c.pass_to-in_default.new.self c.pass_to-in_default.ensures.passed (omega (arith, turn)) (like_stands g h m mid c.look-turn.ensures.like stands) in
+    let like = c.look-turn.ensures.like in
+    let plan = c.args.plan.now in
     let out = c.args.out.now in
+    let new = c.come.new in
+    let at = c.look-turn.ensures.arrives g h stands follows in
+    let come = come_passed g h m mid next t _ like at c.pass_to-in_default.ensures.passed stands in
+    let turn : (ahead g h).turn ≡ max m.turn t = at.turn in
+    let same : mid.turn ≡ m.turn = λ i. (like i).turn in
     let below : IfSome c.args.until (λ u. (ahead g h).turn < u) = elim c.in_default.branch [
       | in_default-via-in-Some+else-until-max w ↦
           let late = w.if-until-max.false in
           let at : w.max.result ≡ max t mid.turn = w.max.ensures in
-          subst (λ (u : Option ℕ). IfSome u (λ u. (ahead g h).turn < u)) (sym w.in-Some.is) (omega (arith, late, at, turn, same))
+          subst (λ (u : Option ℕ). IfSome u (λ u. (ahead g h).turn < u)) (sym w.in-Some.is)
+          (omega (arith, late, at, turn, same))
       | in_default-via-in_default w ↦ none_below g h c.args.until w.in_default.not-Some
     ] in (
       below,
       record {
-        mid = c.pass_to-in_default.new.self;
-        now = omega (arith, turn, same, now);
-        stands = stands_now;
-        comes = came_comes g h c.look-turn.result.1 (progress c.pass_to-in_default.new.self c.args.plan.now out.items) c.come.result (progress c.come.new.self c.come.new.plan c.come.new.out.items)
-            stands_now follows at.imprecise (omega (arith, turn, same, now)) c.come.ensures.came;
+        mid = next;
+        now = come.1;
+        stands = come.0;
+        comes = came_comes g h (progress next plan out.items)
+            (progress new.self new.plan new.out.items) _ _ come.0 follows
+            (omega (arith, come.1)) c.look-turn.result.1 c.come.result at.imprecise c.come.ensures.came;
         lacking = λ is room.
             let spare = vec_capacity out - vec_len out in
-            let keeps = subst (λ (p : Processor). KeepsRoom p c.pass_to-in_default.new.self.processor) c.look-turn.ensures.like.processor c.pass_to-in_default.ensures.room in
-            c.come.ensures.lacking is (next_room g h c.pass_to-in_default.new.self c.args.plan.now spare stands_now follows (kept_room m c.pass_to-in_default.new.self spare (comes_next g h) keeps room));
+            let keeps = rw like at c.pass_to-in_default.ensures.room in
+            c.come.ensures.costs.lacking is (next_room g h (contents_of next) plan next.processor spare come.0 follows
+            (kept_room m.processor next.processor spare (comes_next g h) keeps room));
       },
     )
 
 pub returns-in_default-clause-fewer : goal.returns-in_default-clause-fewer
 returns-in_default-clause-fewer c =
-    let less = passed_left c.look-turn.result.0 c.look-turn.new.self c.pass_to-in_default.new.self c.args.plan.now c.pass_to-in_default.ensures.passed in
+    let less = passed_left c.look-turn.result.0 c.look-turn.new.self c.pass_to-in_default.new.self c.args.plan.now
+    c.pass_to-in_default.ensures.passed in
     let same = like_left c.args.self.now c.look-turn.new.self c.args.plan.now c.look-turn.ensures.like in
-    fewer_from c.come.result _ _ (steps_left c.come.new.self c.come.new.plan) (omega (arith, less, same)) c.come.ensures.fewer
+    fewer_from c.come.result _ _ (steps_left c.come.new.self c.come.new.plan)
+    (omega (arith, less, same)) c.come.ensures.costs.fewer
 
 pub returns-in_default-clause-only : goal.returns-in_default-clause-only
 returns-in_default-clause-only c = λ g h stands follows.
     let m = c.args.self.now in
-    let mid = c.pass_to-in_default.new.self in
-    let t = c.look-turn.result.0 in
+    let next = c.pass_to-in_default.new.self in
+    let like = c.look-turn.ensures.like in
     let at = c.look-turn.ensures.arrives g h stands follows in
-    let turn : (ahead g h).turn ≡ max m.turn t = at.turn in
-    let stands_now = passed_stands g h t c.look-turn.new.self mid c.pass_to-in_default.ensures.passed (omega (arith, turn)) (like_stands g h m c.look-turn.new.self c.look-turn.ensures.like stands) in
-    next_behind m mid c.come.new.self (comes_next g h)
-    (subst (λ (p : Processor). AddsNoPage p mid.processor) c.look-turn.ensures.like.processor c.pass_to-in_default.ensures.no_more)
-    (run_only g h mid c.come.new.self c.args.plan.now stands_now follows c.come.ensures.only)
+    let come = come_passed g h m _ next c.look-turn.result.0 _ like at c.pass_to-in_default.ensures.passed stands in
+    next_behind m.processor next.processor c.come.new.self.processor (comes_next g h)
+    (rw like at c.pass_to-in_default.ensures.no_more)
+    (run_only g h (contents_of next) c.args.plan.now next.processor _ come.0 follows c.come.ensures.costs.only)
 
 pub returns-in-Some-clause-next : goal.returns-in-Some-clause-next
 returns-in-Some-clause-next c = λ g h stands follows.
@@ -94,22 +114,26 @@ returns-in-Some-clause-next c = λ g h stands follows.
     let mid = c.look-turn.new.self in
     let next = c.pass_to.new.self in
     let u = c.in-Some.until in
-    let turn : (ahead g h).turn ≡ max m.turn c.look-turn.result.0 = (c.look-turn.ensures.arrives g h stands follows).turn in
-    let same : mid.turn ≡ m.turn = c.look-turn.ensures.like.turn in
+    let turn : (ahead g h).turn ≡ max m.turn c.look-turn.result.0 = (c.look-turn.ensures.arrives g h stands
+    follows).turn in
+    let same : mid.turn ≡ m.turn = λ i. (c.look-turn.ensures.like i).turn in
     let low : u ≤ c.max.result = c.if-until-max.true in
     let at : c.max.result ≡ max c.look-turn.result.0 mid.turn = c.max.ensures in
     let now : next.turn ≡ max mid.turn u = passed_turn u mid next c.pass_to.ensures.passed in
     let later : u ≤ (ahead g h).turn = omega (arith, turn, same, low, at) in
-    subst (λ (x : Option ℕ). ProceedsUntil g h x None (vec_capacity c.args.out.now - vec_len c.args.out.now) (progress m c.args.plan.now c.args.out.now.items) (progress next c.args.plan.now c.args.out.now.items)) (sym c.in-Some.is)
+    subst (λ (x : Option ℕ). ProceedsUntil g h x None (vec_capacity c.args.out.now - vec_len c.args.out.now)
+    (progress m c.args.plan.now c.args.out.now.items) (progress next c.args.plan.now c.args.out.now.items))
+    (sym c.in-Some.is)
     (record {
       later = later;
       turn = omega (arith, same, now);
-      stands = passed_stands g h u mid next c.pass_to.ensures.passed later (like_stands g h m mid c.look-turn.ensures.like stands);
+      stands = passed_stands g h u mid next c.pass_to.ensures.passed later (rw c.look-turn.ensures.like stands);
       follows = follows;
       lines = refl;
     })
 
 pub returns-in-Some-clause-only : goal.returns-in-Some-clause-only
 returns-in-Some-clause-only c = λ g h stands follows.
-    none_next c.args.self.now c.pass_to.new.self (comes_next g h)
-    (subst (λ (p : Processor). AddsNoPage p c.pass_to.new.self.processor) c.look-turn.ensures.like.processor c.pass_to.ensures.no_more)
+    let next = c.pass_to.new.self.processor in
+    none_next c.args.self.now.processor next (comes_next g h)
+    (rw c.look-turn.ensures.like at c.pass_to.ensures.no_more)

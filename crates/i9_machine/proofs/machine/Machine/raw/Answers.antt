@@ -4,5 +4,6 @@ use Rattle.i9_machine.proofs.machine.Machine.raw.Goals as goal
 
 pub returns : goal.returns
 returns c = λ g h end stands.
-    raw_is g h end c.args.self.now (record { turn = c.args.self.now.turn; regs = c.raw_registers.result; busy = c.busy_registers.result })
+    raw_is g h end c.args.self.now
+    (record { turn = c.args.self.now.turn; regs = c.raw_registers.result; busy = c.busy_registers.result })
     stands refl c.raw_registers.ensures c.busy_registers.ensures

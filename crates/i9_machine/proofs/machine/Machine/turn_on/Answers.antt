@@ -15,7 +15,9 @@ returns-then-self-begun c = record {
   next = λ g h stands follows.
       let held = c.steps.invariant.1 g h stands follows in
       let since = held.0 in
-      risen_since g h (progress c.args.self.now c.args.plan.now c.args.out.now.items) (progress c.steps.self c.steps.plan c.steps.out.items) held (progress c.advance.new.self c.advance.new.plan c.advance.new.out.items)
+      risen_since g h (progress c.args.self.now c.args.plan.now c.args.out.now.items)
+      (progress c.steps.self c.steps.plan c.steps.out.items) held
+      (progress c.advance.new.self c.advance.new.plan c.advance.new.out.items)
       (c.in-On.ensures.only g (steps_on since.done h) since.stands since.follows)
       (c.in-On.ensures.next g (steps_on since.done h) since.stands since.follows) c.if-self-begun.true;
   lacking = λ g h stands follows is. absurd (cc is);
@@ -24,12 +26,15 @@ returns-then-self-begun c = record {
 pub steps-preserved-else-self-begun : goal.steps-preserved-else-self-begun
 steps-preserved-else-self-begun c =
     let under = c.steps.invariant.0 in (
-      still_under_way under.given under.items (progress c.steps.self c.steps.plan c.steps.out.items) (progress c.advance.new.self c.advance.new.plan c.advance.new.out.items)
+      still_under_way under.given under.items (progress c.steps.self c.steps.plan c.steps.out.items)
+      (progress c.advance.new.self c.advance.new.plan c.advance.new.out.items)
           (c.in-On.ensures.next under.given under.items under.stands under.follows),
       λ g h stands follows.
           let held = c.steps.invariant.1 g h stands follows in
           let since = held.0 in
-          still_since g h (progress c.args.self.now c.args.plan.now c.args.out.now.items) (progress c.steps.self c.steps.plan c.steps.out.items) held (progress c.advance.new.self c.advance.new.plan c.advance.new.out.items)
+          still_since g h (progress c.args.self.now c.args.plan.now c.args.out.now.items)
+          (progress c.steps.self c.steps.plan c.steps.out.items) held
+          (progress c.advance.new.self c.advance.new.plan c.advance.new.out.items)
           (c.in-On.ensures.only g (steps_on since.done h) since.stands since.follows)
           (c.in-On.ensures.next g (steps_on since.done h) since.stands since.follows) c.if-self-begun.false,
     )
@@ -37,13 +42,18 @@ steps-preserved-else-self-begun c =
 pub steps-preserved : goal.steps-preserved
 steps-preserved c =
     let under = c.steps.invariant.0 in (
-      does_under_way under.given under.items (answers.Issued c.in-Issued.field-0) (progress c.steps.self c.steps.plan c.steps.out.items) (progress c.advance.new.self c.advance.new.plan c.advance.new.out.items)
+      does_under_way under.given under.items (answers.Issued c.in-Issued.field-0)
+      (progress c.steps.self c.steps.plan c.steps.out.items)
+      (progress c.advance.new.self c.advance.new.plan c.advance.new.out.items)
           (c.in-Issued.ensures.next under.given under.items under.stands under.follows),
       λ g h stands follows.
           let held = c.steps.invariant.1 g h stands follows in
           let since = held.0 in
-          does_since g h (progress c.args.self.now c.args.plan.now c.args.out.now.items) (progress c.steps.self c.steps.plan c.steps.out.items) held (progress c.advance.new.self c.advance.new.plan c.advance.new.out.items)
-          (c.in-Issued.ensures.only g (steps_on since.done h) since.stands since.follows) (answers.Issued c.in-Issued.field-0)
+          does_since g h (progress c.args.self.now c.args.plan.now c.args.out.now.items)
+          (progress c.steps.self c.steps.plan c.steps.out.items) held
+          (progress c.advance.new.self c.advance.new.plan c.advance.new.out.items)
+          (c.in-Issued.ensures.only g (steps_on since.done h) since.stands since.follows)
+          (answers.Issued c.in-Issued.field-0)
           (c.in-Issued.ensures.next g (steps_on since.done h) since.stands since.follows),
     )
 
@@ -52,7 +62,9 @@ returns-in-End c = record {
   next = λ g h stands follows.
       let held = c.steps.invariant.1 g h stands follows in
       let since = held.0 in
-      ends_since g h (progress c.args.self.now c.args.plan.now c.args.out.now.items) (progress c.steps.self c.steps.plan c.steps.out.items) held (progress c.advance.new.self c.advance.new.plan c.advance.new.out.items)
+      ends_since g h (progress c.args.self.now c.args.plan.now c.args.out.now.items)
+      (progress c.steps.self c.steps.plan c.steps.out.items) held
+      (progress c.advance.new.self c.advance.new.plan c.advance.new.out.items)
       (c.in-End.ensures.only g (steps_on since.done h) since.stands since.follows) c.in-End.e
       (c.in-End.ensures.next g (steps_on since.done h) since.stands since.follows);
   lacking = λ g h stands follows is. absurd (cc is);
@@ -63,7 +75,9 @@ returns-in-Memory c = record {
   next = λ g h stands follows.
       let held = c.steps.invariant.1 g h stands follows in
       let since = held.0 in
-      stops_since g h (progress c.args.self.now c.args.plan.now c.args.out.now.items) (progress c.steps.self c.steps.plan c.steps.out.items) held (progress c.advance.new.self c.advance.new.plan c.advance.new.out.items)
+      stops_since g h (progress c.args.self.now c.args.plan.now c.args.out.now.items)
+      (progress c.steps.self c.steps.plan c.steps.out.items) held
+      (progress c.advance.new.self c.advance.new.plan c.advance.new.out.items)
       (c.in-Memory.ensures.only g (steps_on since.done h) since.stands since.follows)
       (c.in-Memory.ensures.next g (steps_on since.done h) since.stands since.follows);
   lacking = c.in-Memory.ensures.still_lacking;

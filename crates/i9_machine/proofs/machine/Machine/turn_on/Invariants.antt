@@ -10,7 +10,8 @@ use Rattle.i9_machine.proofs.machine.Machine.turn_on.Given as goal
 abbrev pub invariant-steps : goal.invariant-steps
 invariant-steps l =
     IsUnderWay l.self l.plan
-    × ((g : Given) (h : List Item) → StandsFor g h None l.fn.self → Follows g h l.fn.plan → SinceOnly g h (progress l.fn.self l.fn.plan l.fn.out.items) (progress l.self l.plan l.out.items))
+    × ((g : Given) (h : List Item) → StandsFor g h None l.fn.self → Follows g h l.fn.plan → SinceOnly g h
+    (progress l.fn.self l.fn.plan l.fn.out.items) (progress l.self l.plan l.out.items))
 
 abbrev pub decreases-steps : goal.decreases-steps
 decreases-steps l = steps_left l.self l.plan
