@@ -4,7 +4,7 @@ use Rattle.i9_model.specs.declared.run.End.{End}
 use Rattle.i9_model.specs.Run.{Given, Record, state_after}
 use Rattle.i9_schedule.specs.Plan.{Plan}
 use Rattle.i9_course.specs.Course.{ahead, issue_of_next}
-use Rattle.i9_course.specs.LateRun.{steps, IsLatePast}
+use Rattle.i9_course.specs.PipelinedRun.{steps, IsPipelinedPast}
 use Rattle.i9_course.proofs.Ahead.{ahead_precise}
 use Rattle.i9_machine.specs.declared.line.Line.{Line}
 use Rattle.i9_machine.specs.declared.line.Issued.{Issued}
@@ -19,7 +19,7 @@ use Rattle.i9_back.specs.Stands.{StandsEarlier}
 use Rattle.i9_back.proofs.Earlier.{record_after, earlier_count, ended_whole}
 
 -- a record issues at the turn of what lies ahead of it
-pub record_issues : (g : Given) (rs : List Record) (r : Record) → IsLatePast g (r ∷ rs) → issue_of g (r ∷ rs) ≡ (ahead g (steps rs)).turn
+pub record_issues : (g : Given) (rs : List Record) (r : Record) → IsPipelinedPast g (r ∷ rs) → issue_of g (r ∷ rs) ≡ (ahead g (steps rs)).turn
 record_issues g rs r late = sym (ahead_precise g (steps rs) late.1 ∙ ap (issue_of_next g (steps rs)) late.2)
 
 -- These records, with so many instructions, were done on the way to the state after more; with as many it is that state.

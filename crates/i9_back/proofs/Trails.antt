@@ -6,7 +6,7 @@ use Rattle.std.specs.Option.{option_or}
 use Rattle.std.proofs.lemmas.List.{append-nil}
 use Rattle.i9_model.specs.Run.{Given, Record}
 use Rattle.i9_course.specs.Course.{Item}
-use Rattle.i9_course.specs.LateRun.{steps}
+use Rattle.i9_course.specs.PipelinedRun.{steps}
 use Rattle.i9_machine.specs.StandsFor.{StandsFor, Follows}
 use Rattle.i9_machine.specs.declared.machine.Machine.{Machine}
 use Rattle.i9_schedule.specs.Plan.{Plan}

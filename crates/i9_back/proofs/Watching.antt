@@ -7,8 +7,8 @@ use Rattle.i9_model.specs.State.{State}
 use Rattle.i9_model.specs.Run.{Given, Kind, Instruction, Faulted, Entered, Interrupted, Reached, Record, counts_of, state_after}
 use Rattle.i9_schedule.specs.Plan.{Plan}
 use Rattle.i9_course.specs.Course.{records_of}
-use Rattle.i9_course.specs.LateRun.{steps}
-use Rattle.i9_course.proofs.LateRuns.{records_of-steps}
+use Rattle.i9_course.specs.PipelinedRun.{steps}
+use Rattle.i9_course.proofs.PipelinedRuns.{records_of-steps}
 use Rattle.i9_machine.specs.declared.line.Line.{Line}
 use Rattle.i9_machine.specs.declared.line.Issued.{Issued}
 use Rattle.i9_machine.specs.declared.line.Turn.TheVariants as answers

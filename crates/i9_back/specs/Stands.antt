@@ -4,7 +4,7 @@ use Rattle.std.specs.Prelude.{Some, None}
 use Rattle.i9_model.specs.Overlay.{overlay}
 use Rattle.i9_model.specs.Run.{Given, Record, counts_of}
 use Rattle.i9_schedule.specs.Plan.{Plan}
-use Rattle.i9_course.specs.LateRun.{steps}
+use Rattle.i9_course.specs.PipelinedRun.{steps}
 use Rattle.i9_machine.specs.declared.machine.Machine.{Machine}
 use Rattle.i9_machine.specs.StandsFor.{StandsFor, Follows}
 use Rattle.i9_back.specs.Earlier.{IsEarlier, HasInstructions, issue_of}

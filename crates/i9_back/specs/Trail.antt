@@ -3,7 +3,7 @@ use Rattle.std.specs.Prelude.{◌≡◌, ℕ, ◌≤◌, List, ◌++◌, length,
 use Rattle.std.specs.List.{AllByRecursion}
 use Rattle.i9_model.specs.Run.{Given, Record}
 use Rattle.i9_schedule.specs.Plan.{Plan}
-use Rattle.i9_course.specs.LateRun.{steps}
+use Rattle.i9_course.specs.PipelinedRun.{steps}
 use Rattle.i9_machine.specs.StandsFor.{Follows}
 use Rattle.i9_back.specs.declared.trail.Kept.{Kept}
 use Rattle.i9_back.specs.declared.trail.Trail.{Trail}

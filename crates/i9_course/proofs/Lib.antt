@@ -7,11 +7,11 @@ pub mod Ahead
 pub mod Steps
 pub mod NeedAlike
 pub mod Counted
-pub mod LateRuns
-pub mod LateAlike
+pub mod PipelinedRuns
+pub mod PipelinedAlike
 pub mod Named
-pub mod LateCuts
-pub mod LateSame
+pub mod PipelinedCuts
+pub mod PipelinedSame
 pub mod Same
 pub mod NeedCovers
 pub mod NeedActs

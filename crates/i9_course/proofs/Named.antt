@@ -21,10 +21,10 @@ use Rattle.i9_model.specs.Access.{hazard_of, fetch_hazard}
 use Rattle.i9_model.specs.Before.{Received, choice_in, interrupt_in, received_in}
 use Rattle.i9_model.specs.Standing.{Standing, Meets, Refused, Faults, Runs, raised_in, later_fault, by_access, by_later, by_raised, by_word, by_fetch, stands_at}
 use Rattle.i9_model.specs.Run.{Given, Kind, Instruction, Faulted, Entered, Interrupted, Reached, Record, record_of, Does, Ends, fault_at, next_by_standing, next_by_entry, entry_in, next_by_event, next_by_interrupt, next_by_choice, next_in, due_after, state_after, next_with, IsPastOfSome, finish, next_by_received}
-use Rattle.i9_course.specs.LateRun.{steps, IsLateRun}
+use Rattle.i9_course.specs.PipelinedRun.{steps, IsPipelinedRun}
 use Rattle.i9_course.proofs.Ahead.{imprecise_only}
 use Rattle.i9_course.proofs.Orderly.{comes_after}
-use Rattle.i9_course.proofs.LateRuns.{records_of-steps, late_events, run_imprecise}
+use Rattle.i9_course.proofs.PipelinedRuns.{records_of-steps, late_events, run_imprecise}
 
 -- ---- a word that is refused raises none
 
@@ -126,9 +126,9 @@ past_named g o rs r e =
     let same : r.before ≡ state_after g rs = ap (λ (q : Record). q.before) (comes_after g o rs r e) in
     subst (λ (s : State). IsNamed s r.kind) (sym same) (next_named g.length (due_after rs) o (state_after g rs) r e)
 
--- ---- the end of a late run
+-- ---- the end of a pipelined run
 
-pub imprecise_named : (g : Given) (rs : List Record) (a : ℕ) → IsLateRun g rs (finish (Imprecise a))
+pub imprecise_named : (g : Given) (rs : List Record) (a : ℕ) → IsPipelinedRun g rs (finish (Imprecise a))
     → (r : Record) × (qs : List Record) × (i : Inst) × (f : Fault) × (rs ≡ r ∷ qs) × (r.kind ≡ Faulted (Some i) f)
     × (f.kind ≡ ARITHMETIC) × (r.before.ip ≡ a)
 imprecise_named g rs a run =

@@ -16,7 +16,7 @@ use Rattle.i9_model.specs.Traced.{traced_action}
 use Rattle.i9_model.specs.Before.{choice_in, interrupt_in, Received, received_in}
 use Rattle.i9_model.specs.Standing.{Standing, Meets, Refused, Faults, Runs, stands_at}
 use Rattle.i9_model.specs.Run.{Given, Kind, Instruction, Faulted, Entered, Interrupted, Reached, Record, Next, Does, Ends, due_in, due_by, due_after, next_by_standing, next_by_entry, entry_in, next_by_event, next_by_interrupt, next_by_choice, next_in, event_after, state_after, next_with, IsRun, Finish, finish, next_by_received}
-use Rattle.i9_course.specs.LateRun.{is_imprecise}
+use Rattle.i9_course.specs.PipelinedRun.{is_imprecise}
 
 -- an end that comes here is not imprecise
 abbrev IsPlain : Next → Type 0

@@ -1,4 +1,4 @@
 pub mod NeedOf
 pub mod Course
 pub mod Kernel
-pub mod LateRun
+pub mod PipelinedRun

@@ -1,13 +1,13 @@
 //! Runs whose results land late: what each record needs, at which turn it issues, and when it lands.
 #![tactic(auto)]
 
-mod late_laws;
+mod pipelined_laws;
 mod laws;
 mod machine_laws;
 
-pub use late_laws::{
-    a_length_cuts_the_late_run, every_late_run_ends, late_runs_are_runs,
-    lateness_does_not_depend_on_sets, lateness_does_not_depend_on_the_plan, one_late_run,
+pub use pipelined_laws::{
+    a_length_cuts_the_pipelined_run, every_pipelined_run_ends, pipelined_runs_are_runs,
+    lateness_does_not_depend_on_sets, lateness_does_not_depend_on_the_plan, one_pipelined_run,
 };
 pub use laws::{
     a_course_begins, a_course_settles, a_fence_is_set, a_record_issues, a_turn_moves,

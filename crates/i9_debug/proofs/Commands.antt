@@ -10,7 +10,7 @@ use Rattle.i9_model.specs.Run.{Given, Record, Finish}
 use Rattle.i9_model.specs.Turns.{last_issue}
 use Rattle.i9_schedule.specs.Plan.{Plan}
 use Rattle.i9_course.specs.Course.{Item, Step, course, IsCourse}
-use Rattle.i9_course.specs.LateRun.{steps}
+use Rattle.i9_course.specs.PipelinedRun.{steps}
 use Rattle.i9_machine.specs.declared.machine.Machine.{Machine}
 use Rattle.i9_back.specs.Stands.{StaysAt}
 use Rattle.i9_machine.specs.StandsFor.{StandsFor, IsUnderWay, FollowsUntil}

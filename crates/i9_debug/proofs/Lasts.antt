@@ -5,7 +5,7 @@ use Rattle.i9_model.specs.declared.view.View.{View}
 use Rattle.i9_model.specs.PrintedText.{view_of}
 use Rattle.i9_model.specs.Run.{Given, Record}
 use Rattle.i9_schedule.specs.Plan.{Plan}
-use Rattle.i9_course.specs.LateRun.{steps}
+use Rattle.i9_course.specs.PipelinedRun.{steps}
 use Rattle.i9_machine.specs.declared.line.Line.{Line}
 use Rattle.i9_machine.specs.declared.line.Issued.{Issued}
 use Rattle.i9_machine.specs.declared.line.Turn.TheVariants as answers

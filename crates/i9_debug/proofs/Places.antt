@@ -9,7 +9,7 @@ use Rattle.i9_model.specs.Run.{Given, Record, Next, Does, Ends, Finish, finish}
 use Rattle.i9_model.specs.Turns.{last_issue}
 use Rattle.i9_course.specs.Course.{Item, Step, records_of, course, comes_next, imprecise_at, issue_of_next, IsCourse}
 use Rattle.i9_course.proofs.Ahead.{ahead_precise}
-use Rattle.i9_course.specs.LateRun.{end_ahead, finish_by, ended_by}
+use Rattle.i9_course.specs.PipelinedRun.{end_ahead, finish_by, ended_by}
 use Rattle.i9_course.proofs.Orderly.{course_events}
 use Rattle.i9_past.proofs.Ends.{some_within}
 use Rattle.i9_lines.proofs.ClosedLines.{added-text}

@@ -11,8 +11,8 @@ use Rattle.i9_model.specs.Overlay.{overlay}
 use Rattle.i9_model.specs.PrintedText.{view_of}
 use Rattle.i9_model.specs.Run.{Given, Record, counts_of, state_after, Finish}
 use Rattle.i9_course.specs.Course.{Item, records_of}
-use Rattle.i9_course.specs.LateRun.{steps, IsLatePast}
-use Rattle.i9_course.proofs.LateRuns.{records_of-steps}
+use Rattle.i9_course.specs.PipelinedRun.{steps, IsPipelinedPast}
+use Rattle.i9_course.proofs.PipelinedRuns.{records_of-steps}
 use Rattle.i9_schedule.specs.Plan.{Plan}
 use Rattle.i9_machine.specs.declared.machine.Machine.{Machine}
 use Rattle.i9_machine.specs.StandsFor.{FollowsUntil}
@@ -90,7 +90,7 @@ abbrev NoneCounts : List Record → Type 0
 NoneCounts zs = AllByRecursion (λ r. counts_of r.kind ≡ 0) zs
 
 -- the last instruction of records, and those behind it
-last_of : (g : Given) (n : ℕ) (qs : List Record) → IsLatePast g qs → (state_after g qs).count ≡ n
+last_of : (g : Given) (n : ℕ) (qs : List Record) → IsPipelinedPast g qs → (state_after g qs).count ≡ n
     → (zs : List Record) × (rs : List Record) × IsEarlier g n rs × (zs ++ rs ≡ qs) × NoneCounts zs
 last_of g n [] late is = ([], [], record { past = tt; last = sym is ∙ none_done g }, refl, tt)
 last_of g n (r ∷ rs) late is =

@@ -10,7 +10,7 @@ use Rattle.i9_model.specs.PrintedText.{text_of, lines_of}
 use Rattle.i9_model.specs.Late.{turns as late_turns}
 use Rattle.i9_model.specs.Turns.{last_issue}
 use Rattle.i9_course.specs.Course.{Item, Step, course, IsCourse}
-use Rattle.i9_course.specs.LateRun.{steps, IsLatePast}
+use Rattle.i9_course.specs.PipelinedRun.{steps, IsPipelinedPast}
 use Rattle.i9_back.specs.Stands.{StaysAt, last_change}
 use Rattle.i9_machine.specs.Turned.{steps_on}
 use Rattle.i9_tracer.specs.Until.{view_behind, IsPassed}
@@ -51,7 +51,7 @@ IsOf image sets g = g ≡ given (pairs_of image) g.plan MAX_LENGTH sets
 pub record IsPlace (g : Given) (p : Place) : Type 0 where
   pub records : List Record
   pub are : p.items ≡ steps records
-  pub past : IsLatePast g records
+  pub past : IsPipelinedPast g records
   pub begun : UnlessOver p.end (last_issue (late_turns (course g p.items).late) ≤ p.turn) (Unit {0})
 
 -- a machine stands at such a place of the run of an image

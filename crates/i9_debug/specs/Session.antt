@@ -11,7 +11,7 @@ use Rattle.i9_model.specs.Run.{Given, Record, counts_of, state_after, Finish}
 use Rattle.i9_model.specs.State.{State}
 use Rattle.i9_model.specs.Turns.{last_issue}
 use Rattle.i9_course.specs.Course.{Item, Step, records_of, course, ahead, IsCourse}
-use Rattle.i9_course.specs.LateRun.{end_ahead, steps}
+use Rattle.i9_course.specs.PipelinedRun.{end_ahead, steps}
 use Rattle.i9_machine.specs.Raw.{raw_at}
 use Rattle.i9_machine.specs.Turned.{steps_on}
 use Rattle.i9_back.specs.Earlier.{IsEarlier, issue_of}

@@ -16,5 +16,5 @@ pub mod RecordWords
 pub mod Returns
 pub mod RunsAgain
 pub mod Passed
-pub mod LateReplay
+pub mod PipelinedReplay
 pub mod Undoing

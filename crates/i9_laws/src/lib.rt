@@ -11,4 +11,4 @@ pub use laws::{
     a_live_frame_keeps_its_words, a_return_undoes_a_call, kept_bits_stay, returns_undo_system_calls,
 };
 pub use pins::pins_stay_high_without_levels;
-pub use replay::{printed_text_replays_its_late_run, printed_text_replays_its_run};
+pub use replay::{printed_text_replays_its_pipelined_run, printed_text_replays_its_run};

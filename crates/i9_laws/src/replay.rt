@@ -9,7 +9,7 @@ ghost use Rattle.i9_model.specs.ScheduleText.{InOrder, IsByCounts, IsVersion, Ar
 ghost use Rattle.i9_model.specs.Run.{Given, Record, IsPast, IsRun, state_after, reached_after, Finish, finish};
 ghost use Rattle.i9_model.specs.Run.{reached_in};
 ghost use Rattle.i9_model.specs.PrintedText.{heading_text, run_text};
-ghost use Rattle.i9_course.specs.LateRun.{IsLatePast, IsLateRun};
+ghost use Rattle.i9_course.specs.PipelinedRun.{IsPipelinedPast, IsPipelinedRun};
 
 /// The printed text of a run replays it. A run reaches the first events of its plan, in order; where the plan is one of
 /// a schedule by counts, no event that is left stands at a count that is past, since an event comes before the
@@ -44,17 +44,17 @@ pub fn printed_text_replays_its_run()
 /// behind the line of the schedule's version, is a schedule of this version, of the events that were reached, each at
 /// its count; and with these as its plan the run has the same records and the same end, and prints the same, in any
 /// number of sets.
-pub fn printed_text_replays_its_late_run()
+pub fn printed_text_replays_its_pipelined_run()
     ensures counted { (g : Given) (rs : List Record) (f : Finish) → IsByCounts (reached_in g rs f) }
     ensures text { (version : ℕ) (g : Given) (rs : List Record) (f : Finish) → IsVersion version → IsPlan g.plan
-        → AreOfVersion version g.plan → g.length ≤ MAX_LENGTH → IsLateRun g rs f
+        → AreOfVersion version g.plan → g.length ≤ MAX_LENGTH → IsPipelinedRun g rs f
         → IsSchedule (texts.lines_of (heading_text version ++ run_text g rs f))
         (record { version = version; events = reached_in g rs f }) }
     ensures cut { (version : ℕ) (g : Given) (rs : List Record) (e : End) → IsVersion version → IsPlan g.plan
-        → AreOfVersion version g.plan → g.length ≤ MAX_LENGTH → IsLatePast g rs
+        → AreOfVersion version g.plan → g.length ≤ MAX_LENGTH → IsPipelinedPast g rs
         → IsSchedule (texts.lines_of (heading_text version ++ run_text g rs (finish e)))
         (record { version = version; events = reached_in g rs (finish e) }) }
-    ensures again { (g : Given) (asked : Option ℕ) (rs : List Record) (f : Finish) → IsLateRun g rs f
-        → IsLateRun (record g { plan = reached_in g rs f; sets = asked }) rs f
+    ensures again { (g : Given) (asked : Option ℕ) (rs : List Record) (f : Finish) → IsPipelinedRun g rs f
+        → IsPipelinedRun (record g { plan = reached_in g rs f; sets = asked }) rs f
         × (run_text (record g { plan = reached_in g rs f; sets = asked }) rs f ≡ run_text g rs f) }
 {}

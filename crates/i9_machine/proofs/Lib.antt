@@ -4,7 +4,7 @@ pub mod Overtaking
 pub mod Turning
 pub mod Arriving
 pub mod Opening
-pub mod Lifting
+pub mod Simulation
 pub mod Ending
 pub mod Stepping
 pub mod Showing

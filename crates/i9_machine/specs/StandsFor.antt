@@ -13,7 +13,7 @@ use Rattle.i9_model.specs.Turns as board
 use Rattle.i9_model.specs.Late.{Shows, turns as late_turns}
 use Rattle.i9_course.specs.Course.{Item, Step, records_of, course, last_done, comes_next, ahead, IsCourse}
 use Rattle.i9_course.specs.Kernel.{Kernel, Lands}
-use Rattle.i9_course.specs.LateRun.{end_ahead}
+use Rattle.i9_course.specs.PipelinedRun.{end_ahead}
 use Rattle.i9_raw.specs.Raw.{IsShaded}
 use Rattle.i9_machine.specs.declared.line.Line.{Line}
 use Rattle.i9_machine.specs.declared.line.Turn.{Turn}

@@ -6,7 +6,7 @@ use Rattle.i9_model.specs.PrintedText.{lines_of, end_lines}
 use Rattle.i9_model.specs.Run.{Given, Record, state_after, Finish}
 use Rattle.i9_model.specs.Turns.{last_issue}
 use Rattle.i9_course.specs.Course.{Item, Step, records_of, course, comes_next, ahead}
-use Rattle.i9_course.specs.LateRun.{end_ahead}
+use Rattle.i9_course.specs.PipelinedRun.{end_ahead}
 use Rattle.i9_machine.specs.declared.line.Turn.{Turn}
 use Rattle.i9_machine.specs.declared.line.Turn.TheVariants as answers
 use Rattle.i9_machine.specs.Line.{AddsLines}

@@ -15,9 +15,9 @@ use Rattle.i9_tune.proofs.OneText.{image_tunable, one_tuning}
 use Rattle.i9_tool.proofs.Listable.{accepted_bytes}
 use Rattle.i9_model.specs.declared.layout.TheConstants.{MAX_LENGTH}
 use Rattle.i9_past.proofs.Cuts.{state_by}
-use Rattle.i9_course.specs.LateRun.{IsLateRun}
-use Rattle.i9_course.proofs.LateRuns.{late_records, late_end}
-use Rattle.i9_course.proofs.LateSame.{run_sets}
+use Rattle.i9_course.specs.PipelinedRun.{IsPipelinedRun}
+use Rattle.i9_course.proofs.PipelinedRuns.{pipelined_records, late_end}
+use Rattle.i9_course.proofs.PipelinedSame.{run_sets}
 use Rattle.i9_elf.specs.Written.{file_of}
 use Rattle.i9_runs.proofs.Joining.{runs_once}
 use Rattle.i9_dis.proofs.Listed.{one_text as one_listing, by_pairs}
@@ -48,11 +48,11 @@ pub record Same (c d : ℕ) (s t : List ℕ) : Type 0 where
   pub text : s ≡ t
 
 -- the same image runs the same
-same_run : (version : ℕ) (traced : Option Range) (g : Given) (rs qs : List Record) (e f : Finish) → IsLateRun g rs e → IsLateRun g qs f
+same_run : (version : ℕ) (traced : Option Range) (g : Given) (rs qs : List Record) (e f : Finish) → IsPipelinedRun g rs e → IsPipelinedRun g qs f
     → Same (end_code e.end) (end_code f.end) (headed_text version traced g rs e) (headed_text version traced g qs f)
 same_run version traced g rs qs e f a b =
     let end = late_end g rs qs e f a b in
-    let records = late_records g rs qs e f a b in
+    let records = pipelined_records g rs qs e f a b in
     record { status = ap (λ (x : Finish). end_code x.end) end; text = ap (λ (x : List Record). headed_text version traced g x e) records ∙ ap (headed_text version traced g qs) end }
 
 -- one status and one text, but for those of a file that was not read
@@ -96,16 +96,16 @@ once_tune a n pairs low c d s t p q (tuned is s' e one) (tuned js t' h other) =
     record { status = refl; text = one_tuning a js s t ok (subst (λ (block : List Inst). IsTuning a block s) same one) other }
 
 -- one run comes to one line
-same_line : (number : ℕ) (g : Given) (rs qs : List Record) (e f : Finish) → IsLateRun g rs e → IsLateRun g qs f → Same (end_code e.end) (end_code f.end) (job_line number g rs e) (job_line number g qs f)
+same_line : (number : ℕ) (g : Given) (rs qs : List Record) (e f : Finish) → IsPipelinedRun g rs e → IsPipelinedRun g qs f → Same (end_code e.end) (end_code f.end) (job_line number g rs e) (job_line number g qs f)
 same_line number g rs qs e f a b =
     let end = late_end g rs qs e f a b in
-    let records = late_records g rs qs e f a b in
+    let records = pipelined_records g rs qs e f a b in
     record { status = ap (λ (x : Finish). end_code x.end) end; text = ap (λ (x : List Record). job_line number g x e) records ∙ ap (job_line number g qs) end }
 
 -- so do two of what is the same
-same_job : (number : ℕ) (g h : Given) (rs qs : List Record) (e f : Finish) → g ≡ h → IsLateRun g rs e → IsLateRun h qs f → Same (end_code e.end) (end_code f.end) (job_line number g rs e) (job_line number h qs f)
+same_job : (number : ℕ) (g h : Given) (rs qs : List Record) (e f : Finish) → g ≡ h → IsPipelinedRun g rs e → IsPipelinedRun h qs f → Same (end_code e.end) (end_code f.end) (job_line number g rs e) (job_line number h qs f)
 same_job number g h rs qs e f same a b =
-    subst (λ (k : Given). IsLateRun k qs f → Same (end_code e.end) (end_code f.end) (job_line number g rs e) (job_line number k qs f)) same (same_line number g rs qs e f a) b
+    subst (λ (k : Given). IsPipelinedRun k qs f → Same (end_code e.end) (end_code f.end) (job_line number g rs e) (job_line number k qs f)) same (same_line number g rs qs e f a) b
 
 once_job : (number : ℕ) (sets : Option ℕ) → Once (GenGives number sets)
 once_job number sets c d s t p q (job_runs i ts rs e made says run) (job_runs j us qs f made' says' other) =
@@ -193,7 +193,7 @@ module _ (told : List ℕ → Option (List ℕ)) (rose : List ℕ → Type 0) wh
 
 -- ---- what is printed of a run does not depend on the number of sets
 
-other_run : (ps : List (ℕ × ℕ)) (ts : List Timed) (limit : ℕ) (sets others : Option ℕ) (rs : List Record) (e : Finish) → IsByCounts ts → IsLateRun (given ps ts limit sets) rs e → IsLateRun (given ps ts limit others) rs e
+other_run : (ps : List (ℕ × ℕ)) (ts : List Timed) (limit : ℕ) (sets others : Option ℕ) (rs : List Record) (e : Finish) → IsByCounts ts → IsPipelinedRun (given ps ts limit sets) rs e → IsPipelinedRun (given ps ts limit others) rs e
 other_run ps ts limit sets others rs e counted run = (run_sets (given ps ts limit sets) others rs e counted).1 run
 
 other_text : (traced : Option Range) (ps : List (ℕ × ℕ)) (ts : List Timed) (limit : ℕ) (sets others : Option ℕ) (rs : List Record) (e : Finish)

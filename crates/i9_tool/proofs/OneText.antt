@@ -5,7 +5,7 @@ use Rattle.i9_model.specs.PrintedText.{text_of, lines_of}
 use Rattle.i9_model.specs.Run.{Given, Record, Does, Finish}
 use Rattle.i9_model.specs.Turns.{last_issue}
 use Rattle.i9_course.specs.Course.{Item, course, ahead, IsCourse}
-use Rattle.i9_course.specs.LateRun.{end_ahead, finish_by, ended_by}
+use Rattle.i9_course.specs.PipelinedRun.{end_ahead, finish_by, ended_by}
 use Rattle.i9_course.proofs.Ahead.{ahead_later}
 use Rattle.i9_machine.specs.Turned.{steps_on}
 use Rattle.i9_script.specs.declared.command.Command.{Command}

@@ -18,7 +18,7 @@ use Rattle.i9_asm.specs.Laws.{IsAssembly}
 use Rattle.i9_model.specs.declared.run.End.{End}
 use Rattle.i9_model.specs.declared.run.End.TheVariants.{Exit, Limit, Hazard, Dead, Imprecise}
 use Rattle.i9_model.specs.PrintedText.{end_code}
-use Rattle.i9_course.proofs.LateRuns.{late_goes_on}
+use Rattle.i9_course.proofs.PipelinedRuns.{pipelined_goes_on}
 use Rattle.i9_hex.specs.Writing.{hex_text}
 use Rattle.i9_elf.specs.Written.{most_headers, file_of}
 use Rattle.i9_runs.proofs.Placed.{some_runs}
@@ -79,7 +79,7 @@ known_driven (Some f) = known_finish f
 pub some_run : (sets : Option ℕ) (limit : ℕ) (traced : Option Range) (pairs : List (ℕ × ℕ)) (plan : Contents) → SomeFor (RunGives sets limit traced pairs plan)
 some_run sets limit traced pairs plan =
     let g = given pairs plan.events limit sets in
-    let later = late_goes_on g [] tt in
+    let later = pipelined_goes_on g [] tt in
     let records = later.0 ++ [] in
     (end_code later.1.end, headed_text plan.version traced g records later.1, runs records later.1 later.2)
 
@@ -130,7 +130,7 @@ some_job number sets =
     let source = made_source number in
     let schedule = made_schedule number in
     let g = given (pairs_of source.image) schedule.events MAX_LENGTH sets in
-    let later = late_goes_on g [] tt in
+    let later = pipelined_goes_on g [] tt in
     let records = later.0 ++ [] in
     (end_code later.1.end, job_line number g records later.1, job_runs source.image (record { version = first_version; events = schedule.events }) records later.1 source.assembled schedule.said later.2)
 

@@ -10,8 +10,8 @@ use Rattle.i9_model.specs.declared.run.End.{End}
 use Rattle.i9_model.specs.Run.{Given, Kind, Instruction, Faulted, Entered, Interrupted, Reached, Record, counts_of, state_after, Finish}
 use Rattle.i9_model.specs.PrintedText.{text_of, lines_of, record_lines, end_lines, run_text, heading_text}
 use Rattle.i9_past.proofs.Lines.{text_of-append}
-use Rattle.i9_course.specs.LateRun.{steps, IsLatePast, finish_after}
-use Rattle.i9_course.proofs.LateRuns.{late_goes_on, records_of-steps}
+use Rattle.i9_course.specs.PipelinedRun.{steps, IsPipelinedPast, finish_after}
+use Rattle.i9_course.proofs.PipelinedRuns.{pipelined_goes_on, records_of-steps}
 use Rattle.i9_machine.specs.declared.line.Line.{Line}
 use Rattle.i9_machine.specs.declared.line.Issued.{Issued}
 use Rattle.i9_machine.specs.declared.line.Turn.{Turn}
@@ -138,7 +138,7 @@ module _ (allows : ℕ → Bool → Type 0) where
     Printing answer a b text = Prints answer k a b text
 
     -- printing stopped behind a record
-    behind_record : (answer : Ran) (rs : List Record) (text : List ℕ) (a b : K) → IsCut answer → IsLatePast g rs
+    behind_record : (answer : Ran) (rs : List Record) (text : List ℕ) (a b : K) → IsCut answer → IsPipelinedPast g rs
         → TracedBy allows rs text → Printing (printed_of answer) a b text
         → TracesBy answer allows g (output k a b)
     behind_record answer rs text a b cut past traced p = record {
@@ -293,7 +293,7 @@ module _ (allows : ℕ → Bool → Type 0) (passes : ℕ → Bool) (agree : Ans
 
   module _ {K : Type 0} (k : Account K) (g : Given) where
     -- the text that was printed goes on to that of a whole run
-    whole_run : (answer : Ran) (rs : List Record) (text rest : List ℕ) (a b : K) → IsLatePast g rs → text ≡ traced_lines passes rs → StopsWith g rs answer rest
+    whole_run : (answer : Ran) (rs : List Record) (text rest : List ℕ) (a b : K) → IsPipelinedPast g rs → text ≡ traced_lines passes rs → StopsWith g rs answer rest
         → Prints (printed_of answer) k a b (text ++ rest) → RunsAs (traced_text passes) answer g (output k a b)
     whole_run answer rs text rest a b past same (at_end _ e ends tells) p = record {
       records = rs;
@@ -303,7 +303,7 @@ module _ (allows : ℕ → Bool → Type 0) (passes : ℕ → Bool) (agree : Ans
       tells = tells;
     }
     whole_run answer rs text rest a b past same (before_end _ cut) p =
-        let on = late_goes_on g rs past in
+        let on = pipelined_goes_on g rs past in
         let l = later_lines on.0 rs in
         let last = text_of (end_lines (state_after g (on.0 ++ rs)) on.1) in
         let closed : IsClosed (text ++ []) = subst IsClosed (sym (append-nil text ∙ same)) (closed_traces passes rs) in
@@ -372,7 +372,7 @@ headed k g answer said version traced a b c same first r = record {
 pub headed_cut : {K : Type 0} (k : Account K) (g : Given) (answer : Ran) (said version : ℕ) (traced : Option Range) (a b : K) → IsCut answer → said ≡ version
     → Prints (printed_of answer) k a b (heading_text said) → RunsHeaded answer version traced g (output k a b)
 headed_cut k g answer said version traced a b cut same p =
-    let on = late_goes_on g [] tt in
+    let on = pipelined_goes_on g [] tt in
     let first = prints_same k (printed_of answer) a b _ _ (ap heading_text same) p in
     record {
       records = on.0 ++ [];

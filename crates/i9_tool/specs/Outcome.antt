@@ -15,7 +15,7 @@ use Rattle.i9_tune.specs.declared.block.BlockFault.{BlockFault}
 use Rattle.i9_tune.specs.Reading.{block_at}
 use Rattle.i9_tune.specs.Tuning.{fault_line as block_fault_line, IsTuning}
 use Rattle.i9_model.specs.declared.layout.TheConstants.{MAX_LENGTH}
-use Rattle.i9_course.specs.LateRun.{IsLateRun}
+use Rattle.i9_course.specs.PipelinedRun.{IsPipelinedRun}
 use Rattle.i9_hex.specs.Writing.{hex_text}
 use Rattle.i9_runs.specs.Runs.{AreRuns}
 use Rattle.i9_elf.specs.Written.{most_headers, file_of}
@@ -49,7 +49,7 @@ use Rattle.i9_outside.specs.Traits.{IsFile, AppendsFront}
 -- after the other, but that an arithmetic fault which the next instruction overtakes ends it, named as imprecise.
 pub data RunGives (sets : Option ℕ) (limit : ℕ) (traced : Option Range) (pairs : List (ℕ × ℕ)) (c : Contents)
     : ℕ → List ℕ → Type 0 where
-  runs : (records : List Record) (f : Finish) → IsLateRun (given pairs c.events limit sets) records f
+  runs : (records : List Record) (f : Finish) → IsPipelinedRun (given pairs c.events limit sets) records f
       → RunGives sets limit traced pairs c (end_code f.end)
       (headed_text c.version traced (given pairs c.events limit sets) records f)
 
@@ -96,7 +96,7 @@ job_line number g records f =
 pub data GenGives (number : ℕ) (sets : Option ℕ) : ℕ → List ℕ → Type 0 where
   job_runs : (image : List Part) (c : Contents) (records : List Record) (f : Finish)
       → IsAssembly (lines_of (generated_source number)) image → IsSchedule (lines_of (generated_schedule number)) c
-      → IsLateRun (given (pairs_of image) c.events MAX_LENGTH sets) records f
+      → IsPipelinedRun (given (pairs_of image) c.events MAX_LENGTH sets) records f
       → GenGives number sets (end_code f.end)
       (job_line number (given (pairs_of image) c.events MAX_LENGTH sets) records f)
 

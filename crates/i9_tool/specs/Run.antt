@@ -2,7 +2,7 @@
 use Rattle.std.specs.Prelude.{◌≡◌, ℕ, ◌≤◌, Bool, List, [], ◌∷◌, ◌++◌, length, flat_map, Option, Some}
 use Rattle.i9_model.specs.Run.{Given, Record, counts_of, state_after, Finish, reached_in}
 use Rattle.i9_model.specs.PrintedText.{text_of, record_lines, end_lines}
-use Rattle.i9_course.specs.LateRun.{steps, IsLatePast, IsLateRun, finish_after}
+use Rattle.i9_course.specs.PipelinedRun.{steps, IsPipelinedPast, IsPipelinedRun, finish_after}
 use Rattle.i9_machine.specs.declared.line.Line.{Line}
 use Rattle.i9_machine.specs.declared.line.Turn.{Turn}
 use Rattle.i9_machine.specs.declared.line.Turn.TheVariants as turns
@@ -34,7 +34,7 @@ pub record RunsAs {K : Type 0} (text : Given → List Record → Finish → List
     (out : Output K) : Type 0 where
   pub records : List Record
   pub finish : Finish
-  pub run : IsLateRun g records finish
+  pub run : IsPipelinedRun g records finish
   pub prints : Prints (printed_of answer) out.account out.old out.new (text g records finish)
   pub tells : TellsEnd answer finish
 
@@ -72,7 +72,7 @@ pub data StopsWith (g : Given) (rs : List Record) : Ran → List ℕ → Type 0 
 pub record TracesBy {K : Type 0} (answer : Ran) (allows : ℕ → Bool → Type 0) (g : Given) (out : Output K)
     : Type 0 where
   pub records : List Record
-  pub past : IsLatePast g records
+  pub past : IsPipelinedPast g records
   pub text : List ℕ
   pub traced : TracedBy allows records text
   pub rest : List ℕ
@@ -126,7 +126,7 @@ pub record PrintsBy {K : Type 0} (answer : Printed) (allows : ℕ → Bool → T
 pub record Counts (counted : Counted) (g : Given) : Type 0 where
   pub records : List Record
   pub finish : Finish
-  pub run : IsLateRun g records finish
+  pub run : IsPipelinedRun g records finish
   pub end : counted.end ≡ finish.end
   pub count : counted.count ≡ (state_after g records).count
   pub events : counted.events ≡ length (reached_in g records finish)

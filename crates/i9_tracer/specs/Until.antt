@@ -7,7 +7,7 @@ use Rattle.i9_model.specs.PrintedText.{view_of, lines_of, end_lines}
 use Rattle.i9_model.specs.Run.{Given, Record, counts_of, state_after, Finish}
 use Rattle.i9_schedule.specs.Plan.{Plan}
 use Rattle.i9_course.specs.Course.{Item, Step, records_of, comes_next, ahead}
-use Rattle.i9_course.specs.LateRun.{end_ahead}
+use Rattle.i9_course.specs.PipelinedRun.{end_ahead}
 use Rattle.i9_machine.specs.declared.line.Line.{Line}
 use Rattle.i9_machine.specs.declared.line.Turn.{Turn}
 use Rattle.i9_machine.specs.declared.line.Turn.TheVariants as answers

@@ -12,7 +12,7 @@ ghost use Rattle.i9_model.specs.declared.view.View.{View as Shown};
 ghost use Rattle.i9_model.specs.Run.{Ends};
 ghost use Rattle.i9_model.specs.PrintedText.{Drained, Last, view_of, out_lines, point_lines, last_lines, overlays};
 ghost use Rattle.i9_model.specs.PrintedText.{journal_lines};
-ghost use Rattle.i9_course.specs.LateRun.{is_imprecise};
+ghost use Rattle.i9_course.specs.PipelinedRun.{is_imprecise};
 ghost use Rattle.i9_course.specs.Course.{puts_of};
 ghost use Rattle.i9_processor.specs.Effect.{action_in, move_in, control_in, AreRegisters, AreMade, CanControl, CanMove};
 ghost use Rattle.i9_processor.specs.Effect.{CanTake, HasSpaceFor, IsLight, cache_through, size_with, has_writes};

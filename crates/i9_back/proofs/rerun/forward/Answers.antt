@@ -1,5 +1,5 @@
 use Rattle.std.proofs.Common.{◌∷◌, refl, ◌∙◌}
-use Rattle.i9_course.specs.LateRun.{steps}
+use Rattle.i9_course.specs.PipelinedRun.{steps}
 use Rattle.i9_machine.specs.declared.line.Turn.TheVariants as answers
 use Rattle.i9_back.proofs.Going.{going_begins, under_way, on_goes, issued_goes, no_end, same_events}
 use Rattle.i9_back.proofs.rerun.forward.Goals as goal

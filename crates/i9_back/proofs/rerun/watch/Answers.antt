@@ -1,5 +1,5 @@
 use Rattle.std.proofs.Common.{◌++◌, refl, ◌∙◌, None}
-use Rattle.i9_course.specs.LateRun.{steps}
+use Rattle.i9_course.specs.PipelinedRun.{steps}
 use Rattle.i9_machine.specs.declared.line.Turn.TheVariants as answers
 use Rattle.i9_back.proofs.Going.{under_way, no_end, same_events}
 use Rattle.i9_back.proofs.Watching.{watching_begins, watching_there, on_watched, issued_watched, shown_steps}

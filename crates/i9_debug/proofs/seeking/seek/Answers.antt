@@ -1,7 +1,7 @@
 use Rattle.std.proofs.Common.{◌∷◌, ◌++◌, true, false, None, refl, subst, ◌∙◌}
 use Rattle.i9_model.specs.declared.view.View.{View}
 use Rattle.i9_course.specs.Course.{Step}
-use Rattle.i9_course.specs.LateRun.{steps}
+use Rattle.i9_course.specs.PipelinedRun.{steps}
 use Rattle.i9_machine.specs.declared.line.Turn.TheVariants as answers
 use Rattle.i9_back.proofs.Going.{under_way, no_end, same_events}
 use Rattle.i9_debug.proofs.Lasts.{seek_begins, seek_there, on_seeks, issued_passes, issued_whole, issued_holds}

@@ -3,8 +3,8 @@ use Rattle.i9_model.specs.declared.view.View.{View}
 use Rattle.i9_model.specs.Given.{given}
 use Rattle.i9_model.specs.Run.{Record, state_after, reached_in}
 use Rattle.i9_model.specs.Image.{pairs_of}
-use Rattle.i9_course.specs.LateRun.{steps}
-use Rattle.i9_course.proofs.LateRuns.{records_of-steps}
+use Rattle.i9_course.specs.PipelinedRun.{steps}
+use Rattle.i9_course.proofs.PipelinedRuns.{records_of-steps}
 use Rattle.i9_tool.proofs.Running.{under_way}
 use Rattle.i9_tool.proofs.run.count_run.Goals as goal
 

@@ -2,7 +2,7 @@ use Rattle.std.proofs.Common.{List, None}
 use Rattle.i9_model.specs.Image.{pairs_of}
 use Rattle.i9_model.specs.Given.{given}
 use Rattle.i9_model.specs.Run.{Record}
-use Rattle.i9_course.specs.LateRun.{steps}
+use Rattle.i9_course.specs.PipelinedRun.{steps}
 use Rattle.i9_machine.specs.StandsFor.{StandsFor, Follows}
 use Rattle.i9_machine.specs.Step.{steps_left}
 use Rattle.i9_tool.proofs.run.count_run.Given as goal

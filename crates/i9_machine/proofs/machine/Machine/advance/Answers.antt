@@ -9,7 +9,7 @@ use Rattle.i9_machine.specs.StandsFor.{Advances}
 use Rattle.i9_machine.specs.Step.{LeavesFewer, steps_left}
 use Rattle.i9_machine.specs.Progress.{progress}
 use Rattle.i9_machine.proofs.Arriving.{here_arrived, moved_fewer}
-use Rattle.i9_machine.proofs.Lifting.{came_comes, comes_advances, next_room}
+use Rattle.i9_machine.proofs.Simulation.{came_comes, comes_advances, next_room}
 use Rattle.i9_machine.proofs.NewPages.{none_next, run_only}
 use Rattle.i9_machine.proofs.Turning.{moved, has_pace}
 use Rattle.i9_machine.proofs.machine.Machine.advance.Goals as goal

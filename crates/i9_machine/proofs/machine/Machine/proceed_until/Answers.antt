@@ -11,7 +11,7 @@ use Rattle.i9_machine.specs.StandsFor.{StandsFor, ProceedsUntil}
 use Rattle.i9_machine.specs.Step.{steps_left}
 use Rattle.i9_machine.specs.Progress.{progress}
 use Rattle.i9_machine.proofs.Arriving.{come_passed, here_arrived, passed_ended, passed_stands, passed_turn, passed_left, like_left, fewer_from}
-use Rattle.i9_machine.proofs.Lifting.{came_comes, next_room, kept_room}
+use Rattle.i9_machine.proofs.Simulation.{came_comes, next_room, kept_room}
 use Rattle.i9_machine.proofs.NewPages.{none_next, next_behind, run_only}
 use Rattle.i9_machine.proofs.machine.Machine.proceed_until.Goals as goal
 use Rattle.i9_machine.proofs.machine.Machine.proceed_until.Goals.{in_default-via-in-Some+else-until-max, in_default-via-in_default}

@@ -18,9 +18,9 @@ use Rattle.i9_turns.proofs.NeedLaws.{first_false}
 use Rattle.i9_turns.proofs.TurnAlike.{alike-overtakes}
 use Rattle.i9_course.specs.NeedOf.{facts_of, need_of, record_need, need_ahead}
 use Rattle.i9_course.specs.Course.{records_of, course, instruction_ahead, late_fault, last_done, is_overtaken, imprecise_at}
-use Rattle.i9_course.specs.LateRun.{steps}
+use Rattle.i9_course.specs.PipelinedRun.{steps}
 use Rattle.i9_course.proofs.Timed.{need_cost}
-use Rattle.i9_course.proofs.LateRuns.{records_of-steps, either_none}
+use Rattle.i9_course.proofs.PipelinedRuns.{records_of-steps, either_none}
 
 -- ---- needs with other sets
 

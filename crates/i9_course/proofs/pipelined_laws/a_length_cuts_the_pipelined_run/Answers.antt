@@ -1,5 +1,5 @@
-use Rattle.i9_course.proofs.LateCuts.{imprecise_more, below_more, late_longer, late_more, imprecise_run_more, ended_longer, ended_more, faulted_more}
-use Rattle.i9_course.proofs.late_laws.a_length_cuts_the_late_run.Goals as goal
+use Rattle.i9_course.proofs.PipelinedCuts.{imprecise_more, below_more, late_longer, late_more, imprecise_run_more, ended_longer, ended_more, faulted_more}
+use Rattle.i9_course.proofs.pipelined_laws.a_length_cuts_the_pipelined_run.Goals as goal
 
 pub returns-clause-imprecise : goal.returns-clause-imprecise
 returns-clause-imprecise c = imprecise_more

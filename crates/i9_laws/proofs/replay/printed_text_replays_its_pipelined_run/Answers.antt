@@ -1,6 +1,6 @@
-use Rattle.i9_course.proofs.LateSame.{in_counted}
-use Rattle.i9_laws.proofs.LateReplay.{late_text, late_cut, late_again}
-use Rattle.i9_laws.proofs.replay.printed_text_replays_its_late_run.Goals as goal
+use Rattle.i9_course.proofs.PipelinedSame.{in_counted}
+use Rattle.i9_laws.proofs.PipelinedReplay.{late_text, late_cut, late_again}
+use Rattle.i9_laws.proofs.replay.printed_text_replays_its_pipelined_run.Goals as goal
 
 pub returns-clause-counted : goal.returns-clause-counted
 returns-clause-counted c = in_counted

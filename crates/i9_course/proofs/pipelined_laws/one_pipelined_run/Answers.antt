@@ -1,8 +1,8 @@
-use Rattle.i9_course.proofs.LateRuns.{late_records, late_end, fault_ends, none_behind}
-use Rattle.i9_course.proofs.late_laws.one_late_run.Goals as goal
+use Rattle.i9_course.proofs.PipelinedRuns.{pipelined_records, late_end, fault_ends, none_behind}
+use Rattle.i9_course.proofs.pipelined_laws.one_pipelined_run.Goals as goal
 
 pub returns-clause-records : goal.returns-clause-records
-returns-clause-records c = late_records
+returns-clause-records c = pipelined_records
 
 pub returns-clause-finish : goal.returns-clause-finish
 returns-clause-finish c = late_end

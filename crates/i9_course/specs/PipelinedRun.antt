@@ -12,8 +12,8 @@ steps [] = []
 steps (r ∷ rs) = Step r ∷ steps rs
 
 -- these are the first records of such a run: no fault before the last record is imprecise
-abbrev pub IsLatePast : Given → List Record → Type 0
-IsLatePast g rs = IsCourse g (steps rs)
+abbrev pub IsPipelinedPast : Given → List Record → Type 0
+IsPipelinedPast g rs = IsCourse g (steps rs)
 
 -- the end that comes next, where one does
 abbrev pub ended_by : Next → Option Finish
@@ -34,8 +34,8 @@ abbrev pub finish_after : Given → List Record → Option Finish
 finish_after g rs = end_ahead g (steps rs)
 
 -- these are the records of such a run, and this is its end
-pub record IsLateRun (g : Given) (rs : List Record) (f : Finish) : Type 0 where
-  pub past : IsLatePast g rs
+pub record IsPipelinedRun (g : Given) (rs : List Record) (f : Finish) : Type 0 where
+  pub past : IsPipelinedPast g rs
   pub ends : finish_after g rs ≡ Some f
 
 -- an imprecise fault ends the run

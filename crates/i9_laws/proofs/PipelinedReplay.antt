@@ -16,9 +16,9 @@ use Rattle.i9_model.specs.PrintedText.{run_text}
 use Rattle.i9_past.proofs.Heedful.{heedful, counted, with_plan}
 use Rattle.i9_past.proofs.Left.{standing_by_place}
 use Rattle.i9_course.specs.Course.{records_of, event_ahead, instruction_turn, comes_next}
-use Rattle.i9_course.specs.LateRun.{steps, IsLatePast, IsLateRun}
-use Rattle.i9_course.proofs.LateRuns.{records_of-steps, next_of_steps, late_next, late_within, run_cases, run_ends}
-use Rattle.i9_course.proofs.LateSame.{run_again, run_sets, in_counted}
+use Rattle.i9_course.specs.PipelinedRun.{steps, IsPipelinedPast, IsPipelinedRun}
+use Rattle.i9_course.proofs.PipelinedRuns.{records_of-steps, next_of_steps, late_next, late_within, run_cases, run_ends}
+use Rattle.i9_course.proofs.PipelinedSame.{run_again, run_sets, in_counted}
 use Rattle.i9_laws.proofs.RunsAgain.{SaysReached, text_says}
 use Rattle.std.proofs.lemmas.List.{append-nil}
 
@@ -31,7 +31,7 @@ planned [] k t each is = absurd cc
 planned (x ∷ ts) zero t each is = let same : x ≡ t = cc in (subst IsTimedInRange same each.0, omega arith)
 planned (x ∷ ts) (suc k) t each is = let p = planned ts k t each.1 is in (p.0, omega (arith, p.1))
 
--- ---- along a late run
+-- ---- along a pipelined run
 
 -- a schedule of a version that may have the events of the plan may have these
 abbrev KeepsVersion : Given → List Timed → Type 0
@@ -87,7 +87,7 @@ stands g rs e plan at =
       λ version of. subst (IsOfVersion version) there.2 (plan_of_version version g.plan (length (reached_after past)) there.0 of there.1),
     )
 
-fits : (g : Given) (rs : List Record) → IsPlan g.plan → g.length ≤ MAX_LENGTH → IsLatePast g rs → Fits g rs
+fits : (g : Given) (rs : List Record) → IsPlan g.plan → g.length ≤ MAX_LENGTH → IsPipelinedPast g rs → Fits g rs
 fits g [] plan short past = record { each = tt; order = tt; last = omega arith; few = omega arith; version = λ version of. tt }
 fits g (r ∷ rs) plan short past =
     by_event (fits g rs plan short past.0) (event_ahead g (steps rs)) refl (sym (next_of_steps g rs) ∙ late_next g rs r past)
@@ -120,7 +120,7 @@ fits_none : (g : Given) (rs : List Record) → Fits g rs → FitsTo g rs (reache
 fits_none g rs f =
     subst (FitsTo g rs) (sym (append-nil (reached_after rs))) (record { each = f.each; order = f.order; few = f.few; version = f.version })
 
-fits_one : (g : Given) (rs : List Record) (e : Event) → IsPlan g.plan → g.length ≤ MAX_LENGTH → IsLatePast g rs
+fits_one : (g : Given) (rs : List Record) (e : Event) → IsPlan g.plan → g.length ≤ MAX_LENGTH → IsPipelinedPast g rs
     → event_ahead g (steps rs) ≡ Some e → FitsTo g rs (reached_after rs ++ timed_at (state_after g rs).count e ∷ [])
 fits_one g rs e plan short past at =
     let f = fits g rs plan short past in
@@ -139,7 +139,7 @@ fits_one g rs e plan short past at =
     }
 
 -- an end that comes next reached nothing, or the event that stood there
-end_fits : (g : Given) (rs : List Record) (f : Finish) → IsPlan g.plan → g.length ≤ MAX_LENGTH → IsLatePast g rs
+end_fits : (g : Given) (rs : List Record) (f : Finish) → IsPlan g.plan → g.length ≤ MAX_LENGTH → IsPipelinedPast g rs
     → comes_next g (steps rs) ≡ Ends f → FitsTo g rs (reached_in g rs f)
 end_fits g rs f plan short past ends = by_event (event_ahead g (steps rs)) refl (sym (next_of_steps g rs) ∙ ends)
   where
@@ -163,7 +163,7 @@ end_fits g rs f plan short past ends = by_event (event_ahead g (steps rs)) refl 
           (fits_one g rs e plan short past at)
     ]
 
-run_fits : (g : Given) (rs : List Record) (f : Finish) → IsPlan g.plan → g.length ≤ MAX_LENGTH → IsLateRun g rs f
+run_fits : (g : Given) (rs : List Record) (f : Finish) → IsPlan g.plan → g.length ≤ MAX_LENGTH → IsPipelinedRun g rs f
     → FitsTo g rs (reached_in g rs f)
 run_fits g rs f plan short run = elim (run_cases g rs f run) [
   | inl plain ↦ end_fits g rs f plan short run.past (run_ends g rs f plain run).1
@@ -180,13 +180,13 @@ fit_plan g rs f plan fit =
 -- ---- its text, and the run of what it reached
 
 pub late_text : (version : ℕ) (g : Given) (rs : List Record) (f : Finish) → IsVersion version → IsPlan g.plan → AreOfVersion version g.plan
-    → g.length ≤ MAX_LENGTH → IsLateRun g rs f → SaysReached version g rs f
+    → g.length ≤ MAX_LENGTH → IsPipelinedRun g rs f → SaysReached version g rs f
 late_text version g rs f is plan of short run =
     let fit = run_fits g rs f plan short run in
     text_says version g rs f is (fit_plan g rs f plan fit) (fit.version version of)
 
 pub late_cut : (version : ℕ) (g : Given) (rs : List Record) (e : End) → IsVersion version → IsPlan g.plan → AreOfVersion version g.plan
-    → g.length ≤ MAX_LENGTH → IsLatePast g rs → SaysReached version g rs (finish e)
+    → g.length ≤ MAX_LENGTH → IsPipelinedPast g rs → SaysReached version g rs (finish e)
 late_cut version g rs e is plan of short past =
     let fit = fits_none g rs (fits g rs plan short past) in
     text_says version g rs (finish e) is (fit_plan g rs (finish e) plan fit) (fit.version version of)
@@ -196,8 +196,8 @@ placed_text : (g : Given) (asked : Option ℕ) (plan : List Timed) (rs : List Re
 placed_text g asked plan [] f = refl
 placed_text g asked plan (r ∷ rs) f = refl
 
-pub late_again : (g : Given) (asked : Option ℕ) (rs : List Record) (f : Finish) → IsLateRun g rs f
-    → IsLateRun (record g { plan = reached_in g rs f; sets = asked }) rs f
+pub late_again : (g : Given) (asked : Option ℕ) (rs : List Record) (f : Finish) → IsPipelinedRun g rs f
+    → IsPipelinedRun (record g { plan = reached_in g rs f; sets = asked }) rs f
     × (run_text (record g { plan = reached_in g rs f; sets = asked }) rs f ≡ run_text g rs f)
 late_again g asked rs f run = (
   (run_sets (with_plan g (reached_in g rs f)) asked rs f (in_counted g rs f)).1 (run_again g rs f run),

@@ -1,5 +1,5 @@
-use Rattle.i9_course.proofs.LateSame.{imprecise_plan, late_again, run_again}
-use Rattle.i9_course.proofs.late_laws.lateness_does_not_depend_on_the_plan.Goals as goal
+use Rattle.i9_course.proofs.PipelinedSame.{imprecise_plan, late_again, run_again}
+use Rattle.i9_course.proofs.pipelined_laws.lateness_does_not_depend_on_the_plan.Goals as goal
 
 pub returns-clause-imprecise : goal.returns-clause-imprecise
 returns-clause-imprecise c = imprecise_plan

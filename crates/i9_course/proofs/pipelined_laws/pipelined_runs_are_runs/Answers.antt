@@ -1,19 +1,19 @@
-use Rattle.i9_course.proofs.LateRuns.{records_of-steps, late_past, late_first, late_run, late_counted, counted_first, counted_run, none_late, none_run}
+use Rattle.i9_course.proofs.PipelinedRuns.{records_of-steps, pipelined_past, late_first, pipelined_run, late_counted, counted_first, counted_run, none_late, none_run}
 use Rattle.i9_course.proofs.Named.{imprecise_named}
 use Rattle.i9_course.proofs.PlainEnds.{run_plain}
-use Rattle.i9_course.proofs.late_laws.late_runs_are_runs.Goals as goal
+use Rattle.i9_course.proofs.pipelined_laws.pipelined_runs_are_runs.Goals as goal
 
 pub returns-clause-records : goal.returns-clause-records
 returns-clause-records c = records_of-steps
 
 pub returns-clause-past : goal.returns-clause-past
-returns-clause-past c = late_past
+returns-clause-past c = pipelined_past
 
 pub returns-clause-first : goal.returns-clause-first
 returns-clause-first c = late_first
 
 pub returns-clause-run : goal.returns-clause-run
-returns-clause-run c = late_run
+returns-clause-run c = pipelined_run
 
 pub returns-clause-counted_past : goal.returns-clause-counted_past
 returns-clause-counted_past c = late_counted

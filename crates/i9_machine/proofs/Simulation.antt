@@ -24,7 +24,7 @@ use Rattle.i9_machine.specs.Progress.{Progress}
 use Rattle.i9_machine.specs.Step.{TellsRecord, NeedsRoom, HasRoom, event_for, next_for, plan_behind, Stage, stage_of, next_of, Did, Ended, Refused, Steps, Finished, plan_at_end}
 use Rattle.i9_machine.specs.StandsFor.{Stand, StandsFor, Follows, DoesNext, EndsRun, IsRefused, Comes, Advances, left_after, FollowsTo}
 use Rattle.i9_course.specs.Course.{Item, Step, records_of, event_ahead, comes_next, ahead}
-use Rattle.i9_course.specs.LateRun.{end_ahead, ended_by, finish_by}
+use Rattle.i9_course.specs.PipelinedRun.{end_ahead, ended_by, finish_by}
 use Rattle.i9_machine.proofs.Overtaking.{beside}
 use Rattle.i9_machine.proofs.Issuing.{same_need, waits_for_none, issued_lands, issued_shaded, left_less, issued_paced}
 use Rattle.i9_model.specs.declared.need.Need.{Need}

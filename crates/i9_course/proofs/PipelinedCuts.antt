@@ -1,4 +1,4 @@
--- A length cuts a late run, but for arithmetic faults at the length itself, which are precise there.
+-- A length cuts a pipelined run, but for arithmetic faults at the length itself, which are precise there.
 use Rattle.std.proofs.Common.{◌≡◌, ◌≢◌, ℕ, ◌+◌, ◌<◌, ◌≤◌, Bool, true, false, cond, eqb, List, [], ◌∷◌, Option, Some, None, refl, sym, ap, ◌∙◌, subst, ◌⊎◌, inl, inr, ◌↔◌, arith}
 use Rattle.std.specs.Prelude.{nat_lt}
 use Rattle.std.proofs.lemmas.Bool.{lt-ltb}
@@ -15,12 +15,12 @@ use Rattle.i9_past.proofs.Comes.{MayCome, next_comes}
 use Rattle.i9_past.proofs.Ends.{some_within}
 use Rattle.i9_past.proofs.Cuts.{state_by, next_longer}
 use Rattle.i9_course.specs.Course.{records_of, event_ahead, comes_next, last_fault, is_overtaken, imprecise_at}
-use Rattle.i9_course.specs.LateRun.{steps, IsLatePast, IsLateRun, is_imprecise}
+use Rattle.i9_course.specs.PipelinedRun.{steps, IsPipelinedPast, IsPipelinedRun, is_imprecise}
 use Rattle.i9_course.proofs.Ahead.{imprecise_overtaken}
 use Rattle.i9_course.proofs.Orderly.{course_events}
 use Rattle.i9_course.proofs.Same.{same_event}
-use Rattle.i9_course.proofs.LateRuns.{records_of-steps, next_of_steps, late_events, with_step, run_imprecise, imprecise_run, run_ends, precise_run, either_none}
-use Rattle.i9_course.proofs.LateAlike.{imprecise_where}
+use Rattle.i9_course.proofs.PipelinedRuns.{records_of-steps, next_of_steps, late_events, with_step, run_imprecise, imprecise_run, run_ends, precise_run, either_none}
+use Rattle.i9_course.proofs.PipelinedAlike.{imprecise_where}
 
 abbrev at_length : Given → ℕ → Given
 at_length g more = record g { length = more }
@@ -75,7 +75,7 @@ ends_there g stands rs r none at =
     ap (λ (due : Due). next_in g.length due stands r.after) none
     ∙ ap (λ (b : Bool). cond b (Ends (finish Limit)) (next_by_choice stands r.after (choice_in r.after))) test
 
-goes_below : (g : Given) (rs : List Record) (r : Record) → IsLatePast g (r ∷ rs) → comes_next g (steps (r ∷ rs)) ≢ Ends (finish Limit)
+goes_below : (g : Given) (rs : List Record) (r : Record) → IsPipelinedPast g (r ∷ rs) → comes_next g (steps (r ∷ rs)) ≢ Ends (finish Limit)
     → (state_after g rs).count < g.length
 goes_below g rs r late other = elim (last_below g rs r (late_events g (r ∷ rs) late)) [
   | inl lt ↦ lt
@@ -83,7 +83,7 @@ goes_below g rs r late other = elim (last_below g rs r (late_events g (r ∷ rs)
 ]
 
 -- nor where the count behind it is
-counts_below : (g : Given) (rs : List Record) (r : Record) → IsLatePast g (r ∷ rs) → r.after.count < g.length
+counts_below : (g : Given) (rs : List Record) (r : Record) → IsPipelinedPast g (r ∷ rs) → r.after.count < g.length
     → (state_after g rs).count < g.length
 counts_below g rs r late lt = elim (last_below g rs r (late_events g (r ∷ rs) late)) [
   | inl here ↦ here
@@ -103,7 +103,7 @@ imprecise_more g more rs longer lt =
     ∙ lt-ltb n more (omega (arith, longer, lt)) ∙ sym (lt-ltb n g.length lt))
 
 -- what comes next but for the end of the length comes next at a greater one
-comes_more : (g : Given) (more : ℕ) (rs : List Record) (x : Next) → g.length ≤ more → IsLatePast g rs → x ≢ Ends (finish Limit)
+comes_more : (g : Given) (more : ℕ) (rs : List Record) (x : Next) → g.length ≤ more → IsPipelinedPast g rs → x ≢ Ends (finish Limit)
     → comes_next g (steps rs) ≡ x → comes_next (at_length g more) (steps rs) ≡ x
 comes_more g more rs x longer late other e =
     let k = at_length g more in
@@ -117,8 +117,8 @@ no_limit : (r : Record) → Does r ≢ Ends (finish Limit)
 no_limit r same = cc same
 
 -- all records but the last are done late at it
-before_more : (g : Given) (more : ℕ) (rs : List Record) (r : Record) → g.length ≤ more → IsLatePast g (r ∷ rs)
-    → IsLatePast (at_length g more) rs
+before_more : (g : Given) (more : ℕ) (rs : List Record) (r : Record) → g.length ≤ more → IsPipelinedPast g (r ∷ rs)
+    → IsPipelinedPast (at_length g more) rs
 before_more g more [] r longer late = tt
 before_more g more (q ∷ rs) r longer late =
     let lt = goes_below g rs q late.0 (λ no. no_limit r (sym late.2 ∙ no)) in
@@ -126,19 +126,19 @@ before_more g more (q ∷ rs) r longer late =
     (comes_more g more rs (Does q) longer late.0.0 (no_limit q) late.0.2)
 
 -- and the last one, where the fault before it is precise
-pub last_more : (g : Given) (more : ℕ) (rs : List Record) (r : Record) → g.length ≤ more → IsLatePast g (r ∷ rs)
-    → imprecise_at (at_length g more) (steps rs) ≡ None → IsLatePast (at_length g more) (r ∷ rs)
+pub last_more : (g : Given) (more : ℕ) (rs : List Record) (r : Record) → g.length ≤ more → IsPipelinedPast g (r ∷ rs)
+    → imprecise_at (at_length g more) (steps rs) ≡ None → IsPipelinedPast (at_length g more) (r ∷ rs)
 last_more g more rs r longer late none =
     with_step (at_length g more) rs r (before_more g more rs r longer late) none
     (comes_more g more rs (Does r) longer late.0 (no_limit r) late.2)
 
-pub late_more : (g : Given) (more : ℕ) (rs : List Record) (r : Record) → g.length ≤ more → IsLatePast g (r ∷ rs)
-    → (IsLatePast (at_length g more) (r ∷ rs) ↔ imprecise_at (at_length g more) (steps rs) ≡ None)
+pub late_more : (g : Given) (more : ℕ) (rs : List Record) (r : Record) → g.length ≤ more → IsPipelinedPast g (r ∷ rs)
+    → (IsPipelinedPast (at_length g more) (r ∷ rs) ↔ imprecise_at (at_length g more) (steps rs) ≡ None)
 late_more g more rs r longer late = (λ there. there.1, λ none. last_more g more rs r longer late none)
 
 -- below the length each is
 pub below_more : (g : Given) (more : ℕ) (rs : List Record) → g.length ≤ more → (state_after g rs).count < g.length
-    → IsLatePast g rs → IsLatePast (at_length g more) rs
+    → IsPipelinedPast g rs → IsPipelinedPast (at_length g more) rs
 below_more g more [] longer lt late = tt
 below_more g more (r ∷ rs) longer lt late =
     let here = counts_below g rs r late lt in
@@ -149,14 +149,14 @@ pub none_raised : (g : Given) (rs : List Record) → last_fault rs ≡ None → 
 none_raised g [] none = either_none (is_overtaken g []) None refl
 none_raised g (r ∷ rs) none = either_none (is_overtaken g (steps (r ∷ rs))) (last_fault (r ∷ rs)) none
 
-pub precise_more : (g : Given) (more : ℕ) (rs : List Record) → g.length ≤ more → IsLatePast g rs
+pub precise_more : (g : Given) (more : ℕ) (rs : List Record) → g.length ≤ more → IsPipelinedPast g rs
     → imprecise_at g (steps rs) ≡ None → (last_fault rs ≡ None) ⊎ ((state_after g rs).count < g.length)
     → imprecise_at (at_length g more) (steps rs) ≡ None
 precise_more g more rs longer late none (inl calm) = none_raised (at_length g more) rs calm
 precise_more g more rs longer late none (inr lt) = imprecise_more g more rs longer lt ∙ none
 
-pub late_longer : (g : Given) (more : ℕ) (rs : List Record) (r : Record) → g.length ≤ more → IsLatePast g (r ∷ rs)
-    → (last_fault rs ≡ None) ⊎ ((state_after g rs).count < g.length) → IsLatePast (at_length g more) (r ∷ rs)
+pub late_longer : (g : Given) (more : ℕ) (rs : List Record) (r : Record) → g.length ≤ more → IsPipelinedPast g (r ∷ rs)
+    → (last_fault rs ≡ None) ⊎ ((state_after g rs).count < g.length) → IsPipelinedPast (at_length g more) (r ∷ rs)
 late_longer g more rs r longer late h =
     last_more g more rs r longer late (precise_more g more rs longer late.0 late.1 h)
 
@@ -167,7 +167,7 @@ limit_no e other h = other (let same : e ≡ finish Limit = cc in ap (λ (f : Fi
 
 -- all records are done late at the greater length
 past_ended : (g : Given) (more : ℕ) (rs : List Record) (e : Finish) → g.length ≤ more → e.end ≢ Limit
-    → is_imprecise e.end ≡ false → IsLateRun g rs e → IsLatePast (at_length g more) rs
+    → is_imprecise e.end ≡ false → IsPipelinedRun g rs e → IsPipelinedPast (at_length g more) rs
 past_ended g more [] e longer other plain run = tt
 past_ended g more (r ∷ rs) e longer other plain run =
     let ends = (run_ends g (r ∷ rs) e plain run).1 in
@@ -175,8 +175,8 @@ past_ended g more (r ∷ rs) e longer other plain run =
     last_more g more rs r longer run.past (imprecise_more g more rs longer lt ∙ run.past.1)
 
 pub ended_more : (g : Given) (more : ℕ) (rs : List Record) (e : Finish) → g.length ≤ more → e.end ≢ Limit
-    → is_imprecise e.end ≡ false → IsLateRun g rs e
-    → (IsLateRun (at_length g more) rs e ↔ imprecise_at (at_length g more) (steps rs) ≡ None)
+    → is_imprecise e.end ≡ false → IsPipelinedRun g rs e
+    → (IsPipelinedRun (at_length g more) rs e ↔ imprecise_at (at_length g more) (steps rs) ≡ None)
 ended_more g more rs e longer other plain run =
     let k = at_length g more in (
       λ there. (run_ends k rs e plain there).0,
@@ -185,27 +185,27 @@ ended_more g more rs e longer other plain run =
     )
 
 pub ended_longer : (g : Given) (more : ℕ) (rs : List Record) (e : Finish) → g.length ≤ more → e.end ≢ Limit
-    → is_imprecise e.end ≡ false → IsLateRun g rs e → (last_fault rs ≡ None) ⊎ ((state_after g rs).count < g.length)
-    → IsLateRun (at_length g more) rs e
+    → is_imprecise e.end ≡ false → IsPipelinedRun g rs e → (last_fault rs ≡ None) ⊎ ((state_after g rs).count < g.length)
+    → IsPipelinedRun (at_length g more) rs e
 ended_longer g more rs e longer other plain run h =
     (ended_more g more rs e longer other plain run).1
     (precise_more g more rs longer run.past (run_ends g rs e plain run).0 h)
 
 pub faulted_more : (g : Given) (more : ℕ) (rs : List Record) (e : Finish) (a : ℕ) → g.length ≤ more → e.end ≢ Limit
-    → is_imprecise e.end ≡ false → IsLateRun g rs e → imprecise_at (at_length g more) (steps rs) ≡ Some a
-    → IsLateRun (at_length g more) rs (finish (Imprecise a))
+    → is_imprecise e.end ≡ false → IsPipelinedRun g rs e → imprecise_at (at_length g more) (steps rs) ≡ Some a
+    → IsPipelinedRun (at_length g more) rs (finish (Imprecise a))
 faulted_more g more rs e a longer other plain run is =
     imprecise_run (at_length g more) rs a (past_ended g more rs e longer other plain run) is
 
 -- an imprecise fault is below the length
-pub imprecise_below : (g : Given) (rs : List Record) (a : ℕ) → IsLateRun g rs (finish (Imprecise a))
+pub imprecise_below : (g : Given) (rs : List Record) (a : ℕ) → IsPipelinedRun g rs (finish (Imprecise a))
     → (state_after g rs).count < g.length
 imprecise_below g rs a run =
     subst (λ (qs : List Record). (state_after g qs).count < g.length) (records_of-steps rs)
     (imprecise_overtaken g (steps rs) a (run_imprecise g rs a run)).1
 
 pub imprecise_run_more : (g : Given) (more : ℕ) (rs : List Record) (a : ℕ) → g.length ≤ more
-    → IsLateRun g rs (finish (Imprecise a)) → IsLateRun (at_length g more) rs (finish (Imprecise a))
+    → IsPipelinedRun g rs (finish (Imprecise a)) → IsPipelinedRun (at_length g more) rs (finish (Imprecise a))
 imprecise_run_more g more rs a longer run =
     let lt = imprecise_below g rs a run in
     imprecise_run (at_length g more) rs a (below_more g more rs longer lt run.past)

@@ -1,6 +1,6 @@
-use Rattle.i9_course.proofs.LateAlike.{sets_alike}
-use Rattle.i9_course.proofs.LateSame.{imprecise_sets, late_sets, run_sets}
-use Rattle.i9_course.proofs.late_laws.lateness_does_not_depend_on_sets.Goals as goal
+use Rattle.i9_course.proofs.PipelinedAlike.{sets_alike}
+use Rattle.i9_course.proofs.PipelinedSame.{imprecise_sets, late_sets, run_sets}
+use Rattle.i9_course.proofs.pipelined_laws.lateness_does_not_depend_on_sets.Goals as goal
 
 pub returns-clause-needs : goal.returns-clause-needs
 returns-clause-needs c = sets_alike
