@@ -1,6 +1,7 @@
 -- The functions `fault_of` and `with_line` answer the relation `Says`, both ways.
-use Rattle.std.proofs.Common.{◌≡◌, ℕ, zero, suc, ◌+◌, ◌*◌, ◌/◌, ◌%◌, ◌<◌, ◌≤◌, Bool, true, false, not, cond, ltb, eqb, List, [], ◌∷◌, ◌++◌, length, take, get_or, Option, Some, None, Result, Ok, Err, refl, sym, ap, subst, ◌∙◌, arith, inl, inr, sum, ◌||◌, eq-eqb, length-append}
-use Rattle.std.proofs.lemmas.Bool.{eqb-true, ltb-false, le-ltb, cases_Bool}
+use Rattle.std.proofs.Common.{◌≡◌, ℕ, zero, suc, ◌+◌, ◌*◌, ◌/◌, ◌%◌, ◌<◌, ◌≤◌, true, false, not, ltb, eqb, List, [], ◌∷◌, ◌++◌, length, take, get_or, Option, Some, None, Result, Ok, Err, refl, sym, ap, subst, ◌∙◌, arith, inl, inr, sum, ◌||◌, eq-eqb, length-append}
+use Rattle.i9_model.proofs.FrameLaws.{if_none}
+use Rattle.std.proofs.lemmas.Bool.{eqb-true, ltb-false, le-ltb, cases_Bool, or_parts, not-false}
 use Rattle.std.proofs.lemmas.List.{take_more, take_all, take_at, length-take-le}
 use Rattle.hex.specs.Hex.{decode_of}
 use Rattle.hex.specs.declared.error.FromHexError.{FromHexError}
@@ -74,19 +75,6 @@ record FineBytes (xs : List ℕ) : Type 0 where
   pub known : get_or xs 3 0 ≤ 5
   pub fits : fits_type (get_or xs 3 0) (get_or xs 0 0) ≡ true
 
--- where a test gives no fault, and none comes later
-if_none : (b : Bool) (k : ℕ) (o : Option ℕ) → cond b (Some k) o ≡ None → (b ≡ false) × (o ≡ None)
-if_none true k o e = absurd cc
-if_none false k o e = (refl, e)
-
-or_false : (a b : Bool) → (a || b) ≡ false → (a ≡ false) × (b ≡ false)
-or_false true b e = absurd cc
-or_false false b e = (refl, e)
-
-not_false : (b : Bool) → not b ≡ false → b ≡ true
-not_false true e = refl
-not_false false e = absurd cc
-
 -- bytes without fault passed the tests
 fine_bytes : (xs : List ℕ) → fault_of_bytes xs ≡ None → FineBytes xs
 unfolding fault_of_bytes
@@ -95,13 +83,13 @@ fine_bytes xs h =
     let b = if_none (not (eqb (sum xs % 256) 0)) 4 _ a.1 in
     let c = if_none (ltb 5 (get_or xs 3 0)) 5 _ b.1 in
     let d = if_none (not (fits_type (get_or xs 3 0) (get_or xs 0 0))) 3 _ c.1 in
-    let e = or_false (ltb (length xs) 5) (not (eqb (length xs) (get_or xs 0 0 + 5))) a.0 in
+    let e = or_parts (ltb (length xs) 5) (not (eqb (length xs) (get_or xs 0 0 + 5))) a.0 in
     record {
       long = ltb-false _ _ e.0;
-      size = eqb-true _ _ (not_false _ e.1);
-      whole = eqb-true _ _ (not_false _ b.0);
+      size = eqb-true _ _ (not-false _ e.1);
+      whole = eqb-true _ _ (not-false _ b.0);
       known = ltb-false _ _ c.0;
-      fits = not_false _ d.0;
+      fits = not-false _ d.0;
     }
 
 first_none : (a b : Option ℕ) → first_fault a b ≡ None → (a ≡ None) × (b ≡ None)
@@ -135,7 +123,7 @@ says_line s [] fine = says_nothing s
 says_line s (c ∷ digits) fine =
     let a = if_none s.ended 7 _ fine in
     let b = if_none (not (eqb c colon)) 1 _ a.1 in
-    let is_colon : c ≡ colon = eqb-true _ _ (not_false _ b.0) in
+    let is_colon : c ≡ colon = eqb-true _ _ (not-false _ b.0) in
     subst (λ (x : ℕ). Says s (x ∷ digits) (with_digits s (decode_of digits))) (sym is_colon) (says-decoded s digits (decode_of digits) refl a.0 b.1)
 
 -- ---- where a line says something

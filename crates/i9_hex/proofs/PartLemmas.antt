@@ -17,10 +17,6 @@ pairs_at-append address n (x ∷ xs) ys =
     let e : n + 1 + length xs ≡ n + suc (length xs) = omega arith in
     ap (λ (ps : List (ℕ × ℕ)). (address n, x) ∷ ps) (pairs_at-append address (n + 1) xs ys ∙ ap (λ (k : ℕ). pairs_at address (n + 1) xs ++ pairs_at address k ys) e)
 
-pub length-pairs_at : (address : ℕ → ℕ) (n : ℕ) (bs : List ℕ) → length (pairs_at address n bs) ≡ length bs
-length-pairs_at address n [] = refl
-length-pairs_at address n (b ∷ bs) = ap suc (length-pairs_at address (n + 1) bs)
-
 -- the data of a record, one byte more
 pub pairs_at-more : (address : ℕ → ℕ) (n i : ℕ) (bs : List ℕ) (ps qs rs : List (ℕ × ℕ)) → i < length bs → qs ≡ ps ++ pairs_at address n (take i bs) → rs ≡ qs ++ (address (n + i), get_or bs i 0) ∷ []
     → rs ≡ ps ++ pairs_at address n (take (i + 1) bs)

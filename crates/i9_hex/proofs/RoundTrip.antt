@@ -13,7 +13,8 @@ use Rattle.i9_text.proofs.WrittenLines.{IsPlain, lines_of-written, plain-encode_
 use Rattle.i9_model.specs.Image.{address_count, wrapped, Part, pairs_at, upwards, pairs_of_part, pairs_of, AreParts}
 use Rattle.i9_model.specs.HexText.{most_bytes, data_type, end_type, upper_type, Upper, address_in, HexState, start, IsRecord, Says, says_nothing, says_bytes, says_end, says_upper, IsImage}
 use Rattle.i9_hex.specs.Writing.{check_of, front_of, record_line, piece_len, cut, pieces_of, upper_lines, piece_lines, body_lines, upper_after, end_line, hex_lines, hex_text}
-use Rattle.i9_hex.proofs.PartLemmas.{pairs_at-append, length-pairs_at}
+use Rattle.i9_model.proofs.Reading.{length-pairs_at}
+use Rattle.i9_hex.proofs.PartLemmas.{pairs_at-append}
 
 abbrev AreBytes : List ℕ → Type 0
 AreBytes xs = AllByRecursion (λ b. b < 256) xs

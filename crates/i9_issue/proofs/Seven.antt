@@ -8,9 +8,10 @@ use Rattle.i9_isa.specs.declared.inst.Side.{Side}
 use Rattle.i9_isa.specs.declared.inst.Side.TheVariants.{Reg, Mem, Ctl}
 use Rattle.i9_model.specs.declared.need.Need.{Need}
 use Rattle.i9_model.specs.declared.need.TimedNeed.{TimedNeed}
-use Rattle.i9_model.specs.Turns.{RequestsInOrder, Permits, CanIssue, open_at, open_requests, done_turn, last_request, same_side, keeps_side, is_plain, HasCost}
+use Rattle.i9_model.specs.Turns.{Permits, CanIssue, open_at, open_requests, done_turn, last_request, same_side, keeps_side, is_plain, HasCost}
 use Rattle.i9_issue.specs.Room.{Fits}
 use Rattle.i9_turns.proofs.TurnDropped.{open-yes, open-no, each-open, max-last_request-open}
+use Rattle.i9_turns.proofs.TurnPending.{open-in_order}
 use Rattle.i9_turns.proofs.TurnOpen.{done-after}
 use Rattle.i9_turns.proofs.TurnComputed.{one_if, issued-later}
 use Rattle.i9_turns.proofs.TurnThree.{at_side, same_side-join, one-true, one-false}
@@ -138,17 +139,6 @@ at_most_seven last rs f =
 
 -- ---- the facts are kept
 
-pub order-open : (u : ℕ) (rs : List TimedNeed) → RequestsInOrder rs → RequestsInOrder (open_at u rs)
-order-open u [] h = tt
-order-open u (r ∷ rs) h =
-    elim (cases_lt u r.done) [
-      | inl later ↦
-          let e : max u (last_request (open_at u rs)) ≡ max u (last_request rs) = max-last_request-open u u (omega arith) rs h.1 in
-          subst RequestsInOrder (sym (open-yes u r rs later))
-          (λ is. let le : last_request rs ≤ r.done = h.0 is in omega (arith, e), order-open u rs h.1)
-      | inr over ↦ subst RequestsInOrder (sym (open-no u r rs over)) (order-open u rs h.1)
-    ]
-
 -- a record with its turns after the open ones
 abbrev pub placed_at : Need → ℕ → ℕ → TimedNeed
 placed_at n t d = record { need = n; issue = t; done = d }
@@ -228,7 +218,7 @@ Fits-next last rs n t d f c can e =
       issued = (omega arith, each-open (λ r. r.issue ≤ t) t rs (issued-later last t in_order rs f.issued));
       are_open = (subst (λ u. t < u) (sym e) (done-after rs n t c.some), each-is_open t rs);
       plain = (λ p. e ∙ plain-done rs n t c p, each-open (λ r. IsTrue (is_plain r.need) → r.done ≡ r.issue + 1) t rs f.plain);
-      in_order = (λ is. omega (arith, e, same, cond-true n.request (max t (last_request rs)) t is), order-open t rs f.in_order);
+      in_order = (λ is. omega (arith, e, same, cond-true n.request (max t (last_request rs)) t is), open-in_order t rs f.in_order);
       requests = next-requests last rs n t d f can;
       slow = next-slow last rs n t d f can;
       sides = next-sides last rs n t d f can;

@@ -1,7 +1,7 @@
 -- Plans of calls and returns, as answers and as hazards.
-use Rattle.std.proofs.Common.{◌≡◌, ℕ, ◌≤◌, Bool, true, false, cond, Option, Some, None, Result, Ok, Err, refl, arith}
+use Rattle.std.proofs.Common.{◌≡◌, ℕ, ◌≤◌, Bool, true, false, cond, Option, Some, None, Result, Ok, Err, refl}
+use Rattle.std.proofs.lemmas.Bool.{le-leb}
 use Rattle.std.specs.Prelude.{nat_le}
-use Rattle.std.proofs.lemmas.Bool.Decides.{nat_tests}
 use Rattle.i9_model.specs.declared.push.Push.{Push}
 use Rattle.i9_model.specs.declared.calls.Sys.{Sys}
 use Rattle.i9_model.specs.declared.calls.Pop.{Pop}
@@ -38,18 +38,15 @@ length_by : (b : Bool) (h : Option ℕ) (s : Sys) → b ≡ true → tested b h 
 length_by true h s few e = answer_length h s e
 length_by false h s few e = cc
 
-few_enough : (n : ℕ) → n ≤ MOST_SYSTEM_CALL → nat_le n MOST_SYSTEM_CALL ≡ true
-few_enough n few = grind (arith, nat_tests, few)
-
 -- a call of a number that is not too great
 pub calls_ok : (n : ℕ) (h : Option ℕ) (s t : Sys) → n ≤ MOST_SYSTEM_CALL → tested (nat_le n MOST_SYSTEM_CALL) h s ≡ Ok t → (h ≡ None) × (t ≡ s)
-calls_ok n h s t few e = ok_by (nat_le n MOST_SYSTEM_CALL) h s t (few_enough n few) e
+calls_ok n h s t few e = ok_by (nat_le n MOST_SYSTEM_CALL) h s t (le-leb n MOST_SYSTEM_CALL few) e
 
 pub calls_hazard : (n : ℕ) (h : Option ℕ) (s : Sys) (a : ℕ) → n ≤ MOST_SYSTEM_CALL → tested (nat_le n MOST_SYSTEM_CALL) h s ≡ Err (Hazard a) → h ≡ Some a
-calls_hazard n h s a few e = hazard_by (nat_le n MOST_SYSTEM_CALL) h s a (few_enough n few) e
+calls_hazard n h s a few e = hazard_by (nat_le n MOST_SYSTEM_CALL) h s a (le-leb n MOST_SYSTEM_CALL few) e
 
 pub calls_length : (n : ℕ) (h : Option ℕ) (s : Sys) → n ≤ MOST_SYSTEM_CALL → tested (nat_le n MOST_SYSTEM_CALL) h s ≡ Err Length → ⊥
-calls_length n h s few e = length_by (nat_le n MOST_SYSTEM_CALL) h s (few_enough n few) e
+calls_length n h s few e = length_by (nat_le n MOST_SYSTEM_CALL) h s (le-leb n MOST_SYSTEM_CALL few) e
 
 pub ret_ok : (h : Option ℕ) (p q : Pop) → unless h p ≡ Ok q → (h ≡ None) × (q ≡ p)
 ret_ok None p q e = (refl, cc)

@@ -1,5 +1,6 @@
 -- What the second word of an instruction counts for, and the hazards of a fetch.
 use Rattle.std.proofs.Common.{◌≡◌, ℕ, ◌+◌, ◌<◌, ◌^◌, ◌==◌, Bool, true, false, cond, nat_lt, Option, Some, None, option_and_then, Ok, Err, refl, sym, ap, ◌∙◌, arith}
+use Rattle.i9_decode.proofs.SameMemory.{taken}
 use Rattle.std.specs.Option.{option_map}
 use Rattle.i9_isa.specs.declared.format.Format.{Format}
 use Rattle.i9_isa.specs.declared.inst.Mode.{Mode}
@@ -30,10 +31,6 @@ two_words BaseDisp w w1 v two = refl
 two_words IndexDisp w w1 v two = refl
 two_words BaseIndexDisp w w1 v two = refl
 two_words _ w w1 v two = absurd (cc)
-
-taken : (b : Bool) (x y : Ea) → cond b (Some x) None ≡ Some y → x ≡ y
-taken true x y h = cc
-taken false x y h = absurd (cc)
 
 shown : (b : Bool) (x e : Ea) (v : ℕ) → cond b (Some x) None ≡ Some e → cond b (Some (record x { disp = v })) None ≡ Some (record e { disp = v })
 shown true x e v h = ap (option_map (λ (y : Ea). record y { disp = v })) h

@@ -1,5 +1,6 @@
 -- What is known of an instruction can be known of it: whether it has a data access, and how long that waits at most.
 use Rattle.std.proofs.Common.{◌≡◌, ℕ, ◌≤◌, Bool, true, false, cond, List, [], ◌∷◌, Option, Some, None, refl, sym, ap, ◌∙◌, arith}
+use Rattle.i9_watch.proofs.Marking.{or_false}
 use Rattle.std.specs.Prelude.{is_some, ◌||◌, find}
 use Rattle.std.specs.List.{list_any}
 use Rattle.i9_isa.specs.declared.op.Op.{Op}
@@ -50,17 +51,13 @@ moved_data : (d : Direction) (a n : ℕ) → is_some (data_of (moved_access d a 
 moved_data Direction.Load a n = refl
 moved_data Direction.Store a n = refl
 
-or_none : (b : Bool) → b ≡ (b || false)
-or_none true = refl
-or_none false = refl
-
 or_some : (b : Bool) → true ≡ (b || true)
 or_some true = refl
 or_some false = refl
 
 data_by : (t : Option Transfer) (i : Inst) (s : State)
     → is_some (data_of (access_by t i s)) ≡ (is_atomic i.op || is_some t)
-data_by None i s = named_data i.op i s ∙ or_none (is_atomic i.op)
+data_by None i s = named_data i.op i s ∙ or_false (is_atomic i.op)
 data_by (Some t) i s = moved_data t.direction _ _ ∙ or_some (is_atomic i.op)
 
 pub known_access : (i : Inst) (s : State) → is_some (data_of (access_of i s)) ≡ has_access i.op

@@ -3,8 +3,7 @@ use Rattle.std.proofs.Common.{◌≡◌, ℕ, zero, suc, ◌+◌, ◌^◌, ◌<�
 use Rattle.std.specs.Prelude.{◌==◌, ◌&&◌, ◌||◌, not, bit_and, min}
 use Rattle.std.specs.List.{list_any, range_with_len}
 use Rattle.std.specs.Int.{bit_at}
-use Rattle.std.proofs.lemmas.Bool.{eqb-true}
-use Rattle.std.proofs.lemmas.Bool.Decides.{nat_tests}
+use Rattle.std.proofs.lemmas.Bool.{eqb-true, lt-ltb, and_from, ltb-true}
 use Rattle.std.proofs.lemmas.Nat.Bits.{bit_at_and, bit_at-lt, bit_at_above, same_from_bits}
 use Rattle.i9_isa.specs.Words.{bit}
 use Rattle.i9_watch.proofs.SetBits.{bit_none}
@@ -77,20 +76,9 @@ any_alike f g a b (suc n) same =
 
 -- ---- a number whose bits pass a test
 
-less : (k n : ℕ) → k < n → nat_lt k n ≡ true
-less k n h = grind (arith, nat_tests, h)
-
-pub both : (a b : Bool) → a ≡ true → b ≡ true → (a && b) ≡ true
-both true true e h = refl
-both true false e h = h
-both false b e h = absurd cc
-
 second_false : (a b : Bool) → (a ≡ true → b ≡ false) → (a && b) ≡ false
 second_false true b h = h refl
 second_false false b h = refl
-
-below : (k n : ℕ) → nat_lt k n ≡ true → k < n
-below k n t = grind (arith, nat_tests, t)
 
 -- it is not 0 where one of them does
 pub nonzero_any : (w n : ℕ) (f : ℕ → Bool) → ((k : ℕ) → bit w k ≡ (nat_lt k n && f k)) → not (w == 0) ≡ list_any f (range_with_len 0 n)
@@ -101,11 +89,11 @@ nonzero_any w n f bits = by (list_any f (range_with_len 0 n)) refl
 
     by : (b : Bool) → list_any f (range_with_len 0 n) ≡ b → not (w == 0) ≡ b
     by false e =
-        let none = zero_bits w (λ k. bits k ∙ second_false (nat_lt k n) (f k) (λ t. sym (at k) ∙ none_among f 0 n e k (below k n t))) in
+        let none = zero_bits w (λ k. bits k ∙ second_false (nat_lt k n) (f k) (λ t. sym (at k) ∙ none_among f 0 n e k (ltb-true k n t))) in
         ap (λ (x : ℕ). not (x == 0)) none
     by true e =
         let one = some_among f 0 n e in
-        ap not (some_bit w one.step (bits one.step ∙ both (nat_lt one.step n) (f one.step) (less one.step n one.few) (sym (at one.step) ∙ one.passes)))
+        ap not (some_bit w one.step (bits one.step ∙ and_from (nat_lt one.step n) (f one.step) (lt-ltb one.step n one.few) (sym (at one.step) ∙ one.passes)))
 
 -- the bits of both
 bool_and : (x y : ℕ) → x < 2 → y < 2 → (min x y == 1) ≡ ((x == 1) && (y == 1))

@@ -88,7 +88,7 @@ moved_alone : (op : Op) → (moves_words op && not (moves_alone op)) ≡ false
 moved_alone Lda = refl
 moved_alone _ = refl
 
-implied : (a b : Bool) → (a && not b) ≡ false → a ≡ true → b ≡ true
+pub implied : (a b : Bool) → (a && not b) ≡ false → a ≡ true → b ≡ true
 implied true true e t = refl
 implied true false e t = absurd cc
 implied false b e t = absurd cc

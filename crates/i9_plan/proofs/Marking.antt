@@ -1,5 +1,6 @@
 -- Effects with the marks of the registers that they set, and of the bytes that they store.
-use Rattle.std.proofs.Common.{◌≡◌, ℕ, suc, ◌+◌, ◌*◌, ◌^◌, ◌<◌, Bool, false, List, [], ◌∷◌, ◌++◌, length, replicate, None, refl, sym, ap, ◌∙◌, subst, append-nil}
+use Rattle.std.proofs.Common.{◌≡◌, ℕ, ◌+◌, ◌*◌, ◌^◌, ◌<◌, Bool, false, List, [], ◌∷◌, ◌++◌, length, replicate, None, refl, sym, ap, ◌∙◌, subst, append-nil}
+use Rattle.i9_model.proofs.Reading.{length-pairs_at}
 use Rattle.i9_isa.specs.declared.inst.Inst.{Inst}
 use Rattle.i9_isa.specs.declared.inst.Operand.{Operand}
 use Rattle.i9_isa.specs.declared.inst.Operand.TheVariants.{Reg, Lit, Sfr}
@@ -31,10 +32,6 @@ use Rattle.i9_plan.proofs.MarkLists.{no_bits, none_picked as none-marked-in, set
 
 -- ---- the registers that are set
 
-pairs_long : (place : ℕ → ℕ) (a : ℕ) (vs : List ℕ) → length (pairs_at place a vs) ≡ length vs
-pairs_long place a [] = refl
-pairs_long place a (v ∷ vs) = ap suc (pairs_long place (a + 1) vs)
-
 abbrev place_of : List (ℕ × ℕ) → ℕ
 place_of [] = 0
 place_of (p ∷ ps) = p.0
@@ -45,7 +42,7 @@ same_picked m a b [] [] e = refl
 same_picked m a b (v ∷ vs) [] e = absurd cc
 same_picked m a b [] (w ∷ ws) e = absurd cc
 same_picked m a b (v ∷ vs) (w ∷ ws) e =
-    let long : length (v ∷ vs) ≡ length (w ∷ ws) = sym (pairs_long (λ r. r) a (v ∷ vs)) ∙ ap length e ∙ pairs_long (λ r. r) b (w ∷ ws) in
+    let long : length (v ∷ vs) ≡ length (w ∷ ws) = sym (length-pairs_at (λ r. r) a (v ∷ vs)) ∙ ap length e ∙ length-pairs_at (λ r. r) b (w ∷ ws) in
     let here : a ≡ b = ap place_of e in
     ap (λ (n : ℕ). picked (λ r. r) n (bits_of m (length (v ∷ vs)))) here ∙ ap (λ (n : ℕ). picked (λ r. r) b (bits_of m n)) long
 

@@ -1,6 +1,8 @@
 -- What waits for all before it: a barrier, whatever it comes to, a word that is refused, a hazard, and a fault that is
 -- raised before anything is done; and what others need.
 use Rattle.std.proofs.Common.{◌≡◌, ℕ, ◌+◌, ◌*◌, ◌&&◌, Bool, true, false, cond, Option, Some, None, Ok, refl, sym, ap, ◌∙◌, subst}
+use Rattle.i9_plan.proofs.Outcomes.{not_first}
+use Rattle.std.proofs.lemmas.Bool.{or_parts}
 use Rattle.std.specs.Prelude.{not, ◌||◌, ◌==◌, if◌then◌else◌, IsTrue}
 use Rattle.std.specs.Option.{is_some}
 use Rattle.i9_isa.specs.declared.op.Op.{Op}
@@ -138,13 +140,9 @@ outcome_waits s m i o read is stands stops =
 
 -- ---- which do not
 
-neither : (a b : Bool) → (a || b) ≡ false → (a ≡ false) × (b ≡ false)
-neither false b h = (refl, h)
-neither true b h = absurd cc
-
 pub no_barrier : (i : Inst) → (is_barrier_name i.op || writes_sfr i) ≡ false → IsNoBarrier i
 no_barrier i h =
-    let both = neither (is_barrier_name i.op) (writes_sfr i) h in
+    let both = or_parts (is_barrier_name i.op) (writes_sfr i) h in
     record { named = both.0; written = both.1 }
 
 -- ---- what is needed
@@ -152,11 +150,6 @@ no_barrier i h =
 frames_move : (op : Op) → (moves_frames op && not (is_barrier_name op)) ≡ false
 frames_move Lda = refl
 frames_move _ = refl
-
-first_not : (a b : Bool) → (a && not b) ≡ false → b ≡ false → a ≡ false
-first_not true false e f = absurd cc
-first_not true true e f = absurd cc
-first_not false b e f = refl
 
 not_counted : (b : Bool) (n : ℕ) → b ≡ false → (if b then n else 0) ≡ (if b then 0 else 0)
 not_counted false n e = refl
@@ -168,7 +161,7 @@ frames_free : (i : Inst) (s : State) (n : ℕ) (trace : Bool) → is_barrier_nam
 frames_free i s n trace named =
     let need = inst_need i (facts_of i s 0 false trace) in
     let turns = latency_of i.op + (if has_access i.op then (facts_of i s 0 false trace).waits else 0) in
-    let none = first_not (moves_frames i.op) (is_barrier_name i.op) (frames_move i.op) named in
+    let none = not_first (moves_frames i.op) (is_barrier_name i.op) (frames_move i.op) named in
     ap (λ (k : ℕ). record need { cost = turns + 16 * k }) (not_counted (moves_frames i.op) n none)
 
 runs_need : (i : Inst) (s : State) → is_barrier_name i.op ≡ false → (asked : Option ℕ) (c : Cache)

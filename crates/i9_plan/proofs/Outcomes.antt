@@ -1,9 +1,10 @@
 -- What an instruction comes to that raises nothing before it does anything: by its result, by its condition, or by its
 -- access alone.
 use Rattle.std.proofs.Common.{◌≡◌, ℕ, Bool, true, false, cond, ◌&&◌, List, [], replicate, Option, Some, None, Result, Ok, refl, sym, ap, ◌∙◌, subst}
+use Rattle.i9_plan.proofs.MarkUses.{implied}
 use Rattle.std.specs.Prelude.{is_some, not, ◌||◌, ◌==◌}
 use Rattle.std.specs.Option.{option_map}
-use Rattle.std.proofs.lemmas.Bool.{eqb-true}
+use Rattle.std.proofs.lemmas.Bool.{eqb-true, or_from}
 use Rattle.i9_isa.specs.declared.op.Op.{Op}
 use Rattle.i9_isa.specs.declared.op.Op.TheVariants.{Lda, Atadd, Atmod, Bx, Balx, Bal, Call, Callx, Calls, Ret, Flushreg, Modac, Modtc, Modpc, Sysctl, Sdma}
 use Rattle.i9_isa.specs.declared.inst.Inst.{Inst}
@@ -62,7 +63,7 @@ second true true e t = absurd cc
 second true false e t = absurd cc
 second false b e t = refl
 
-not_first : (a b : Bool) → (a && not b) ≡ false → b ≡ false → a ≡ false
+pub not_first : (a b : Bool) → (a && not b) ≡ false → b ≡ false → a ≡ false
 not_first true false e t = absurd cc
 not_first true true e t = absurd cc
 not_first false b e t = refl
@@ -156,11 +157,6 @@ branch_question : (op : Op) → (is_branch op && not (asks (question_of op))) �
 branch_question Lda = refl
 branch_question _ = refl
 
-sure : (a b : Bool) → (a && not b) ≡ false → a ≡ true → b ≡ true
-sure true true e t = refl
-sure true false e t = absurd cc
-sure false b e t = absurd cc
-
 result_action : (op : Op) (i : Inst) (s : State) → has_result op ≡ true → action_by_name op i s ≡ resulting i s (answer_in i s)
 result_action op i s t =
     plain_action op i s (other (has_result op) (is_own op) (result_own op) t)
@@ -169,7 +165,7 @@ result_action op i s t =
 branch_action : (op : Op) (i : Inst) (s : State) → is_branch op ≡ true → action_by_name op i s ≡ branching i s
 branch_action op i s t =
     plain_action op i s (other (is_branch op) (is_own op) (branch_own op) t)
-    ∙ picked (asks (question_of op)) (branching i s) (resulting i s (answer_in i s)) (sure (is_branch op) (asks (question_of op)) (branch_question op) t)
+    ∙ picked (asks (question_of op)) (branching i s) (resulting i s (answer_in i s)) (implied (is_branch op) (asks (question_of op)) (branch_question op) t)
 
 result_access : (op : Op) (i : Inst) (s : State) → has_result op ≡ true → access_by_name op i s ≡ NoAccess
 result_access op i s t = plain_access op i s (other (has_result op) (is_own op) (result_own op) t)
@@ -414,15 +410,11 @@ own_names : (op : Op) → (is_own op && not (is_linking op || is_barrier_name op
 own_names Lda = refl
 own_names _ = refl
 
-neither : (a b : Bool) → a ≡ false → b ≡ false → (a || b) ≡ false
-neither true b e f = absurd cc
-neither false b e f = f
-
 -- a name that is no barrier does nothing of its own, but for those four
 pub plain_own : (op : Op) → is_barrier_name op ≡ false → (op ≡ Lda → ⊥) → (op ≡ Bx → ⊥) → (op ≡ Balx → ⊥)
     → (op ≡ Bal → ⊥) → is_own op ≡ false
 plain_own op b l x y z =
-    let none = neither (is_linking op) (is_barrier_name op) (unlinked op l x y z) b in
+    let none = or_from (is_linking op) (is_barrier_name op) (unlinked op l x y z) b in
     not_first (is_own op) (is_linking op || is_barrier_name op) (own_names op) none
 
 -- none of the barriers that do something of their own
@@ -519,7 +511,7 @@ unbranched : (op : Op) → (asks (question_of op) && not (is_branch op || is_own
 unbranched Lda = refl
 unbranched _ = refl
 
-no_branch : (a b c : Bool) → (a && not (b || c)) ≡ false → b ≡ false → c ≡ false → a ≡ false
+pub no_branch : (a b c : Bool) → (a && not (b || c)) ≡ false → b ≡ false → c ≡ false → a ≡ false
 no_branch true false false e f g = absurd cc
 no_branch true true c e f g = absurd cc
 no_branch true false true e f g = absurd cc

@@ -1,7 +1,9 @@
 -- Whether a source is marked, by the set of the resources that an instruction reads.
 use Rattle.std.proofs.Common.{◌≡◌, ℕ, ◌+◌, ◌^◌, ◌<◌, ◌≤◌, Bool, true, false, nat_lt, ◌++◌, refl, sym, ap, ◌∙◌, arith, inl, inr, ◌-◌}
-use Rattle.std.specs.Prelude.{nat_le, ◌==◌, ◌&&◌, ◌||◌, not, bit_and, ◌⊎◌, Option, None, is_some}
-use Rattle.std.proofs.lemmas.Bool.{eqb-true}
+use Rattle.i9_course.proofs.Timed.{first_of}
+use Rattle.i9_plan.proofs.Outcomes.{no_branch}
+use Rattle.std.specs.Prelude.{nat_le, ◌==◌, ◌&&◌, ◌||◌, not, bit_and, Option, None, is_some}
+use Rattle.std.proofs.lemmas.Bool.{eqb-true, or_cases, or_parts, and_from}
 use Rattle.std.specs.List.{list_any}
 use Rattle.std.specs.Int.{from_bool}
 use Rattle.std.proofs.lemmas.Bool.Decides.{nat_tests}
@@ -25,7 +27,7 @@ use Rattle.i9_model.specs.State.{State}
 use Rattle.i9_model.specs.Stale.{registers_of, sources, is_marked}
 use Rattle.i9_isa.specs.declared.size.Transfer.{Transfer}
 use Rattle.i9_plan.proofs.MarkUses.{is_listed}
-use Rattle.i9_plan.proofs.MarkBits.{zero_bits, some_bit, both_bits, bit_above, none_among, some_among, both}
+use Rattle.i9_plan.proofs.MarkBits.{zero_bits, some_bit, both_bits, bit_above, none_among, some_among}
 
 -- ---- the registers of an operand
 
@@ -40,7 +42,7 @@ range_in : (r n k : ℕ) → k < n → is_in_group r n (r + k) ≡ true
 range_in r n k h =
     let from : nat_le r (r + k) ≡ true = grind (arith, nat_tests) in
     let to : nat_lt (r + k) (r + n) ≡ true = grind (arith, nat_tests, h) in
-    both (nat_le r (r + k)) (nat_lt (r + k) (r + n)) from to
+    and_from (nat_le r (r + k)) (nat_lt (r + k) (r + n)) from to
 
 none_of : (marks : ℕ → Bool) (o : Operand) (n k : ℕ) → list_any marks (registers_of o n) ≡ false → is_in_operand o n k ≡ true → marks k ≡ false
 none_of marks (Reg r) n k e t =
@@ -75,10 +77,6 @@ by_part x false false false true e f p q t h j k l = absurd cc
 by_part x false false false false true f p q t h j k l = absurd cc
 by_part x false false false false false f p q t h j k l = l t
 
-part_a : (a b c d e f : Bool) → a ≡ true → (a || b || c || d || e || f) ≡ true
-part_a true b c d e f t = refl
-part_a false b c d e f t = absurd cc
-
 part_b : (a b c d e f : Bool) → b ≡ true → (a || b || c || d || e || f) ≡ true
 part_b true b c d e f t = refl
 part_b false true c d e f t = refl
@@ -89,14 +87,6 @@ part_c true b c d e f t = refl
 part_c false true c d e f t = refl
 part_c false false true d e f t = refl
 part_c false false false d e f t = absurd cc
-
-or_either : (a b : Bool) → (a || b) ≡ true → (a ≡ true) ⊎ (b ≡ true)
-or_either true b t = inl refl
-or_either false b t = inr t
-
-or_neither : (a b : Bool) → (a || b) ≡ false → (a ≡ false) × (b ≡ false)
-or_neither false b t = (refl, t)
-or_neither true b t = absurd cc
 
 -- no mark is one of the condition code
 code_unmarked : (w k : ℕ) (reads : Bool) → w < 2 ^ 32 → (reads && (k == CONDITION_CODE)) ≡ true → bit w k ≡ false
@@ -128,26 +118,26 @@ sources_marked i s w bits small marks reads plain = by (is_marked s (sources i))
         one false = refl
 
     set : (k : ℕ) → s.marks k ≡ true → is_read i k ≡ true → not (bit_and w bits == 0) ≡ true
-    set k marked read = ap not (some_bit (bit_and w bits) k (both_bits w bits k ∙ both (bit w k) (bit bits k) (marks k ∙ marked) (read_bit k ∙ read)))
+    set k marked read = ap not (some_bit (bit_and w bits) k (both_bits w bits k ∙ and_from (bit w k) (bit bits k) (marks k ∙ marked) (read_bit k ∙ read)))
 
     found : (o : Operand) (n : ℕ) → list_any s.marks (registers_of o n) ≡ true → ((k : ℕ) → is_in_operand o n k ≡ true → is_read i k ≡ true) → not (bit_and w bits == 0) ≡ true
     found o n e read = let one = some_of s.marks o n e in set one.place one.marked (read one.place one.inside)
 
     by : (b : Bool) → is_marked s (sources i) ≡ b → not (bit_and w bits == 0) ≡ b
     by true e =
-        let inside_a = λ (k : ℕ) (t : is_in_operand i.a (words_read (row_of i.op).a) k ≡ true). part_a (is_in_operand i.a (words_read (row_of i.op).a) k) _ _ _ _ _ t in
+        let inside_a = λ (k : ℕ) (t : is_in_operand i.a (words_read (row_of i.op).a) k ≡ true). first_of (is_in_operand i.a (words_read (row_of i.op).a) k) _ _ _ _ _ t in
         let inside_b = λ (k : ℕ) (t : is_in_operand i.b (words_read (row_of i.op).b) k ≡ true). part_b (is_in_operand i.a (words_read (row_of i.op).a) k) (is_in_operand i.b (words_read (row_of i.op).b) k) _ _ _ _ t in
         let inside_c = λ (k : ℕ) (t : is_in_operand i.c (words_read (row_of i.op).c) k ≡ true). part_c (is_in_operand i.a (words_read (row_of i.op).a) k) (is_in_operand i.b (words_read (row_of i.op).b) k) (is_in_operand i.c (words_read (row_of i.op).c) k) _ _ _ t in
-        elim (or_either _ _ (sym parts ∙ e)) [
+        elim (or_cases _ _ (sym parts ∙ e)) [
           | inl a ↦ found i.a (words_read (row_of i.op).a) a inside_a
-          | inr rest ↦ elim (or_either _ _ rest) [
+          | inr rest ↦ elim (or_cases _ _ rest) [
             | inl b ↦ found i.b (words_read (row_of i.op).b) b inside_b
             | inr c ↦ found i.c (words_read (row_of i.op).c) c inside_c
           ]
         ]
     by false e =
-        let split = or_neither _ _ (sym parts ∙ e) in
-        let later = or_neither _ _ split.1 in
+        let split = or_parts _ _ (sym parts ∙ e) in
+        let later = or_parts _ _ split.1 in
         ap (λ (x : ℕ). not (x == 0)) (zero_bits (bit_and w bits) (λ k. both_bits w bits k ∙ unmarked k split.0 later.0 later.1))
       where
         unmarked : (k : ℕ) → list_any s.marks (registers_of i.a (words_read (row_of i.op).a)) ≡ false → list_any s.marks (registers_of i.b (words_read (row_of i.op).b)) ≡ false
@@ -183,17 +173,7 @@ listed_format : (op : Op) → (is_mem (row_of op).format && not (is_listed op ||
 listed_format Lda = refl
 listed_format _ = refl
 
-second_none : (a b : Bool) → (a && b) ≡ false → a ≡ true → b ≡ false
-second_none true b e t = e
-second_none false b e t = absurd cc
-
-first_none : (a b c : Bool) → (a && not (b || c)) ≡ false → b ≡ false → c ≡ false → a ≡ false
-first_none true false false e f g = absurd cc
-first_none true true c e f g = absurd cc
-first_none true false true e f g = absurd cc
-first_none false b c e f g = refl
-
 -- nor has a name that is not listed, and neither loads nor stores
 pub other_plain : (i : Inst) → IsValid i → transfer_of i.op ≡ None → is_listed i.op ≡ false → i.ea ≡ no_address
 other_plain i valid still other =
-    plain_address i valid (first_none (is_mem (row_of i.op).format) (is_listed i.op) (is_some (transfer_of i.op)) (listed_format i.op) other (ap (λ (o : Option Transfer). is_some o) still))
+    plain_address i valid (no_branch (is_mem (row_of i.op).format) (is_listed i.op) (is_some (transfer_of i.op)) (listed_format i.op) other (ap (λ (o : Option Transfer). is_some o) still))

@@ -1,13 +1,10 @@
 -- Words of loads and bytes of stores.
-use Rattle.std.proofs.Common.{◌≡◌, ℕ, zero, suc, ◌+◌, ◌*◌, ◌^◌, ◌<◌, ◌≤◌, List, [], ◌∷◌, ◌++◌, length, get_or, take, refl, sym, ap, ◌∙◌, add-one, append_assoc, append-nil, arith}
-use Rattle.std.proofs.lemmas.List.{take_all, length-take}
+use Rattle.std.proofs.Common.{◌≡◌, ℕ, ◌+◌, ◌^◌, ◌<◌, ◌≤◌, List, [], ◌∷◌, ◌++◌, length, get_or, take, refl, sym, ap, ◌∙◌, add-one, append_assoc, arith}
+use Rattle.std.proofs.lemmas.List.{take_all}
 use Rattle.std.proofs.Math.Seq.{take-suc}
-use Rattle.i9_isa.specs.declared.inst.Operand.{Operand}
+use Rattle.i9_model.proofs.WordBytes.{source_take}
 use Rattle.i9_model.specs.Writes.{wrapped}
-use Rattle.i9_model.specs.Memory.{Memory, word_in, words_in, word_bytes}
-use Rattle.i9_model.specs.State.{State}
-use Rattle.i9_model.specs.Operands.{source_words}
-use Rattle.i9_model.specs.Step.{bytes_of_words}
+use Rattle.i9_model.specs.Memory.{Memory, word_in, words_in}
 
 -- one more byte
 pub append_more : (xs bs : List ℕ) (k : ℕ) → k < length bs → (xs ++ take k bs) ++ get_or bs k 0 ∷ [] ≡ xs ++ take (k + 1) bs
@@ -20,38 +17,7 @@ append_all xs bs k h = ap (λ (ys : List ℕ). xs ++ ys) (take_all k bs h)
 
 pub ruleset append_rules = (append_more, append_all)
 
--- one more word
-words_then : (m : Memory) (a : ℕ) (ws : List ℕ) (w : ℕ) → a < 2 ^ 32 → bytes_of_words m a (ws ++ w ∷ []) ≡ bytes_of_words m a ws ++ word_bytes m (wrapped (a + 4 * length ws)) w
-unfolding bytes_of_words
-words_then m a [] w h = let here : a ≡ wrapped (a + 0) = omega arith in append-nil (word_bytes m a w) ∙ ap (λ (x : ℕ). word_bytes m x w) here
-words_then m a (v ∷ ws) w h =
-    let next : wrapped (wrapped (a + 4) + 4 * length ws) ≡ wrapped (a + 4 * suc (length ws)) = omega arith in
-    ap (λ (bs : List ℕ). word_bytes m a v ++ bs) (words_then m (wrapped (a + 4)) ws w (omega arith))
-    ∙ sym (append_assoc (word_bytes m a v) (bytes_of_words m (wrapped (a + 4)) ws) (word_bytes m (wrapped (wrapped (a + 4) + 4 * length ws)) w))
-    ∙ ap (λ (x : ℕ). (word_bytes m a v ++ bytes_of_words m (wrapped (a + 4)) ws) ++ word_bytes m x w) next
-
-pub listed_more : (m : Memory) (a : ℕ) (ws : List ℕ) (k : ℕ) → a < 2 ^ 32 → k < length ws → bytes_of_words m a (take (k + 1) ws) ≡ bytes_of_words m a (take k ws) ++ word_bytes m (wrapped (a + 4 * k)) (get_or ws k 0)
-listed_more m a ws k h few =
-    let long : length (take k ws) ≡ k = omega (arith, length-take k ws) in
-    ap (bytes_of_words m a) (ap (λ (j : ℕ). take j ws) (add-one k) ∙ take-suc ws k 0 few)
-    ∙ words_then m a (take k ws) (get_or ws k 0) h
-    ∙ ap (λ (n : ℕ). bytes_of_words m a (take k ws) ++ word_bytes m (wrapped (a + 4 * n)) (get_or ws k 0)) long
-
-pub listed_none : (m : Memory) (a : ℕ) (ws : List ℕ) → bytes_of_words m a (take 0 ws) ≡ []
-unfolding bytes_of_words
-listed_none m a ws = refl
-
-pub ruleset word_rules = (listed_more, listed_none)
-
 -- ---- the first words of a source of four
-
-pub source_take : (s : State) (o : Operand) (n : ℕ) → n ≤ 4 → take n (source_words s o 4) ≡ source_words s o n
-source_take s o zero h = refl
-source_take s o (suc zero) h = refl
-source_take s o (suc (suc zero)) h = refl
-source_take s o (suc (suc (suc zero))) h = refl
-source_take s o (suc (suc (suc (suc zero)))) h = refl
-source_take s o (suc (suc (suc (suc (suc n))))) h = absurd (omega arith)
 
 pub take_all_words : (ws : List ℕ) (n : ℕ) → length ws ≤ n → take n ws ≡ ws
 take_all_words ws n h = take_all n ws h

@@ -91,7 +91,7 @@ pub(crate) fn plan_return(p: &Processor) -> Result<Effect, u32>
 }
 
 /// A handler is entered: the record of its entry is written below the new frame.
-#[tactic(auto, using(crate::proofs::WordBytes::word_rules, crate::proofs::MarkLists::clean_rules))]
+#[tactic(auto, using(i9_model::proofs::WordBytes::word_rules, crate::proofs::MarkLists::clean_rules))]
 fn recording(p: &Processor, e: &Entry) -> Effect
     requires free { save_hazard (state_of p.now).frames e.now.push.save ≡ None }
     requires place { e.now.push.save % 16 ≡ 0 }

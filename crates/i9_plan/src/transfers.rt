@@ -138,7 +138,7 @@ fn loaded(
 }
 
 /// The bytes of the first words of a list, each in the order of its own region.
-#[tactic(auto, using(crate::proofs::WordBytes::word_rules))]
+#[tactic(auto, using(i9_model::proofs::WordBytes::word_rules))]
 pub(crate) fn bytes_of_words(
     p: &Processor,
     a: u32,

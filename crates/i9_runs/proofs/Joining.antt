@@ -1,8 +1,8 @@
 -- Pairs that rise, joined into runs.
 use Rattle.std.specs.Prelude.{⊤}
-use Rattle.std.proofs.Common.{◌≡◌, ℕ, ◌+◌, ◌%◌, ◌^◌, ◌<◌, ◌≤◌, true, false, cond, eqb, List, [], ◌∷◌, ◌++◌, length, get_or, take, map, refl, sym, ap, subst, ◌∙◌, arith, inl, inr, append_assoc, length-append}
+use Rattle.std.proofs.Common.{◌≡◌, ℕ, ◌+◌, ◌%◌, ◌^◌, ◌<◌, ◌≤◌, true, false, eqb, List, [], ◌∷◌, ◌++◌, length, get_or, take, map, refl, sym, ap, subst, ◌∙◌, arith, inl, inr, append_assoc, length-append}
 use Rattle.std.specs.List.{All, AllByRecursion}
-use Rattle.std.proofs.lemmas.Bool.{cases_Bool, eqb-true}
+use Rattle.std.proofs.lemmas.Bool.{cases_Bool, eqb-true, ne_eqb}
 use Rattle.std.proofs.lemmas.List.{append-nil, take_more, map_push}
 use Rattle.std.proofs.lemmas.Grind.{flat_map-append}
 use Rattle.i9_model.specs.Image.{Part, address_count, upwards, pairs_of_part, pairs_of}
@@ -11,8 +11,8 @@ use Rattle.i9_hex.specs.declared.segments.Segment.{Segment}
 use Rattle.i9_hex.specs.Put.{next_address, ends_before, with_byte, with_pair}
 use Rattle.i9_hex.proofs.PartLemmas.{pairs_of-with_pair}
 use Rattle.i9_runs.specs.Runs.{IsLow, IsRun, SaySameBytes, AreApart, AreRunsOf}
-use Rattle.i9_runs.proofs.Rising.{Rises, rises-from, rises_once, ArePlaced, are_placed, eqb-apart, kept, kept_rises, kept_placed, kept_says, climbs_sorted}
-use Rattle.i9_runs.specs.Pairs.{IsPlaced, AreInOrder, begins_at}
+use Rattle.i9_runs.proofs.Rising.{Rises, rises-from, rises_once, ArePlaced, are_placed, kept, kept_rises, kept_placed, kept_says, climbs_sorted}
+use Rattle.i9_runs.specs.Pairs.{IsPlaced, AreInOrder}
 
 -- the runs behind these, with pairs that are put one after the other
 abbrev pub joined : List Part → List (ℕ × ℕ) → List Part
@@ -228,7 +228,7 @@ joined_pairs front (run ∷ runs) each apart begins =
         let inside = more.0.inside in
         let some = more.0.some in
         let lt = h.0 in
-        ends_behind front run later.address ∙ eqb-apart (next_address run) later.address (λ e. omega arith)
+        ends_behind front run later.address ∙ ne_eqb (next_address run) later.address (λ e. omega arith)
 
 -- there is one list of runs
 pub runs_once : (pairs : List (ℕ × ℕ)) (a b : List Part) → AreRunsOf pairs a → AreRunsOf pairs b → a ≡ b

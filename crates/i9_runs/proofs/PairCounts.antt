@@ -4,7 +4,7 @@ use Rattle.std.proofs.lemmas.List.{append-nil}
 use Rattle.std.proofs.lemmas.Grind.{flat_map-append}
 use Rattle.i9_model.specs.Image.{Part, wrapped, upwards, pairs_of_part, pairs_of}
 use Rattle.i9_hex.specs.Put.{with_part}
-use Rattle.i9_hex.proofs.PartLemmas.{length-pairs_at}
+use Rattle.i9_model.proofs.Reading.{length-pairs_at}
 use Rattle.i9_runs.specs.Runs.{bytes_in}
 
 -- as many as bytes

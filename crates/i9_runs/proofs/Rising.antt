@@ -4,16 +4,13 @@ use Rattle.std.proofs.Common.{◌≡◌, ℕ, suc, ◌+◌, ◌<◌, ◌≤◌, 
 use Rattle.std.specs.List.{filter, All, AllByRecursion}
 use Rattle.std.specs.List.Sorted.{IsNonDecreasingBy, IsStableByKey, ties}
 use Rattle.std.specs.Ordering.{nat_cmp, is_lt}
-use Rattle.std.proofs.lemmas.Bool.{cases_Bool, cases_lt, eqb-true}
+use Rattle.std.proofs.lemmas.Bool.{cases_Bool, cases_lt, eqb-true, ne_eqb}
+use Rattle.i9_model.proofs.Upwards.{or_none as or_nothing}
 use Rattle.i9_model.specs.Writes.{or_earlier, last_put}
 use Rattle.i9_runs.specs.Runs.{SaySameBytes}
 use Rattle.i9_runs.specs.Pairs.{IsPlaced, begins_at}
 
 -- ---- what is said of one address
-
-or_nothing : (o : Option ℕ) → or_earlier o None ≡ o
-or_nothing None = refl
-or_nothing (Some v) = refl
 
 -- of two pairs with one address the earlier says nothing
 or_twice : (o : Option ℕ) (v : ℕ) (e : Option ℕ) → or_earlier (or_earlier o (Some v)) e ≡ or_earlier o (Some v)
@@ -27,14 +24,8 @@ said_by p a = cond (eqb a p.0) (Some p.1) None
 says_own : (p : ℕ × ℕ) (a : ℕ) → a ≡ p.0 → said_by p a ≡ Some p.1
 says_own p a e = let t : eqb a p.0 ≡ true = grind arith in rw t refl
 
-pub eqb-apart : (a b : ℕ) → (a ≡ b → ⊥) → eqb a b ≡ false
-eqb-apart a b other = elim (cases_Bool (eqb a b)) [
-  | inl same ↦ absurd (other (eqb-true a b same))
-  | inr apart ↦ apart
-]
-
 says_other : (p : ℕ × ℕ) (a : ℕ) → (a ≡ p.0 → ⊥) → said_by p a ≡ None
-says_other p a other = rw (eqb-apart a p.0 other) refl
+says_other p a other = rw (ne_eqb a p.0 other) refl
 
 -- ---- pairs whose addresses rise, from a number on
 

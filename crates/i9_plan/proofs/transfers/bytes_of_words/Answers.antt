@@ -4,7 +4,7 @@ use Rattle.i9_model.specs.Memory.{word_bytes}
 use Rattle.i9_model.specs.Step.{bytes_of_words}
 use Rattle.i9_model.proofs.Lengths.{four_bytes}
 use Rattle.i9_processor.specs.State.{state_of}
-use Rattle.i9_plan.proofs.WordBytes.{listed_more}
+use Rattle.i9_model.proofs.WordBytes.{listed_more}
 use Rattle.i9_plan.proofs.transfers.bytes_of_words.Goals as goal
 
 pub loop-k-init : goal.loop-k-init
