@@ -21,14 +21,14 @@ use Rattle.i9_machine.specs.declared.line.Turn.{Turn}
 use Rattle.i9_machine.specs.declared.line.Turn.TheVariants as turns
 use Rattle.i9_machine.specs.declared.machine.Machine.{Machine}
 use Rattle.i9_machine.specs.declared.step.Coming.{Coming}
-use Rattle.i9_machine.specs.declared.step.Coming.TheVariants.{Waiting, Overtaking, Running, Faulting}
+use Rattle.i9_machine.specs.declared.step.Coming.TheVariants.{Waiting, Overtaking}
 use Rattle.i9_machine.specs.Coming.{ArrivesAt, Arrives, HasArrived, IsAhead, IsNextInstruction, kind_of, overtaken_by}
 use Rattle.i9_machine.specs.Contents.{Situation, situation, outlook, Contents, contents_of, IsLike, moved_to, IsMovedTo, IsPassedTo}
 use Rattle.i9_machine.specs.Issuing.{most_turns, IsEndTurn}
-use Rattle.i9_machine.specs.Opening.{IsFreeToIssue, NextWaits, HasKept, HasNeed}
+use Rattle.i9_machine.specs.Opening.{NextWaits, HasKept, HasNeed}
 use Rattle.i9_machine.specs.Overtaking.{late_due, HasPace, IssuesAhead}
 use Rattle.i9_machine.specs.StandsFor.{Stand, StandsFor, Follows, IsUnderWay, HasCome}
-use Rattle.i9_machine.specs.Step.{event_for, next_where, next_for, left_from, steps_left, LeavesFewer, IsStepIn, IsStep, IsPlannedIn, IsPlanned}
+use Rattle.i9_machine.specs.Step.{event_for, next_for, left_from, steps_left, LeavesFewer, IsStepIn, IsStep, IsPlannedIn, IsPlanned}
 use Rattle.i9_machine.specs.declared.step.Step.{Step}
 use Rattle.i9_machine.proofs.Issuing.{waits_for_none}
 use Rattle.i9_machine.proofs.Overtaking.{calm_precise, ahead_issues}

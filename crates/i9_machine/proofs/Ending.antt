@@ -8,7 +8,7 @@ use Rattle.i9_model.specs.declared.faults.FaultStop.TheVariants as stops
 use Rattle.i9_model.specs.declared.run.Due.{Due}
 use Rattle.i9_model.specs.declared.run.Due.TheVariants as dues
 use Rattle.i9_model.specs.declared.run.End.{End}
-use Rattle.i9_model.specs.declared.run.End.TheVariants.{Exit, Limit, Hazard, Dead, Imprecise}
+use Rattle.i9_model.specs.declared.run.End.TheVariants.{Limit, Imprecise}
 use Rattle.i9_model.specs.declared.run.Point.TheVariants as points
 use Rattle.i9_model.specs.declared.view.View.{View}
 use Rattle.i9_model.specs.Memory.{console_byte}

@@ -51,8 +51,13 @@ turns_in_run g h (turns.Issued t) before after d = absurd d
 turns_in_run g h (turns.End e) before after d =
     record { given = g; items = steps_on d.done h; end = Some d.finish; stands = d.stands; follows = tt }
 turns_in_run g h turns.Memory before after d =
-    record { given = g; items = steps_on d.since.done h; end = None; stands = d.since.stands;
-    follows = d.since.follows }
+    record {
+      given = g;
+      items = steps_on d.since.done h;
+      end = None;
+      stands = d.since.stands;
+      follows = d.since.follows;
+    }
 
 -- whether an end was answered before or none
 pub behind_in_run : (before m : Machine) (answer : Turn) (was plan : Plan) (old new : List Line)

@@ -8,7 +8,7 @@ use Rattle.i9_model.specs.HeldFrames.{Cache, sets_in, cache_after}
 use Rattle.i9_model.specs.Late.{turns, resource, resources, landed, issued_cell, wait_of, settled_memory, IsClear}
 use Rattle.i9_model.specs.Left.{left_in}
 use Rattle.i9_model.specs.Memory.{stored}
-use Rattle.i9_model.specs.Run.{Given, Kind, Instruction, Faulted, Entered, Interrupted, Reached, Record, Does, action_done, due_by, reached_by, due_after, reached_after, state_after, record_of}
+use Rattle.i9_model.specs.Run.{Given, Kind, Faulted, Record, Does, action_done, due_by, reached_by, due_after, reached_after, state_after, record_of}
 use Rattle.i9_model.specs.State.{State, boot}
 use Rattle.i9_model.specs.Step.{Action, Move, Stays}
 use Rattle.i9_model.specs.Turns.{Pending, IsAllDone, with_need, waiting_until, placed_record}

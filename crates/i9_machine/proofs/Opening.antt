@@ -17,7 +17,7 @@ use Rattle.i9_model.specs.Before.{Received, choice_in, interrupt_in, received_in
 use Rattle.i9_model.specs.HeldFrames.{Cache}
 use Rattle.i9_model.specs.Needs.{is_request_name, is_barrier_name}
 use Rattle.i9_model.specs.State.{State}
-use Rattle.i9_model.specs.Run.{Kind, Instruction, Faulted, Entered, Interrupted, Reached, Next, entry_in, next_by_entry, next_by_event, next_by_interrupt, next_by_choice, next_in, next_by_received, point_by_name}
+use Rattle.i9_model.specs.Run.{Kind, Instruction, Faulted, Next, entry_in, next_by_entry, next_by_event, next_by_interrupt, next_by_choice, next_in, next_by_received, point_by_name}
 use Rattle.i9_schedule.specs.Plan.{Plan}
 use Rattle.i9_course.specs.NeedOf.{need_of, need_ahead}
 use Rattle.i9_course.proofs.Barriers.{kind_barrier}
@@ -116,7 +116,7 @@ pub no_barrier_named : (i : Inst) (n : ℕ) (c : Cache) (s : State) → (need_of
 no_barrier_named i n c s none =
     elim (cases_Bool (is_barrier_name i.op)) [
       | inl barrier ↦ absurd
-      (both_ways (need_of n c s (Instruction i)).barrier none (kind_barrier n c s (Instruction i) barrier))
+          (both_ways (need_of n c s (Instruction i)).barrier none (kind_barrier n c s (Instruction i) barrier))
       | inr other ↦ other
     ]
 

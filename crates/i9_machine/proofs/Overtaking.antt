@@ -16,7 +16,7 @@ use Rattle.i9_model.specs.Traced.{traced_action}
 use Rattle.i9_model.specs.Turns.{last_issue, issue_turn, end_turn, waiting_until}
 use Rattle.i9_model.specs.Turns as board
 use Rattle.i9_model.specs.Late.{turns}
-use Rattle.i9_model.specs.Run.{Given, Kind, Instruction, Faulted, Entered, Interrupted, Reached, Record, fault_at, due_in, due_by, due_after, next_by_standing, state_after, Next, next_in}
+use Rattle.i9_model.specs.Run.{Given, Kind, Instruction, Faulted, Record, fault_at, due_in, due_by, due_after, next_by_standing, state_after, Next, next_in}
 use Rattle.i9_agree.proofs.AlikeSteps.{IsBlind, agree-alike, next_alike}
 use Rattle.i9_agree.proofs.AgreeStands.{stands-same}
 use Rattle.i9_agree.proofs.BlindRuns.{blind-after}

@@ -16,7 +16,7 @@ use Rattle.i9_processor.specs.Effect.{HasRoomFor, KeepsRoom, has_writes, is_rest
 use Rattle.i9_machine.specs.declared.line.Turn.{Turn}
 use Rattle.i9_machine.specs.declared.line.Turn.TheVariants as turns
 use Rattle.i9_machine.specs.declared.step.Coming.{Coming}
-use Rattle.i9_machine.specs.declared.step.Coming.TheVariants.{Waiting, Overtaking, Running, Faulting}
+use Rattle.i9_machine.specs.declared.step.Coming.TheVariants.{Overtaking}
 use Rattle.i9_machine.specs.Coming.{Overtakes, Came, overtaken_by}
 use Rattle.i9_machine.specs.Contents.{Contents}
 use Rattle.i9_machine.specs.Line.{shown_of}

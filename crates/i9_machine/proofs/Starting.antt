@@ -1,7 +1,7 @@
 -- A run begins far below the largest turn.
 use Rattle.std.proofs.Common.{◌≡◌, ℕ, ◌+◌, ◌*◌, ◌^◌, ◌<◌, ◌≤◌, List, [], ◌∷◌, length, None, refl, sym, subst, arith}
 use Rattle.i9_model.specs.declared.event.Event.{Event}
-use Rattle.i9_model.specs.declared.event.Event.TheVariants.{Pin, Low, High, Nmi, Dma, Feed, Show}
+use Rattle.i9_model.specs.declared.event.Event.TheVariants.{Nmi}
 use Rattle.i9_model.specs.declared.event.Timed.{Timed}
 use Rattle.i9_model.specs.declared.layout.TheConstants.{MAX_LENGTH}
 use Rattle.i9_model.specs.Left.{event_work, plan_work, asked, left_in}

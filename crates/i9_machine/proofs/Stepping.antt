@@ -20,7 +20,7 @@ use Rattle.i9_model.specs.declared.run.Point.{Point}
 use Rattle.i9_model.specs.declared.run.End.TheVariants.{Limit}
 use Rattle.i9_model.specs.Memory.{console_byte}
 use Rattle.i9_model.specs.Step.{Action, acted, counted}
-use Rattle.i9_model.specs.Run.{Kind, Instruction, Faulted, Entered, Interrupted, Reached, Record, Next, Does, Ends, record_of, counts_of, due_by, reached_by, next_by_event, next_by_choice, next_in, finish}
+use Rattle.i9_model.specs.Run.{Kind, Instruction, Reached, Record, Next, Does, Ends, record_of, counts_of, due_by, reached_by, next_by_event, next_by_choice, next_in, finish}
 use Rattle.i9_model.specs.PrintedText.{out_lines, point_lines, bytes_lines, event_lines, record_lines}
 use Rattle.i9_processor.specs.declared.processor.Processor.{Processor}
 use Rattle.i9_model.specs.declared.run.Due.{Due}

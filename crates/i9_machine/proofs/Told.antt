@@ -1,7 +1,7 @@
 -- What is told as an instruction is one.
 use Rattle.std.proofs.Common.{◌≡◌, refl}
 use Rattle.i9_model.specs.State.{State}
-use Rattle.i9_model.specs.Run.{Kind, Instruction, Faulted, Entered, Interrupted, Reached, counts_of}
+use Rattle.i9_model.specs.Run.{Kind, Instruction, Faulted, counts_of}
 use Rattle.i9_machine.specs.declared.line.Issued.{Issued}
 use Rattle.i9_machine.specs.declared.line.Turn.TheVariants as answers
 use Rattle.i9_machine.specs.Step.{TellsRecord}

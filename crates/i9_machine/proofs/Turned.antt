@@ -91,7 +91,7 @@ module _ (g : Given) (h : List Item) (before mid : Progress) (held : SinceOnly g
           (record_lines d.done) since.lines d.lines;
     },
     subst (λ (n : Next). AddsRecordsOnly before.machine.processor after.machine.processor (with_next n since.done))
-    d.is_next pages,
+        d.is_next pages,
   )
 
   -- the turn moves

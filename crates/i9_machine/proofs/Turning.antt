@@ -87,8 +87,14 @@ moved_stands g h t k wait stands later within bound =
           (moves_to t k.at.floor k later) refl;
       shaded = stands.shaded;
       early = bound;
-      paced = record { bound = p.bound; far = p.far; done = p.done; now = omega
-          (arith, within, by_end, ended); fence = p.fence };
+      paced = record {
+        bound = p.bound;
+        far = p.far;
+        done = p.done;
+        now = omega
+            (arith, within, by_end, ended);
+        fence = p.fence;
+      };
       due = stands.due;
       length = stands.length;
       sets = stands.sets;

@@ -85,10 +85,6 @@ returns-else-self-turn-clause-lacking c = λ g h stands follows is room.
     costs.lacking is
     (next_room g h (contents_of m) c.args.plan.now m.processor (vec_capacity out - vec_len out) stands follows room)
 
-pub returns-else-self-turn-clause-fewer : goal.returns-else-self-turn-clause-fewer
-returns-else-self-turn-clause-fewer c =
-    (rw c.look-turn.ensures.like at c.come.ensures.costs).fewer
-
 pub returns-else-self-turn-clause-still_lacking : goal.returns-else-self-turn-clause-still_lacking
 returns-else-self-turn-clause-still_lacking c = λ g h stands follows is room.
     let new = c.come.new in

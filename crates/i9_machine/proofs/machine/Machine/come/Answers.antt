@@ -1,11 +1,9 @@
-use Rattle.std.proofs.Common.{◌≡◌, ap, arith}
+use Rattle.std.proofs.Common.{◌≡◌, arith}
 use Rattle.i9_model.specs.Late.{turns}
 use Rattle.i9_model.specs.Turns.{end_turn}
 use Rattle.i9_course.specs.Course.{course}
-use Rattle.i9_machine.specs.Coming.{overtaken_by}
 use Rattle.i9_machine.specs.Contents.{contents_of}
 use Rattle.i9_machine.specs.Step.{stage}
-use Rattle.i9_machine.proofs.Arriving.{arrived_come}
 use Rattle.i9_machine.proofs.Ending.{finish_overtakes, finish_costs, late_fits}
 use Rattle.i9_machine.proofs.Turning.{is_timely, all_landed}
 use Rattle.i9_machine.proofs.machine.Machine.come.Goals as goal
@@ -25,9 +23,6 @@ step_drained-requires-clause-timely c =
     is_timely a.given a.items (contents_of c.args.self.now) c.args.plan.now a.stands a.follows
     (omega (arith, is, c.requires.turn))
 
-pub step_drained-requires-clause-read : goal.step_drained-requires-clause-read
-step_drained-requires-clause-read c = (rw c.in-Waiting.is at c.requires.ready).1
-
 pub returns-in-Overtaking-clause-came : goal.returns-in-Overtaking-clause-came
 returns-in-Overtaking-clause-came c =
     let late = rw c.in-Overtaking.is at c.requires.ready in
@@ -41,44 +36,3 @@ returns-in-Overtaking-clause-costs c =
     let before = stage c.args.self.now c.args.plan.now c.args.out.now in
     finish_costs before _ c.answer_end.result _
     (late_fits before _ late) c.answer_end.ensures.processor c.answer_end.ensures.finishes
-
-pub step_drained-requires-clause-come : goal.step_drained-requires-clause-come
-step_drained-requires-clause-come c =
-    arrived_come (contents_of c.args.self.now) c.args.plan.now c.args.coming
-    (ap overtaken_by c.in-Waiting.is) c.requires.arrived
-
-pub returns-in-Waiting-clause-came : goal.returns-in-Waiting-clause-came
-returns-in-Waiting-clause-came c = rw c.in-Waiting.is c.step_drained.ensures.steps
-
-pub step_running-requires-clause-come : goal.step_running-requires-clause-come
-step_running-requires-clause-come c =
-    arrived_come (contents_of c.args.self.now) c.args.plan.now c.args.coming
-    (ap overtaken_by c.in-Running.is) c.requires.arrived
-
-pub returns-in-Running-clause-came : goal.returns-in-Running-clause-came
-returns-in-Running-clause-came c = rw c.in-Running.is c.step_running.ensures.steps
-
-pub step_running-requires-clause-runs : goal.step_running-requires-clause-runs
-step_running-requires-clause-runs c = rw c.in-Running.is at c.requires.ready
-
-pub step_storing-requires-clause-come : goal.step_storing-requires-clause-come
-step_storing-requires-clause-come c =
-    arrived_come (contents_of c.args.self.now) c.args.plan.now c.args.coming
-    (ap overtaken_by c.in-Running-2.is) c.requires.arrived
-
-pub returns-in-Running-2-clause-came : goal.returns-in-Running-2-clause-came
-returns-in-Running-2-clause-came c = rw c.in-Running-2.is c.step_storing.ensures.steps
-
-pub step_storing-requires-clause-runs : goal.step_storing-requires-clause-runs
-step_storing-requires-clause-runs c = rw c.in-Running-2.is at c.requires.ready
-
-pub step_faulting-requires-clause-come : goal.step_faulting-requires-clause-come
-step_faulting-requires-clause-come c =
-    arrived_come (contents_of c.args.self.now) c.args.plan.now c.args.coming
-    (ap overtaken_by c.in-Faulting.is) c.requires.arrived
-
-pub returns-in-Faulting-clause-came : goal.returns-in-Faulting-clause-came
-returns-in-Faulting-clause-came c = rw c.in-Faulting.is c.step_faulting.ensures.steps
-
-pub step_faulting-requires-clause-ahead : goal.step_faulting-requires-clause-ahead
-step_faulting-requires-clause-ahead c = rw c.in-Faulting.is at c.requires.ready

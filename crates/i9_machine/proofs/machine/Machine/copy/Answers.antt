@@ -10,8 +10,12 @@ returns-clause-stands c = λ g h stands.
     let made = c.in_ok-processor.ensures.contents in
     let seen = made.seen in
     subst (Stand g h None) (λ i. record (contents_of m) {
-      at = record (situation m) { state = sym seen.state i; size = sym seen.size i; cache = sym seen.cache i;
-          board = sym c.copy-board.ensures i };
+      at = record (situation m) {
+        state = sym seen.state i;
+        size = sym seen.size i;
+        cache = sym seen.cache i;
+        board = sym c.copy-board.ensures i;
+      };
       cells = sym seen.cells i;
       bytes = sym made.bytes i;
       queue = sym made.queue i;

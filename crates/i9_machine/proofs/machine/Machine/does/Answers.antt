@@ -5,14 +5,10 @@ use Rattle.i9_plan.specs.declared.fetched.Words.{Words}
 use Rattle.i9_plan.specs.Kept.{inst_in}
 use Rattle.i9_plan.specs.Planned.{TellsWords}
 use Rattle.i9_model.specs.declared.need.Need.{Need}
-use Rattle.i9_model.specs.Needs.{is_barrier_name}
 use Rattle.i9_model.specs.Run.{Instruction, action_due, point_by_name}
 use Rattle.i9_processor.specs.State.{state_of, cache_of, size_of}
 use Rattle.i9_machine.proofs.Opening.{request_named}
 use Rattle.i9_machine.proofs.machine.Machine.does.Goals as goal
-
-pub point_by_name-requires : goal.point_by_name-requires
-point_by_name-requires c light = ap (λ (i : Inst). is_barrier_name i.op) c.inst.ensures ∙ c.requires.named light
 
 pub returns : goal.returns
 returns c = λ need stands plan is_next is_need cost.

@@ -25,12 +25,6 @@ returns-in-Waits-clause-ready c = rw c.plan_instruction.ensures.like (
   λ is. record { free = c.if-not-is_free.ensures.free refl; read = c.in-Waits.ensures.stands.1 is },
 )
 
-pub returns-in-Runs-clause-arrives : goal.returns-in-Runs-clause-arrives
-returns-in-Runs-clause-arrives c = rw c.plan_instruction.ensures.like at c.look_at.ensures.arrives
-
-pub returns-in-Faults-clause-arrives : goal.returns-in-Faults-clause-arrives
-returns-in-Faults-clause-arrives c = rw c.plan_instruction.ensures.like at c.look_at-in-Faults.ensures.arrives
-
 pub look_at-requires-clause-ready : goal.look_at-requires-clause-ready
 look_at-requires-clause-ready c = λ t none issues.
     let at = situation c.args.self.now in

@@ -5,11 +5,8 @@ use Rattle.i9_model.specs.PrintedText.{Shown}
 use Rattle.i9_model.specs.State.{State}
 use Rattle.i9_model.specs.Step.{Action, moved}
 use Rattle.i9_model.specs.Run.{record_of}
-use Rattle.i9_model.specs.Turns.{Pending, HasCost, IssuesAt}
 use Rattle.i9_model.specs.Alike.{AreAlike}
 use Rattle.i9_model.specs.Free.{IsFree}
-use Rattle.i9_regs.specs.Covered.{IsCovered}
-use Rattle.i9_issue.specs.Room.{IsEarly}
 use Rattle.i9_course.specs.Course.{records_of}
 use Rattle.i9_agree.proofs.HeldRuns.{next_free, cached-after}
 use Rattle.i9_course.proofs.Orderly.{course_events}
@@ -23,21 +20,16 @@ use Rattle.i9_machine.specs.declared.step.Step.{Step}
 use Rattle.i9_machine.specs.Contents.{situation, Contents, contents_of}
 use Rattle.i9_machine.specs.Line.{shown_of}
 use Rattle.i9_machine.specs.StandsFor.{HasCome, left_after}
-use Rattle.i9_machine.specs.Issuing.{most_turns, IsIssued}
+use Rattle.i9_machine.specs.Issuing.{IsIssued}
 use Rattle.i9_machine.specs.NewPages.{AddsNextOnly}
 use Rattle.i9_machine.specs.Doing.{action_for, lines_of, asks_room, HasRoomForStep, state_behind_of}
 use Rattle.i9_machine.specs.Step.{TellsRecord, LeavesFewer, IsStep, Did, Steps, stage, left_from, left_of, event_for, next_for}
 use Rattle.i9_machine.proofs.Arriving.{kept_planned, same_planned}
 use Rattle.i9_machine.proofs.NewPages.{none_then}
 use Rattle.i9_machine.proofs.Issuing.{step_covers, step_acts}
-use Rattle.i9_machine.proofs.Stepping.{no_memory, did_steps, step_after, step_lines, step_needs, fewer_by, did_fewer, did_within, step_within, step_room, plan_is_behind}
+use Rattle.i9_machine.proofs.Stepping.{no_memory, did_steps, step_after, step_lines, step_needs, fewer_by, did_fewer, did_within, step_room, plan_is_behind}
 use Rattle.i9_machine.proofs.Turning.{waiting_cost, paced_early}
 use Rattle.i9_machine.proofs.machine.Machine.perform.Goals as goal
-
-pub go_on-requires : goal.go_on-requires
-go_on-requires c = λ reaches.
-    let step = c.requires.step.is in
-    step_within (situation c.args.self.now) c.args.plan.now step.kind step.is_next (sym step.reaches ∙ reaches)
 
 pub act-answer-requires-clause-ready : goal.act-answer-requires-clause-ready
 act-answer-requires-clause-ready c =
@@ -81,9 +73,6 @@ act-answer-requires-clause-cost c =
     let kept = kept_planned (situation m) c.args.plan.now c.args.step.now m c.requires.step in
     rw (c.make_room.ensures.need ∙ kept.fenced) (waiting_cost m.floor kept.need kept.some)
 
-pub act-answer-requires-clause-turns : goal.act-answer-requires-clause-turns
-act-answer-requires-clause-turns c = rw (c.make_room.ensures.need ∙ c.requires.step.fenced) c.requires.step.is.cost
-
 pub act-answer-requires-clause-early : goal.act-answer-requires-clause-early
 act-answer-requires-clause-early c =
     let m = c.args.self.now in
@@ -92,11 +81,6 @@ act-answer-requires-clause-early c =
     let board : c.make_room.new.self.board ≡ m.board = λ i. (c.make_room.ensures.same i).at.board in
     rw (board, c.make_room.ensures.need ∙ kept.fenced)
     (paced_early (contents_of m) (left_after u.given (records_of u.items)) kept.need u.stands.paced kept.none kept.cost)
-
-pub act-answer-requires-clause-issue : goal.act-answer-requires-clause-issue
-act-answer-requires-clause-issue c =
-    let board : c.make_room.new.self.board ≡ c.args.self.now.board = λ i. (c.make_room.ensures.same i).at.board in
-    rw (board, c.make_room.ensures.need) c.requires.issue
 
 pub act-answer-requires-clause-whole : goal.act-answer-requires-clause-whole
 act-answer-requires-clause-whole c =

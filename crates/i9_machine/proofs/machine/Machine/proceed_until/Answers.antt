@@ -2,12 +2,8 @@ use Rattle.std.specs.Prelude.{◌-◌, vec_capacity, vec_len}
 use Rattle.std.proofs.Common.{◌≡◌, ℕ, ◌<◌, ◌≤◌, max, List, Option, None, Some, IfSome, refl, sym, ◌∙◌, subst, arith}
 use Rattle.i9_model.specs.Given.{Given}
 use Rattle.i9_course.specs.Course.{Item, ahead, comes_next}
-use Rattle.i9_processor.specs.Effect.{KeepsRoom}
-use Rattle.i9_processor.specs.Pages.{AddsNoPage}
-use Rattle.i9_machine.specs.declared.machine.Machine.{Machine}
-use Rattle.i9_machine.specs.Coming.{IsReadyFor}
-use Rattle.i9_machine.specs.Contents.{Outlook, contents_of}
-use Rattle.i9_machine.specs.StandsFor.{StandsFor, ProceedsUntil}
+use Rattle.i9_machine.specs.Contents.{contents_of}
+use Rattle.i9_machine.specs.StandsFor.{ProceedsUntil}
 use Rattle.i9_machine.specs.Step.{steps_left}
 use Rattle.i9_machine.specs.Progress.{progress}
 use Rattle.i9_machine.proofs.Arriving.{come_passed, here_arrived, passed_ended, passed_stands, passed_turn, passed_left, like_left, fewer_from}
@@ -39,11 +35,6 @@ come-requires-clause-turn c =
     let now = passed_turn c.look-turn.result.0 c.look-turn.new.self c.pass_to-in_default.new.self
     c.pass_to-in_default.ensures.passed in
     omega (arith, now)
-
-pub come-requires-clause-ready : goal.come-requires-clause-ready
-come-requires-clause-ready c =
-    subst (λ (o : Outlook). IsReadyFor o c.args.plan.now c.look-turn.result.0 c.look-turn.result.1)
-    (sym c.pass_to-in_default.ensures.keeps) c.look-turn.ensures.ready
 
 pub come-requires-clause-running : goal.come-requires-clause-running
 come-requires-clause-running c =

@@ -1,6 +1,5 @@
 use Rattle.i9_machine.specs.declared.line.Turn.TheVariants as answers
 use Rattle.i9_machine.specs.Progress.{progress}
-use Rattle.i9_machine.specs.Turned.{steps_on}
 use Rattle.i9_machine.proofs.Turned.{none_done, does_since, ends_since, stops_since, risen_since, still_since, does_under_way, still_under_way}
 use Rattle.i9_machine.proofs.machine.Machine.turn_on.Goals as goal
 
@@ -14,59 +13,40 @@ pub returns-then-self-begun : goal.returns-then-self-begun
 returns-then-self-begun c = record {
   next = λ g h stands follows.
       let held = c.steps.invariant.1 g h stands follows in
-      let since = held.0 in
-      risen_since g h (progress c.args.self.now c.args.plan.now c.args.out.now.items)
-      (progress c.steps.self c.steps.plan c.steps.out.items) held
-      (progress c.advance.new.self c.advance.new.plan c.advance.new.out.items)
-      (c.in-On.ensures.only g (steps_on since.done h) since.stands since.follows)
-      (c.in-On.ensures.next g (steps_on since.done h) since.stands since.follows) c.if-self-begun.true;
+      risen_since g h _ _ held _ (c.in-On.ensures.only g _ held.0.stands held.0.follows)
+      (c.in-On.ensures.next g _ held.0.stands held.0.follows) c.if-self-begun.true;
   lacking = λ g h stands follows is. absurd (cc is);
 }
 
 pub steps-preserved-else-self-begun : goal.steps-preserved-else-self-begun
 steps-preserved-else-self-begun c =
     let under = c.steps.invariant.0 in (
-      still_under_way under.given under.items (progress c.steps.self c.steps.plan c.steps.out.items)
-      (progress c.advance.new.self c.advance.new.plan c.advance.new.out.items)
+      still_under_way under.given under.items _ (progress c.advance.new.self c.advance.new.plan c.advance.new.out.items)
           (c.in-On.ensures.next under.given under.items under.stands under.follows),
       λ g h stands follows.
           let held = c.steps.invariant.1 g h stands follows in
-          let since = held.0 in
-          still_since g h (progress c.args.self.now c.args.plan.now c.args.out.now.items)
-          (progress c.steps.self c.steps.plan c.steps.out.items) held
-          (progress c.advance.new.self c.advance.new.plan c.advance.new.out.items)
-          (c.in-On.ensures.only g (steps_on since.done h) since.stands since.follows)
-          (c.in-On.ensures.next g (steps_on since.done h) since.stands since.follows) c.if-self-begun.false,
+          still_since g h _ _ held _ (c.in-On.ensures.only g _ held.0.stands held.0.follows)
+          (c.in-On.ensures.next g _ held.0.stands held.0.follows) c.if-self-begun.false,
     )
 
 pub steps-preserved : goal.steps-preserved
 steps-preserved c =
-    let under = c.steps.invariant.0 in (
-      does_under_way under.given under.items (answers.Issued c.in-Issued.field-0)
-      (progress c.steps.self c.steps.plan c.steps.out.items)
-      (progress c.advance.new.self c.advance.new.plan c.advance.new.out.items)
+    let under = c.steps.invariant.0 in
+    let answer = answers.Issued c.in-Issued.field-0 in (
+      does_under_way under.given under.items answer _ (progress c.advance.new.self c.advance.new.plan c.advance.new.out.items)
           (c.in-Issued.ensures.next under.given under.items under.stands under.follows),
       λ g h stands follows.
           let held = c.steps.invariant.1 g h stands follows in
-          let since = held.0 in
-          does_since g h (progress c.args.self.now c.args.plan.now c.args.out.now.items)
-          (progress c.steps.self c.steps.plan c.steps.out.items) held
-          (progress c.advance.new.self c.advance.new.plan c.advance.new.out.items)
-          (c.in-Issued.ensures.only g (steps_on since.done h) since.stands since.follows)
-          (answers.Issued c.in-Issued.field-0)
-          (c.in-Issued.ensures.next g (steps_on since.done h) since.stands since.follows),
+          does_since g h _ _ held _ (c.in-Issued.ensures.only g _ held.0.stands held.0.follows) answer
+          (c.in-Issued.ensures.next g _ held.0.stands held.0.follows),
     )
 
 pub returns-in-End : goal.returns-in-End
 returns-in-End c = record {
   next = λ g h stands follows.
       let held = c.steps.invariant.1 g h stands follows in
-      let since = held.0 in
-      ends_since g h (progress c.args.self.now c.args.plan.now c.args.out.now.items)
-      (progress c.steps.self c.steps.plan c.steps.out.items) held
-      (progress c.advance.new.self c.advance.new.plan c.advance.new.out.items)
-      (c.in-End.ensures.only g (steps_on since.done h) since.stands since.follows) c.in-End.e
-      (c.in-End.ensures.next g (steps_on since.done h) since.stands since.follows);
+      ends_since g h _ _ held _ (c.in-End.ensures.only g _ held.0.stands held.0.follows) c.in-End.e
+      (c.in-End.ensures.next g _ held.0.stands held.0.follows);
   lacking = λ g h stands follows is. absurd (cc is);
 }
 
@@ -74,11 +54,7 @@ pub returns-in-Memory : goal.returns-in-Memory
 returns-in-Memory c = record {
   next = λ g h stands follows.
       let held = c.steps.invariant.1 g h stands follows in
-      let since = held.0 in
-      stops_since g h (progress c.args.self.now c.args.plan.now c.args.out.now.items)
-      (progress c.steps.self c.steps.plan c.steps.out.items) held
-      (progress c.advance.new.self c.advance.new.plan c.advance.new.out.items)
-      (c.in-Memory.ensures.only g (steps_on since.done h) since.stands since.follows)
-      (c.in-Memory.ensures.next g (steps_on since.done h) since.stands since.follows);
+      stops_since g h _ _ held _ (c.in-Memory.ensures.only g _ held.0.stands held.0.follows)
+      (c.in-Memory.ensures.next g _ held.0.stands held.0.follows);
   lacking = c.in-Memory.ensures.still_lacking;
 }
