@@ -208,9 +208,8 @@ abbrev pub results_by : Op → List ℕ → List ℕ → ℕ → ℕ → Option 
 results_by Movl a b c ac = Some (words (slice_index a 0 ∷ slice_index a 1 ∷ []) ac)
 results_by Movt a b c ac = Some (words (slice_index a 0 ∷ slice_index a 1 ∷ slice_index a 2 ∷ []) ac)
 results_by Movq a b c ac = Some (words (slice_index a 0 ∷ slice_index a 1 ∷ slice_index a 2 ∷ slice_index a 3 ∷ []) ac)
-results_by Ediv a b c ac = Some
-    (divided (slice_index a 0)
-        (words (long_divided (long (slice_index b 0) (slice_index b 1)) (slice_index a 0)) ac) ac)
+results_by Ediv a b c ac = Some (divided (slice_index a 0)
+    (words (long_divided (long (slice_index b 0) (slice_index b 1)) (slice_index a 0)) ac) ac)
 results_by op a b c ac = result_of op (slice_index a 0) (slice_index b 0) c ac
 
 -- what an instruction gives
