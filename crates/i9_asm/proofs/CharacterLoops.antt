@@ -1,10 +1,10 @@
 -- One turn of a loop over the characters of a string.
-use Rattle.std.proofs.Common.{◌≡◌, ℕ, ◌+◌, true, false, eqb, List, [], ◌∷◌, ◌++◌, length, Option, Some, None, refl, sym, ap, ◌∙◌, arith, append_assoc}
+use Rattle.std.proofs.Common.{◌≡◌, ℕ, ◌+◌, true, false, eqb, List, [], ◌∷◌, ◌++◌, length, Option, Some, None, refl, sym, ap, ◌∙◌, arith}
 use Rattle.std.specs.Option.{option_map}
 use Rattle.std.proofs.lemmas.Bool.{eqb-true}
 use Rattle.i9_text.specs.Text.{is_in_word}
 use Rattle.i9_value.specs.Cut.{from}
-use Rattle.i9_asm.specs.Strings.{if_blank, characters, before_characters}
+use Rattle.i9_asm.specs.Strings.{if_blank, characters}
 
 -- a quote with more than blanks behind it
 not_blank : (s : List ℕ) → eqb (length s) 0 ≡ false → if_blank s ≡ None

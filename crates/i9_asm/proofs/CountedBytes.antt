@@ -1,10 +1,11 @@
 -- A line without fault gives as many bytes as it counts.
-use Rattle.std.proofs.Common.{◌≡◌, ℕ, zero, suc, ◌+◌, ◌*◌, ◌%◌, ◌^◌, ◌≤◌, Bool, true, false, cond, ltb, eqb, List, [], ◌∷◌, length, length-append, Option, Some, None, refl, sym, ap, ◌∙◌, arith, lit≤, inl, inr}
+use Rattle.std.proofs.Common.{◌≡◌, ℕ, zero, suc, ◌+◌, ◌*◌, ◌%◌, ◌^◌, ◌≤◌, Bool, true, false, cond, ltb, eqb, List, [], ◌∷◌, length, length-append, Option, Some, None, refl, sym, ap, ◌∙◌, arith, lit≤}
+use Rattle.i9_asm.proofs.NumberedNames.{label_stays}
 use Rattle.std.specs.Prelude.{is_some, codes}
 use Rattle.std.specs.List.{list_all, flat_map}
 use Rattle.std.specs.Str.{bytes_eq}
 use Rattle.std.specs.Int.{w32, to_le_bytes}
-use Rattle.std.proofs.lemmas.Bool.{cases_Bool, ltb-false}
+use Rattle.std.proofs.lemmas.Bool.{ltb-false}
 use Rattle.std.proofs.lemmas.List.{length-take-le}
 use Rattle.i9_isa.specs.Words.{words_of}
 use Rattle.i9_text.specs.Text.{is_blank}
@@ -12,12 +13,12 @@ use Rattle.i9_value.specs.declared.fault.Fault.{Fault}
 use Rattle.i9_value.specs.declared.fault.Fault.TheVariants as fault
 use Rattle.i9_value.specs.declared.values.Value.{Value}
 use Rattle.i9_value.specs.Cut.{before, from}
-use Rattle.i9_value.specs.Values.{Names, is_name, value_of}
+use Rattle.i9_value.specs.Values.{Names, value_of}
 use Rattle.i9_statement.specs.Fields.{fields_of}
 use Rattle.i9_statement.specs.Statements.{statement_of}
 use Rattle.i9_statement.specs.Codes.{Stands, stands_one, stands_two}
 use Rattle.i9_asm.specs.Lines.{Item, Bad, Org, Space, Align, Set, Data, Ascii, Instruction, dot, one_value, two_values, some_values, directive_of, item_by, item_of, label_of, code_of}
-use Rattle.i9_asm.specs.Places.{Place, no_names, address_at, location_count, next_location, past_label, past_line, past_item, size_of, string_size, moved_to, effect_of}
+use Rattle.i9_asm.specs.Places.{Place, no_names, address_at, location_count, next_location, past_line, past_item, size_of, string_size, moved_to, effect_of}
 use Rattle.i9_asm.specs.Source.{zeros, low_bytes, data_value, data_fault, fault_if, item_fault, front_fault, room_fault, rest_fault, line_fault, labelled_source, most_bytes, Source, Gives, gives_nothing, gives_instruction, gives_data, gives_characters, gives_zeros, gives_move, gives_alignment, gives_assignment}
 use Rattle.i9_asm.specs.Laws.{item_place}
 use Rattle.i9_asm.proofs.TakenLines.{least_left, least_right, effect_is_item}
@@ -150,13 +151,6 @@ line_counts names s line bs h gives =
     let u = labelled_source (label_of line) s in
     let sound = least_left (item_fault names u.place (item_of line)) (room_fault u (size_of u.place (item_of line))) (rest_sound names s line h) in
     item_counts names (item_place s line) (item_of line) bs (narrow_item line) gives sound
-
-label_stays : (label : Option (List ℕ)) (p : Place) → (past_label label p).location ≡ p.location
-label_stays None p = refl
-label_stays (Some name) p = elim (cases_Bool (is_name name)) [
-  | inl good ↦ rw good refl
-  | inr bad ↦ rw bad refl
-]
 
 no_fault_if : (q : Bool) (f : Fault) → fault_if q f ≡ None → q ≡ false
 no_fault_if true f h = absurd (cc h)

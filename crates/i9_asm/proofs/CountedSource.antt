@@ -1,13 +1,14 @@
 -- The segments of a source without fault have as many pairs as its lines count, and so at most 4,194,304.
-use Rattle.std.proofs.Common.{◌≡◌, ℕ, ◌+◌, ◌≤◌, List, [], ◌∷◌, ◌++◌, length, Option, Some, None, refl, sym, ap, subst, ◌∙◌, arith, lit≤, length-append}
+use Rattle.std.proofs.Common.{◌≡◌, ℕ, ◌+◌, ◌≤◌, List, [], ◌∷◌, ◌++◌, length, Option, Some, None, refl, sym, subst, ◌∙◌, arith, lit≤, length-append}
+use Rattle.i9_asm.proofs.TakenLines.{begun_total}
 use Rattle.i9_model.specs.Image.{Part, pairs_of}
 use Rattle.i9_runs.proofs.PairCounts.{length-with_part}
 use Rattle.i9_text.specs.FirstFault.{SaysAll}
 use Rattle.i9_value.specs.Values.{Names}
-use Rattle.i9_asm.specs.Lines.{Item, label_of, item_of}
+use Rattle.i9_asm.specs.Lines.{label_of, item_of}
 use Rattle.i9_asm.specs.Places.{Place, past_line, all_names, size_of, moved_to}
-use Rattle.i9_asm.specs.Source.{Source, start_source, segments_of, begun, grown, past_source, labelled_source, most_bytes, Assembles}
-use Rattle.i9_asm.specs.Laws.{item_place, IsAssembly}
+use Rattle.i9_asm.specs.Source.{Source, start_source, segments_of, begun, grown, labelled_source, most_bytes, Assembles}
+use Rattle.i9_asm.specs.Laws.{IsAssembly}
 use Rattle.i9_asm.proofs.CountedBytes.{line_counts, line_few}
 
 -- how many pairs the segments of a source have
@@ -22,10 +23,6 @@ record IsCounted (s : Source) : Type 0 where
 count-begun : (moved : Option ℕ) (s : Source) → pair_count (begun moved s) ≡ pair_count s
 count-begun None s = refl
 count-begun (Some a) s = refl
-
-total-begun : (moved : Option ℕ) (s : Source) → (begun moved s).total ≡ s.total
-total-begun None s = refl
-total-begun (Some a) s = refl
 
 count-grown : (s : Source) (p : Place) (size : ℕ) (bs : List ℕ) → pair_count (grown s p size bs) ≡ pair_count s + length bs
 count-grown s p size bs =
@@ -46,7 +43,7 @@ counted_line names s t line h assembles =
     let counts = line_counts names s line bs assembles.sound assembles.gives in
     let few = line_few names s line assembles.sound in
     let kept = count-begun (moved_to u.place item) u in
-    let total = total-begun (moved_to u.place item) u in
+    let total = begun_total (moved_to u.place item) u in
     let pairs = count-grown start next size bs in
     subst IsCounted (sym assembles.after) (record {
       same = omega (arith, pairs, kept, total, counts, h.same);

@@ -4,7 +4,7 @@ use Rattle.std.specs.Prelude.{codes}
 use Rattle.std.specs.List.{list_all}
 use Rattle.std.specs.Fmt.{digits}
 use Rattle.std.proofs.Math.Seq.{take-append-add}
-use Rattle.std.proofs.lemmas.Bool.{and_parts, eqb-true}
+use Rattle.std.proofs.lemmas.Bool.{and_parts, eqb-true, or_parts, not-true}
 use Rattle.i9_isa.specs.declared.op.Op.{Op}
 use Rattle.i9_isa.specs.declared.op.Op.TheVariants.{Notbit}
 use Rattle.i9_isa.specs.declared.inst.Inst.{Inst}
@@ -18,7 +18,7 @@ use Rattle.i9_statement.specs.Fields.{fields_of, join_fields}
 use Rattle.i9_statement.specs.Instructions.{Fields, operand_fields}
 use Rattle.i9_statement.specs.Statements.{open_brace, close_brace, fields_text, spare_text, statement_text}
 use Rattle.i9_asm.specs.Lines.{code_len, without_comment, ends_head, labelled_by, labelled, Org, Data, Instruction, one_value, some_values, directive_of, item_by, item_of, label_of, Says}
-use Rattle.i9_value.proofs.Cutting.{not_true, is_free, stops, before-cut, from-cut, free_by, all_append}
+use Rattle.i9_value.proofs.Cutting.{is_free, stops, before-cut, from-cut, free_by, all_append}
 use Rattle.i9_statement.proofs.ReadInstructions.{mnemonic_bytes}
 use Rattle.i9_statement.proofs.Classes.{apart_by, IsField}
 use Rattle.i9_statement.proofs.ReadFields.{pad, fields_of-text}
@@ -29,16 +29,12 @@ use Rattle.i9_statement.proofs.StatementBytes.{is_statement_byte, operand_statem
 abbrev ends_code : ℕ → Bool
 ends_code b = is_byte 35 b || is_byte 34 b
 
-pub or_false : (a b : Bool) → (a || b) ≡ false → (a ≡ false) × (b ≡ false)
-or_false true b h = absurd cc
-or_false false b h = (refl, h)
-
 code_len-clean : (w t : List ℕ) → is_free ends_code w ≡ true → code_len Outside (w ++ t) ≡ length w + code_len Outside t
 unfolding code_len
 code_len-clean [] t free = omega arith
 code_len-clean (b ∷ w) t free =
     let h = and_parts (not (ends_code b)) (is_free ends_code w) free in
-    let e = or_false (is_byte 35 b) (is_byte 34 b) (not_true (ends_code b) h.0) in
+    let e = or_parts (is_byte 35 b) (is_byte 34 b) (not-true (ends_code b) h.0) in
     let rest = code_len-clean w t h.1 in
     rw (e.0, e.1) (omega (arith, rest))
 
@@ -178,7 +174,7 @@ blank_head : (w : List ℕ) → is_free ends_head w ≡ true → is_free is_blan
 blank_head [] h = refl
 blank_head (b ∷ w) h =
     let parts = and_parts (not (ends_head b)) (is_free ends_head w) h in
-    let e = or_false (is_blank b) (is_byte 58 b) (not_true (ends_head b) parts.0) in
+    let e = or_parts (is_blank b) (is_byte 58 b) (not-true (ends_head b) parts.0) in
     rw e.0 (blank_head w parts.1)
 
 -- what a directive with this operand says

@@ -4,7 +4,7 @@ use Rattle.std.specs.Prelude.{codes, is_some, slice_index}
 use Rattle.std.specs.List.{list_all, flat_map, AllByRecursion}
 use Rattle.std.specs.Int.{w32, to_le_bytes, from_le_bytes}
 use Rattle.std.specs.Int.Bits.{bit_and}
-use Rattle.std.proofs.lemmas.Bool.{lt-ltb, le-ltb, ltb-false, cases_Bool}
+use Rattle.std.proofs.lemmas.Bool.{lt-ltb, le-ltb, ltb-false, cases_Bool, or_parts}
 use Rattle.std.proofs.Math.Seq.{take-add}
 use Rattle.std.proofs.lemmas.List.{append-nil, length-take-le, length-drop, length-append, take-append-drop}
 use Rattle.i9_text.specs.FirstFault.{SaysAll}
@@ -40,7 +40,7 @@ use Rattle.i9_statement.proofs.ReadFields.{pad}
 use Rattle.i9_statement.proofs.ReadStatements.{statement_of-text}
 use Rattle.i9_statement.proofs.StatementBytes.{is_statement_byte, low_statement, statement_bytes, operand_statement}
 use Rattle.i9_statement.proofs.StatementWords.{and_again, one_or_two, statement_stands}
-use Rattle.i9_asm.proofs.ReadLines.{Tail, NoTail, Comment, tail_text, leaves, or_false, says_statement, says_word, says_byte, says_org}
+use Rattle.i9_asm.proofs.ReadLines.{Tail, NoTail, Comment, tail_text, leaves, says_statement, says_word, says_byte, says_org}
 
 -- ---- one line
 
@@ -125,12 +125,12 @@ low_at [] h i = omega arith
 low_at (b ∷ bs) h zero = h.0
 low_at (b ∷ bs) h (suc i) = low_at bs h.1 i
 
-low_take : (n : ℕ) (bs : List ℕ) → IsLow bs → IsLow (take n bs)
+pub low_take : (n : ℕ) (bs : List ℕ) → IsLow bs → IsLow (take n bs)
 low_take zero bs h = tt
 low_take (suc n) [] h = tt
 low_take (suc n) (b ∷ bs) h = (h.0, low_take n bs h.1)
 
-low_drop : (n : ℕ) (bs : List ℕ) → IsLow bs → IsLow (drop n bs)
+pub low_drop : (n : ℕ) (bs : List ℕ) → IsLow bs → IsLow (drop n bs)
 low_drop zero bs h = h
 low_drop (suc n) [] h = tt
 low_drop (suc n) (b ∷ bs) h = low_drop n bs h.1
@@ -237,7 +237,7 @@ comment_plain : (a : ℕ) (bs : List ℕ) → is_plain (tail_text (comment_of a 
 comment_plain a bs = plain-append (word_text a) (noted_words (line_size a bs) bs) (plain-word_text a) (noted_plain (line_size a bs) bs)
 
 single_small : (a : ℕ) (xs : List ℕ) → is_single a xs ≡ false → 4 ≤ length xs
-single_small a xs h = ltb-false _ _ (or_false (ltb (length xs) 4) (ltb 0 (a % 4)) h).0
+single_small a xs h = ltb-false _ _ (or_parts (ltb (length xs) 4) (ltb 0 (a % 4)) h).0
 
 -- the first line of a run says its first bytes
 line_says : (names : Names) (p : Place) (b : ℕ) (bs : List ℕ) (t : Tail) → IsLow (b ∷ bs) → p.location + length (b ∷ bs) ≤ 2 ^ 32 → is_plain (tail_text t) ≡ true

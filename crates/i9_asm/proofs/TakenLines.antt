@@ -26,7 +26,7 @@ begun_place : (moved : Option ℕ) (s : Source) → (begun moved s).place ≡ s.
 begun_place None s = refl
 begun_place (Some a) s = refl
 
-begun_total : (moved : Option ℕ) (s : Source) → (begun moved s).total ≡ s.total
+pub begun_total : (moved : Option ℕ) (s : Source) → (begun moved s).total ≡ s.total
 begun_total None s = refl
 begun_total (Some a) s = refl
 

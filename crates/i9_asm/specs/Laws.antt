@@ -1,6 +1,5 @@
 -- What the laws of sources and listings speak of.
-use Rattle.std.specs.Prelude.{◌≡◌, ℕ, ◌+◌, ◌^◌, ◌<◌, ◌≤◌, List, [], ◌∷◌, length, None}
-use Rattle.std.specs.List.{AllByRecursion}
+use Rattle.std.specs.Prelude.{◌≡◌, ℕ, List, None}
 use Rattle.i9_text.specs.FirstFault.{SaysAll, IsRefused}
 use Rattle.i9_text.specs.Text.{lines_of}
 use Rattle.i9_model.specs.Image.{Part, pairs_of}

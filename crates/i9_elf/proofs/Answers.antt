@@ -1,12 +1,13 @@
 -- What reading a file answers: the image that it says, or its first fault.
 use Rattle.std.proofs.Common.{◌≡◌, ℕ, ◌+◌, ◌*◌, ◌<◌, ◌≤◌, ◌⊎◌, inl, inr, false, not, ltb, eqb, ◌&&◌, List, [], length, take, Option, Some, None, Result, Ok, Err, refl, ap, subst, ◌∙◌, arith, IfOk, IfErr}
+use Rattle.i9_model.proofs.FrameLaws.{if_none}
 use Rattle.std.proofs.lemmas.Bool.{cases_Bool, eqb-true, ltb-false, le-ltb}
 use Rattle.i9_model.specs.Image.{Part, pairs_of}
 use Rattle.i9_elf.specs.Files.{magic, file_header_size, class_of, bits_32, order_of, low_first, type_of, executable, machine_of, i960, header_count, header_size_of, header_size, headers_place, has_headers, loads_of, IsImage, fault_of_file, fault_of_load, IsRefused, at_file, at_load}
 use Rattle.i9_elf.specs.declared.error.ElfError.{ElfError}
 use Rattle.i9_elf.specs.declared.error.ElfError.TheVariants.{Bad, Memory}
 use Rattle.i9_elf.specs.Reading.{or_refused, load_all, answer_of, Reads, IfBad}
-use Rattle.i9_elf.proofs.Loads.{if_none, refused_ok, and_some, some_and, FitAll, load_all-ok, ok-load_all, load_all-err, err-load_all}
+use Rattle.i9_elf.proofs.Loads.{refused_ok, and_some, some_and, FitAll, load_all-ok, ok-load_all, load_all-err, err-load_all}
 
 -- ---- the file before its program headers are looked at
 

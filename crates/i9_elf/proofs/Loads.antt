@@ -1,7 +1,8 @@
 -- Headers that load, one after the other.
-use Rattle.std.proofs.Common.{◌≡◌, ℕ, suc, ◌+◌, ◌-◌, ◌*◌, ◌<◌, ◌≤◌, Bool, true, false, cond, ltb, ◌||◌, ◌&&◌, List, [], ◌∷◌, ◌++◌, length, drop, Option, Some, None, Result, Ok, Err, refl, sym, ap, ◌∙◌, arith, inl, inr, append_assoc}
+use Rattle.std.proofs.Common.{◌≡◌, ℕ, suc, ◌+◌, ◌-◌, ◌*◌, ◌<◌, ◌≤◌, Bool, true, false, ltb, ◌||◌, ◌&&◌, List, [], ◌∷◌, ◌++◌, length, drop, Option, Some, None, Result, Ok, Err, refl, sym, ap, ◌∙◌, arith, inl, inr, append_assoc}
+use Rattle.i9_model.proofs.FrameLaws.{if_none}
 use Rattle.std.specs.List.{filter, flat_map, AllByRecursion}
-use Rattle.std.proofs.lemmas.Bool.{cases_Bool, ltb-false, le-ltb}
+use Rattle.std.proofs.lemmas.Bool.{cases_Bool, ltb-false, le-ltb, or_parts}
 use Rattle.std.proofs.lemmas.List.{append-nil, drop-drop}
 use Rattle.i9_model.specs.Image.{Part, pairs_of}
 use Rattle.i9_model.specs.HexText.{most_bytes}
@@ -9,15 +10,6 @@ use Rattle.i9_elf.specs.Reading.{or_refused, load_all}
 use Rattle.i9_elf.specs.Files.{Header, header_size, header_of, headers_in, headers_place, header_count, is_load, loads_of, memory_size, loaded_pairs, IsLoadable, fault_of_load}
 
 -- ---- one header
-
--- where a test gives no fault, and none comes later
-pub if_none : (b : Bool) (k : ℕ) (o : Option ℕ) → cond b (Some k) o ≡ None → (b ≡ false) × (o ≡ None)
-if_none true k o e = absurd cc
-if_none false k o e = (refl, e)
-
-or_false : (a b : Bool) → (a || b) ≡ false → (a ≡ false) × (b ≡ false)
-or_false true b e = absurd cc
-or_false false b e = (refl, e)
 
 -- a test that counts where there is something
 pub and_some : (n : ℕ) (b : Bool) → (ltb 0 n && b) ≡ false → 0 < n → b ≡ false
@@ -41,7 +33,7 @@ pub fits : (file : List ℕ) (size : ℕ) (h : Header) → fault_of_load file si
 unfolding fault_of_load
 fits file size h fine =
     let first = if_none (ltb h.in_memory h.in_file || (ltb 0 h.in_file && ltb (length file) (h.offset + h.in_file))) _ _ fine in
-    let both = or_false (ltb h.in_memory h.in_file) _ first.0 in
+    let both = or_parts (ltb h.in_memory h.in_file) _ first.0 in
     let second = if_none (ltb most_bytes (size + h.in_memory)) _ _ first.1 in
     record {
       loadable = record { sizes = ltb-false _ _ both.0; inside = λ some. ltb-false _ _ (and_some h.in_file (ltb (length file) (h.offset + h.in_file)) both.1 some) };

@@ -1,23 +1,23 @@
 -- What shows of memory along a run.
-use Rattle.std.proofs.Common.{◌++◌, length-append, take, ◌≡◌, ◌≢◌, ℕ, zero, suc, ◌+◌, ◌<◌, ◌≤◌, Bool, true, false, not, ◌&&◌, cond, List, [], ◌∷◌, length, map, Option, Some, None, unwrap_or, ◌⊎◌, inl, inr, refl, sym, ap, ◌∙◌, subst, arith}
-use Rattle.std.specs.Prelude.{◌==◌, IsTrue}
+use Rattle.std.proofs.Common.{◌++◌, length-append, take, ◌≡◌, ℕ, zero, suc, ◌+◌, ◌<◌, ◌≤◌, Bool, true, false, not, cond, List, [], ◌∷◌, length, map, Option, Some, None, unwrap_or, inl, inr, refl, sym, ap, ◌∙◌, arith}
+use Rattle.std.specs.Prelude.{◌==◌}
 use Rattle.std.specs.Option.{option_or}
-use Rattle.std.specs.List.{AllByRecursion, range_with_len}
+use Rattle.std.specs.List.{AllByRecursion}
 use Rattle.std.proofs.lemmas.Bool.{cases_Bool, cases_lt, cond-true, cond-false, and_from, and_left, and_parts, le-leb, lt-leb, lt-ltb, le-ltb, eqb-true, or_left, both_ways}
 use Rattle.std.proofs.lemmas.Option.{none-some}
 use Rattle.i9_model.specs.declared.frame.Frame.{Frame}
-use Rattle.i9_model.specs.Alike.{is_hard, is_compared}
-use Rattle.i9_model.specs.Frames.{places, is_put, in_frames}
+use Rattle.i9_model.specs.Alike.{is_hard}
+use Rattle.i9_model.specs.Frames.{places, in_frames}
 use Rattle.i9_model.specs.HeldFrames.{over, cache_after, youngest_first, AreYoungest}
 use Rattle.i9_model.specs.Memory.{Memory, stored}
 use Rattle.i9_model.specs.Run.{Given, state_after}
 use Rattle.i9_model.specs.State.{boot}
 use Rattle.i9_model.specs.Turns.{Permits, IsTimed, last_issue, end_turn}
-use Rattle.i9_model.specs.Late.{Late, turns, acted_memory, settled_memory, is_waiting, AllDone, IsQuiet, AreQuiet, IssuedBy}
+use Rattle.i9_model.specs.Late.{Late, turns, acted_memory, settled_memory, AllDone, IsQuiet, AreQuiet}
 use Rattle.i9_model.specs.Writes.{wrapped, upwards, last_put, or_earlier}
 use Rattle.i9_model.proofs.Stored.{stored-none}
 use Rattle.i9_turns.proofs.LateMemories.{acted-yes, acted-no, waits-not}
-use Rattle.i9_turns.proofs.LateOrder.{issued-by, permitted-barrier}
+use Rattle.i9_turns.proofs.LateOrder.{permitted-barrier}
 use Rattle.i9_agree.proofs.HeldRuns.{cached-after}
 use Rattle.i9_model.proofs.Storing.{stored_kept}
 use Rattle.i9_turns.proofs.TurnFences.{all-end}
@@ -25,9 +25,9 @@ use Rattle.i9_course.specs.Course.{Item, records_of, course, IsCourse}
 use Rattle.i9_course.proofs.Orderly.{course_events}
 use Rattle.i9_course.proofs.Settled.{course_settles}
 use Rattle.i9_course.proofs.Timed.{course_timed, course_quiet}
-use Rattle.i9_shade.specs.Shade.{Piece, Kept, byte_of, first_byte, shown, Lacks}
+use Rattle.i9_shade.specs.Shade.{Piece, Kept, byte_of, first_byte}
 use Rattle.i9_shade.proofs.First.{shows-none}
-use Rattle.i9_raw.specs.Raw.{raw_memory, stood, HaveStood, Hides, standing, shades, HidesLast, IsShaded}
+use Rattle.i9_raw.specs.Raw.{raw_memory, stood, HaveStood, Hides, standing, shades, IsShaded}
 
 -- ---- the bytes that are kept
 

@@ -1,19 +1,19 @@
 -- Pieces of bytes that stand under writes.
-use Rattle.std.proofs.Common.{◌≡◌, ℕ, zero, suc, ◌+◌, ◌-◌, ◌^◌, ◌<◌, ◌≤◌, Bool, true, false, ◌||◌, List, [], ◌∷◌, ◌++◌, length, length-append, map, take, reverse, get_or, Option, Some, None, refl, sym, ap, ◌∙◌, subst, append_assoc, arith}
+use Rattle.std.proofs.Common.{◌≡◌, ℕ, zero, suc, ◌+◌, ◌-◌, ◌^◌, ◌<◌, ◌≤◌, false, List, [], ◌∷◌, ◌++◌, length, length-append, map, take, reverse, get_or, Some, None, refl, sym, ap, ◌∙◌, subst, append_assoc, arith}
+use Rattle.i9_model.proofs.Upwards.{one_write}
+use Rattle.i9_model.proofs.Reading.{read_more, read_length}
 use Rattle.std.specs.Prelude.{◌==◌, slice_get}
-use Rattle.std.specs.List.{AllByRecursion, range_with_len}
+use Rattle.std.specs.List.{AllByRecursion}
 use Rattle.std.proofs.lemmas.Bool.{or_from, or_parts}
-use Rattle.std.proofs.lemmas.List.{append-nil, length-map, map-append, take_more, take_all, length-reverse, get_or-reverse}
-use Rattle.std.proofs.lemmas.List.FromFn.{map-range_with_len_more, length-map-range_with_len}
+use Rattle.std.proofs.lemmas.List.{append-nil, length-map, map-append, take_more, length-reverse, get_or-reverse}
 use Rattle.std.proofs.lemmas.Option.{get_or_from_slice_get, slice_get-get_or, none-some}
-use Rattle.std.proofs.Math.Nat.{mod-eq_of_lt}
 use Rattle.i9_model.specs.declared.frame.Frame.{Frame}
 use Rattle.i9_model.specs.declared.layout.TheConstants.{LOCALS, FRAME_SIZE}
-use Rattle.i9_model.specs.Frames.{places, in_bytes, is_put}
+use Rattle.i9_model.specs.Frames.{in_bytes, is_put}
 use Rattle.i9_model.specs.HeldFrames.{AreWhole}
 use Rattle.i9_model.specs.Memory.{Memory}
 use Rattle.i9_model.specs.Step.{bytes_of_words}
-use Rattle.i9_model.specs.Writes.{wrapped, upwards}
+use Rattle.i9_model.specs.Writes.{upwards}
 use Rattle.i9_model.proofs.Lengths.{frame_long}
 use Rattle.i9_model.proofs.Runs.{is_put-upwards}
 use Rattle.i9_course.specs.Course.{frame_writes, oldest_writes, all_writes}
@@ -23,13 +23,7 @@ use Rattle.i9_raw.specs.Adding.{under, Adds}
 
 -- ---- bytes in a row
 
-pub read_more : (f : ℕ → ℕ) (a k : ℕ) → map f (places a (k + 1)) ≡ map f (places a k) ++ f (wrapped (a + k)) ∷ []
-read_more f a k = ap (map f) (map-range_with_len_more wrapped a k (a + k) refl) ∙ map-append f (places a k) (wrapped (a + k) ∷ [])
-
 pub ruleset bytes_rules = (read_more)
-
-stood_long : (f : ℕ → ℕ) (a n : ℕ) → length (map f (places a n)) ≡ n
-stood_long f a n = length-map (places a n) f ∙ length-map-range_with_len wrapped a n
 
 -- ---- pieces in a row
 
@@ -65,7 +59,7 @@ adds_nothing f ps = record { added = []; is = sym (append-nil ps); few = omega a
 
 pub adds_row : (f : ℕ → ℕ) (a : ℕ) (bytes : List ℕ) (ps : List Piece) → Adds f (upwards a bytes) 1 ps (ps ++ stood f a (length bytes) ∷ [])
 adds_row f a bytes ps =
-    let long = stood_long f a (length bytes) in
+    let long = read_length f a (length bytes) in
     record {
       added = stood f a (length bytes) ∷ [];
       is = refl;
@@ -81,11 +75,8 @@ adds_frame f m frame ps whole =
     (adds_row f frame.address (bytes_of_words m frame.address frame.words) ps)
 
 -- an address below 2^32 is its own place
-one_row : (a v : ℕ) → a < 2 ^ 32 → upwards a (v ∷ []) ≡ (a, v) ∷ []
-one_row a v low = ap (λ (x : ℕ). (x, v) ∷ []) (mod-eq_of_lt low)
-
 pub adds_one : (f : ℕ → ℕ) (a v : ℕ) (ps : List Piece) → a < 2 ^ 32 → Adds f ((a, v) ∷ []) 1 ps (ps ++ stood f a 1 ∷ [])
-adds_one f a v ps low = subst (λ (w : List (ℕ × ℕ)). Adds f w 1 ps (ps ++ stood f a 1 ∷ [])) (one_row a v low) (adds_row f a (v ∷ []) ps)
+adds_one f a v ps low = subst (λ (w : List (ℕ × ℕ)). Adds f w 1 ps (ps ++ stood f a 1 ∷ [])) (one_write a v low) (adds_row f a (v ∷ []) ps)
 
 pub adds_both : (f : ℕ → ℕ) (v w : List (ℕ × ℕ)) (m n : ℕ) (old mid new : List Piece) → Adds f v m old mid → Adds f w n mid new → Adds f (v ++ w) (m + n) old new
 adds_both f v w m n old mid new a b =
@@ -109,13 +100,13 @@ adds_fewer f w m n old new le a =
 
 under_same : (f : ℕ → ℕ) (fs : List Frame) → HaveStood f (under f fs)
 under_same f [] = tt
-under_same f (frame ∷ fs) = (ap (stood f frame.address) (sym (stood_long f frame.address FRAME_SIZE)), under_same f fs)
+under_same f (frame ∷ fs) = (ap (stood f frame.address) (sym (read_length f frame.address FRAME_SIZE)), under_same f fs)
 
 -- an address beside all of them is beside each frame
 beside_each : (f : ℕ → ℕ) (x : ℕ) (fs : List Frame) (j : ℕ) (d : Frame) → AllByRecursion (Lacks x) (under f fs) → j < length fs
     → in_bytes (get_or fs j d).address FRAME_SIZE x ≡ false
 beside_each f x [] j d h lt = absurd (omega (arith, lt))
-beside_each f x (frame ∷ fs) zero d h lt = ap (λ (n : ℕ). in_bytes frame.address n x) (sym (stood_long f frame.address FRAME_SIZE)) ∙ h.0
+beside_each f x (frame ∷ fs) zero d h lt = ap (λ (n : ℕ). in_bytes frame.address n x) (sym (read_length f frame.address FRAME_SIZE)) ∙ h.0
 beside_each f x (frame ∷ fs) (suc j) d h lt = beside_each f x fs j d h.1 (omega (arith, lt))
 
 -- so nothing of theirs is written there

@@ -1,11 +1,11 @@
 -- A printed address is read again.
-use Rattle.std.proofs.Common.{◌≡◌, ℕ, zero, suc, ◌^◌, ◌<◌, Bool, true, false, not, cond, ltb, eqb, ◌&&◌, List, [], ◌∷◌, ◌++◌, length, Option, Some, None, refl, ap, ◌∙◌, arith, append_assoc, inl, inr}
+use Rattle.std.proofs.Common.{◌≡◌, ℕ, zero, suc, ◌^◌, ◌<◌, Bool, true, false, not, cond, ltb, ◌&&◌, List, [], ◌∷◌, ◌++◌, length, Option, Some, refl, ap, ◌∙◌, arith, append_assoc, inl, inr}
 use Rattle.std.specs.Prelude.{codes, get_or}
 use Rattle.std.specs.Option.{option_and_then}
 use Rattle.std.specs.List.{list_all}
 use Rattle.std.specs.Str.{bytes_eq}
 use Rattle.std.specs.Fmt.{decimal}
-use Rattle.std.proofs.lemmas.Bool.{and_parts, eqb-true, ltb-true, lt-ltb, cases_Bool}
+use Rattle.std.proofs.lemmas.Bool.{and_parts, eqb-true, ltb-true, lt-ltb, cases_Bool, not-true}
 use Rattle.std.proofs.Math.Dec.{eqb-suc-zero}
 use Rattle.std.proofs.lemmas.List.Folds.{list_all-append}
 use Rattle.i9_isa.specs.declared.inst.Mode.{Mode}
@@ -27,9 +27,9 @@ use Rattle.i9_value.specs.Values.{Names, value_of, is_name_byte}
 use Rattle.i9_statement.specs.Addresses.{bang, star, open_round, close_round, open_square, if_last, close_square, opens, base_of, with_rest, base_named, scale_names, scale_of, scaled, index_of, valued, front_of, mode_of, address_by, with_base, with_index, address_behind, address_of}
 use Rattle.i9_value.specs.NumberText.{hex_text}
 use Rattle.i9_statement.specs.Printed.{base_text, index_text, address_text}
-use Rattle.i9_value.proofs.Cutting.{not_true, is_free, stops, before-cut, from-cut, closed-cut, free_by}
+use Rattle.i9_value.proofs.Cutting.{is_free, stops, before-cut, from-cut, closed-cut, free_by}
 use Rattle.i9_text.proofs.Below.{test_below, passes_below}
-use Rattle.i9_value.proofs.ReadValues.{register_place-text, register_bytes, value_of-decimal, value_of-hex, decimal_bytes, decimal_some, hex_bytes}
+use Rattle.i9_value.proofs.ReadValues.{register_place-text, register_bytes, value_of-decimal, value_of-hex, decimal_bytes, decimal_some, hex_bytes, found_at, found_true}
 
 -- ---- bytes of names and numbers are none of the signs
 
@@ -45,7 +45,7 @@ free_of_byte x w other h = free_by is_name_byte (is_byte x) (λ b. name_apart x 
 opens_apart : (b : ℕ) → is_name_byte b ≡ true → opens b ≡ false
 opens_apart b h = rw (name_apart 40 b refl h, name_apart 91 b refl h) refl
 
-free_of_opens : (w : List ℕ) → list_all is_name_byte w ≡ true → is_free opens w ≡ true
+pub free_of_opens : (w : List ℕ) → list_all is_name_byte w ≡ true → is_free opens w ≡ true
 free_of_opens w h = free_by is_name_byte opens opens_apart w h
 
 -- ---- base and index
@@ -55,7 +55,7 @@ unfolding register_text
 no_ip = refl
 
 base_named-text : (r : ℕ) → r < 32 → base_named (register_text r) ≡ Some (base.Register r)
-base_named-text r h = rw (not_true _ (passes_below (λ k. not (bytes_eq (register_text k) (codes "ip"))) 39 r no_ip (omega arith)), register_place-text r (omega arith)) refl
+base_named-text r h = rw (not-true _ (passes_below (λ k. not (bytes_eq (register_text k) (codes "ip"))) 39 r no_ip (omega arith)), register_place-text r (omega arith)) refl
 
 abbrev base_of_open : List ℕ → Option (Base × List ℕ)
 base_of_open s = option_and_then (λ c. with_rest (base_named c.0) c.1) (closed close_round s)
@@ -77,14 +77,6 @@ scale_bytes = refl
 
 pub scale_name_bytes : (k : ℕ) → k < 5 → list_all is_name_byte (get_or scale_names k []) ≡ true
 scale_name_bytes k h = passes_below (λ j. list_all is_name_byte (get_or scale_names j [])) 5 k scale_bytes h
-
-abbrev found_at : Option ℕ → ℕ → Bool
-found_at (Some j) k = eqb j k
-found_at None k = false
-
-found_true : (o : Option ℕ) (k : ℕ) → found_at o k ≡ true → o ≡ Some k
-found_true (Some j) k h = ap Some (eqb-true j k h)
-found_true None k h = absurd cc
 
 scales_found : test_below (λ k. found_at (scale_of (get_or scale_names k [])) k) 5 ≡ true
 unfolding scale_of

@@ -1,7 +1,7 @@
 -- Operands that are printed between commas are cut again.
 use Rattle.std.proofs.Common.{◌≡◌, ℕ, Bool, true, false, not, List, [], ◌∷◌, ◌++◌, map, refl, sym, ap, ◌∙◌, arith, append_assoc}
 use Rattle.std.specs.List.{slice_split, AllByRecursion}
-use Rattle.std.proofs.lemmas.Bool.{and_parts}
+use Rattle.std.proofs.lemmas.Bool.{and_parts, not-true}
 use Rattle.std.proofs.lemmas.List.{append-nil}
 use Rattle.std.proofs.lemmas.List.Elements.{All-from_recursion}
 use Rattle.std.proofs.lemmas.List.Splits.{slice_split_at, slice_split_none}
@@ -10,7 +10,7 @@ use Rattle.i9_text.proofs.WordCuts.{words_of-blank, words_of-first}
 use Rattle.i9_value.specs.Cut.{from}
 use Rattle.i9_statement.specs.Fields.{comma, is_comma, one_word, field_of, fields_by, fields_of, join_fields}
 use Rattle.i9_statement.specs.Statements.{fields_text}
-use Rattle.i9_value.proofs.Cutting.{not_true, is_free, stops, before-cut, from-cut, all_append}
+use Rattle.i9_value.proofs.Cutting.{is_free, stops, before-cut, from-cut, all_append}
 use Rattle.i9_value.proofs.ReadValues.{has_byte}
 use Rattle.i9_statement.proofs.Classes.{is_operand_byte, free_in, free_of_blanks, IsField}
 
@@ -36,7 +36,7 @@ pad_free false = refl
 -- a word and what stands behind it
 pub words_of-cut : (c : ℕ) (w t : List ℕ) → is_free is_blank (c ∷ w) ≡ true → stops is_blank t ≡ true → words_of ((c ∷ w) ++ t) ≡ (c ∷ w) ∷ words_of t
 words_of-cut c w t free stop =
-    let first = not_true (is_blank c) (and_parts (not (is_blank c)) _ free).0 in
+    let first = not-true (is_blank c) (and_parts (not (is_blank c)) _ free).0 in
     words_of-first ((c ∷ w) ++ t) 0 (omega arith) first
     ∙ ap (λ v. v ∷ words_of (from is_blank ((c ∷ w) ++ t))) (before-cut is_blank (c ∷ w) t free stop)
     ∙ ap (λ v. (c ∷ w) ∷ words_of v) (from-cut is_blank (c ∷ w) t free stop)
@@ -59,7 +59,7 @@ field_of-pad f q h = ap one_word (words_of-blank space (f ++ pad q) refl ∙ wor
 
 free_by_recursion : (p : ℕ → Bool) (w : List ℕ) → is_free p w ≡ true → AllByRecursion (λ b. p b ≡ false) w
 free_by_recursion p [] h = tt
-free_by_recursion p (b ∷ w) h = let parts = and_parts (not (p b)) (is_free p w) h in (not_true (p b) parts.0, free_by_recursion p w parts.1)
+free_by_recursion p (b ∷ w) h = let parts = and_parts (not (p b)) (is_free p w) h in (not-true (p b) parts.0, free_by_recursion p w parts.1)
 
 split_at_comma : (w t : List ℕ) → is_free is_comma w ≡ true → slice_split is_comma (w ++ comma ∷ t) ≡ w ∷ slice_split is_comma t
 split_at_comma w t free = slice_split_at is_comma w comma t (All-from_recursion (λ b. is_comma b ≡ false) w (free_by_recursion is_comma w free)) refl
@@ -98,6 +98,6 @@ fields_of-text ([] ∷ fs) q h = absurd (cc (h.0.some))
 fields_of-text ((c ∷ f) ∷ fs) q h =
     let j = join_first c f fs in
     let text = space ∷ join_fields ((c ∷ f) ∷ fs) ++ pad q in
-    let first = not_true (is_blank c) (and_parts (not (is_blank c)) _ (field_blanks (c ∷ f) h.0)).0 in
+    let first = not-true (is_blank c) (and_parts (not (is_blank c)) _ (field_blanks (c ∷ f) h.0)).0 in
     let e : words_of text ≡ words_of (c ∷ (j.0 ++ pad q)) = words_of-blank space (join_fields ((c ∷ f) ∷ fs) ++ pad q) refl ∙ ap (λ v. words_of (v ++ pad q)) j.1 in
     fields_by-some text c (j.0 ++ pad q) e first ∙ fields_cut (c ∷ f) fs q h

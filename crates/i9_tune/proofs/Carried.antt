@@ -1,6 +1,7 @@
 -- What instructions do in a state they do in another one, where their loads and stores have no byte in which the two
 -- differ.
-use Rattle.std.proofs.Common.{◌≡◌, ℕ, suc, ◌+◌, ◌%◌, ◌<◌, Bool, true, false, cond, ◌||◌, List, [], ◌∷◌, ◌++◌, length, Option, Some, None, refl, sym, ap, ◌∙◌, subst, inl, arith}
+use Rattle.std.proofs.Common.{◌≡◌, ℕ, suc, ◌+◌, ◌%◌, ◌<◌, Bool, true, false, cond, List, [], ◌∷◌, ◌++◌, length, Option, Some, None, refl, sym, ap, ◌∙◌, subst, inl, arith}
+use Rattle.std.proofs.lemmas.Bool.{or_from}
 use Rattle.std.specs.Prelude.{◌==◌}
 use Rattle.std.specs.Option.{is_some}
 use Rattle.i9_isa.specs.declared.size.Size.{Size}
@@ -29,10 +30,6 @@ use Rattle.i9_tune.proofs.Swaps.{after_deed, stepped_by, same_here, port_by, fat
 
 -- ---- a store beside the area leaves it
 
-both_false : (a b : Bool) → a ≡ false → b ≡ false → (a || b) ≡ false
-both_false false b p q = q
-both_false true b p q = absurd (cc p)
-
 not_put : (test : ℕ → Bool) (a : ℕ) (bs : List ℕ) (x : ℕ) → test x ≡ true → ((k : ℕ) → k < length bs → test (wrapped (a + k)) ≡ false) → is_put (upwards a bs) x ≡ false
 unfolding is_put
 not_put test a [] x h miss = refl
@@ -40,7 +37,7 @@ not_put test a (b ∷ bs) x h miss =
     let here : wrapped (a + 0) ≡ wrapped a = omega arith in
     let first : test (wrapped a) ≡ false = sym (ap test here) ∙ miss 0 (omega arith) in
     let later : (k : ℕ) → k < length bs → test (wrapped (a + 1 + k)) ≡ false = λ k l. (let e : wrapped (a + 1 + k) ≡ wrapped (a + suc k) = omega arith in ap test e ∙ miss (suc k) (omega (arith, l))) in
-    both_false (x == wrapped a) (is_put (upwards (a + 1) bs) x) (beside test x (wrapped a) (x == wrapped a) refl h first) (not_put test (a + 1) bs x h later)
+    or_from (x == wrapped a) (is_put (upwards (a + 1) bs) x) (beside test x (wrapped a) (x == wrapped a) refl h first) (not_put test (a + 1) bs x h later)
 
 moving_beside : (area : ℕ × ℕ) (d : Direction) (size : Size) (signed : Bool) (i : Inst) (s : State) (x : ℕ) → MissesBytes (data_of (moved_access d (address s i.ea) (byte_count size))) area → in_bytes area.0 area.1 x ≡ true
     → is_put (moving d size signed i s).writes x ≡ false

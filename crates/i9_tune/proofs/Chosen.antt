@@ -5,7 +5,7 @@ use Rattle.std.proofs.lemmas.Bool.{both_ways}
 use Rattle.i9_model.specs.declared.need.Need.{Need}
 use Rattle.i9_model.specs.Turns.{issue_turn, last_issue}
 use Rattle.i9_isa.specs.declared.inst.Inst.{Inst}
-use Rattle.i9_tune.specs.Greedy.{plain_need, turns_of, is_free, next_issue, AllFree, IsChosen, IsChosenAt}
+use Rattle.i9_tune.specs.Greedy.{plain_need, turns_of, is_free, next_issue, AllFree, IsChosen}
 
 -- the same with its turn
 pub record IsBest (taken xs : List Inst) (best least : ℕ) : Type 0 where

@@ -1,10 +1,10 @@
 -- Valid instructions that do not depend on each other are apart, and a greedy order keeps those that do in theirs.
-use Rattle.std.proofs.Common.{◌≡◌, ℕ, ◌+◌, ◌<◌, max, min, Bool, true, false, ◌&&◌, List, [], ◌∷◌, ◌++◌, length, take, slice_index_or, refl, sym, ap, ◌∙◌, subst, inl, inr, arith}
-use Rattle.std.proofs.lemmas.List.{take_more}
-use Rattle.std.specs.Prelude.{not, bit_and, bit_or}
+use Rattle.std.proofs.Common.{◌≡◌, ℕ, ◌<◌, max, min, Bool, true, false, ◌&&◌, List, [], ◌∷◌, ◌++◌, refl, sym, ap, ◌∙◌, subst, inl, inr, arith}
+use Rattle.i9_turns.proofs.Outside.{no_bit}
+use Rattle.std.specs.Prelude.{bit_and, bit_or}
 use Rattle.std.specs.Int.{bit_at, from_bool}
 use Rattle.std.specs.List.{AllByRecursion, list_any}
-use Rattle.std.proofs.lemmas.Bool.{cases_lt, or_parts, both_ways, eqb-true}
+use Rattle.std.proofs.lemmas.Bool.{cases_lt, or_parts, both_ways, eqb-true, not-false, not-true}
 use Rattle.std.proofs.lemmas.Nat.Bits.{bit_at_and, bit_at_or, bit_at-zero}
 use Rattle.i9_isa.specs.declared.inst.Inst.{Inst}
 use Rattle.i9_isa.specs.Resources.{is_read, is_written}
@@ -20,10 +20,6 @@ use Rattle.i9_tune.specs.Greedy.{plain_need, depends, IsGreedy, AreTunable}
 bit_of : (p : ℕ → Bool) (k : ℕ) → k < 33 → bit_at (set_of p) k ≡ from_bool (p k)
 bit_of p k h = set_bits 33 k p h
 
-no_bit : (b : Bool) → from_bool b ≡ 0 → b ≡ false
-no_bit false h = refl
-no_bit true h = absurd (cc h)
-
 -- where two sets have nothing in common, what is in one is not in the other
 nothing_common : (x y k : ℕ) → bit_and x y ≡ 0 → bit_at x k ≡ 1 → bit_at y k ≡ 0
 nothing_common x y k none one =
@@ -35,15 +31,11 @@ neither x y k h =
     let e : max (bit_at x k) (bit_at y k) ≡ 0 = sym (bit_at_or x y k) ∙ h in
     (omega (arith, e), omega (arith, e))
 
-unchanged : (b : Bool) → not b ≡ false → b ≡ true
-unchanged true h = refl
-unchanged false h = absurd (cc h)
-
 spares : (i j : Inst) → IsValid i → changes_value (plain_need i) (plain_need j) ≡ false → Spares i j
 spares i j valid h k w = elim (cases_lt k 33) [
   | inr high ↦ absurd (both_ways (is_written i k) (beyond_writes i valid k high) w)
   | inl low ↦
-      let none = eqb-true _ 0 (unchanged _ h) in
+      let none = eqb-true _ 0 (not-false _ h) in
       let one = bit_of (is_written i) k low ∙ ap from_bool w in
       let both = neither (set_of (is_read j)) (set_of (is_written j)) k (nothing_common (set_of (is_written i)) (bit_or (set_of (is_read j)) (set_of (is_written j))) k none one) in
       (no_bit (is_read j k) (sym (bit_of (is_read j) k low) ∙ both.0), no_bit (is_written j k) (sym (bit_of (is_written j) k low) ∙ both.1))
@@ -61,10 +53,6 @@ apart i j v w h =
     record { first = spares i j v q.0; second = spares j i w q.1; requests = requests (is_request_name i.op) (is_request_name j.op) p.1 }
 
 -- ---- a greedy order is one
-
-negated : (b : Bool) → not b ≡ true → b ≡ false
-negated false h = refl
-negated true h = absurd (cc h)
 
 all_apart : (before : List Inst) (x : Inst) → AreTunable before → IsValid x → list_any (λ (e : Inst). depends e x) before ≡ false → AllByRecursion (λ i. AreApart i x) before
 all_apart [] x ok valid h = tt
@@ -93,7 +81,7 @@ greedy_order taken left (x ∷ order) ok greedy =
       before,
       behind,
       greedy.2,
-      all_apart before x (front_of before x behind there) (one_of before x behind there).0 (negated _ greedy.3.free),
+      all_apart before x (front_of before x behind there) (one_of before x behind there).0 (not-true _ greedy.3.free),
       greedy_order (x ∷ taken) (before ++ behind) order (others_of before x behind there) greedy.4,
     )
 

@@ -4,7 +4,6 @@ use Rattle.std.specs.List.{remove}
 use Rattle.std.proofs.lemmas.List.{append_assoc, append-nil, reverse-append}
 use Rattle.i9_isa.specs.declared.inst.Inst.{Inst}
 use Rattle.i9_tune.specs.Greedy.{plain_need, turns_of, IsChosenAt, IsGreedy, AreTunable}
-use Rattle.std.specs.Prelude.{Bool, true, false, not}
 use Rattle.std.proofs.lemmas.List.Edits.{length-remove}
 use Rattle.i9_model.specs.declared.need.Need.{Need}
 use Rattle.i9_model.specs.Turns.{Pending, StandsFor, with_need}

@@ -1,10 +1,11 @@
 -- One more instruction before others.
-use Rattle.std.proofs.Common.{◌≡◌, ℕ, ◌+◌, ◌<◌, Bool, true, false, ◌||◌, ◌&&◌, min, max, List, [], ◌∷◌, ◌++◌, length, take, slice_index_or, refl, sym, ap, ◌∙◌, subst, arith}
+use Rattle.std.proofs.Common.{◌≡◌, ℕ, ◌+◌, ◌<◌, Bool, true, false, ◌||◌, ◌&&◌, max, List, [], ◌∷◌, ◌++◌, length, take, slice_index_or, refl, sym, ap, ◌∙◌, subst, arith}
+use Rattle.i9_model.proofs.KeptBits.{and_or}
 use Rattle.std.specs.Prelude.{◌==◌, not, bit_and, bit_or}
 use Rattle.std.specs.Int.{bit_at}
 use Rattle.std.proofs.lemmas.Bool.{both_ways, eqb-true, eq-eqb}
 use Rattle.std.proofs.lemmas.Nat.{and_comm, or_comm}
-use Rattle.std.proofs.lemmas.Nat.Bits.{bit_at_and, bit_at_or, bit_at-zero, same_from_bits}
+use Rattle.std.proofs.lemmas.Nat.Bits.{bit_at_or, bit_at-zero, same_from_bits}
 use Rattle.std.proofs.lemmas.List.{take_more}
 use Rattle.std.proofs.lemmas.List.Folds.{list_any-append}
 use Rattle.i9_isa.specs.declared.inst.Inst.{Inst}
@@ -18,17 +19,6 @@ use Rattle.i9_tune.specs.Greedy.{plain_need, depends, is_free}
 abbrev share : ℕ → ℕ → Bool
 share x y = not (bit_and x y == 0)
 
-over_both : (x y u : ℕ) → bit_and (bit_or x y) u ≡ bit_or (bit_and x u) (bit_and y u)
-over_both x y u = same_from_bits (bit_and (bit_or x y) u) (bit_or (bit_and x u) (bit_and y u)) at
-  where
-    both : (a b c : ℕ) → min (max a b) c ≡ max (min a c) (min b c)
-    both a b c = omega arith
-
-    at : (k : ℕ) → bit_at (bit_and (bit_or x y) u) k ≡ bit_at (bit_or (bit_and x u) (bit_and y u)) k
-    at k =
-        bit_at_and (bit_or x y) u k ∙ ap (λ (n : ℕ). min n (bit_at u k)) (bit_at_or x y k) ∙ both (bit_at x k) (bit_at y k) (bit_at u k)
-        ∙ sym (bit_at_or (bit_and x u) (bit_and y u) k ∙ ap (λ (n : ℕ). max n (bit_at (bit_and y u) k)) (bit_at_and x u k) ∙ ap (max (min (bit_at x k) (bit_at u k))) (bit_at_and y u k))
-
 first_zero : (a b : ℕ) → bit_or a b ≡ 0 → a ≡ 0
 first_zero a b h = same_from_bits a 0 (λ k.
     let none : max (bit_at a k) (bit_at b k) ≡ 0 = sym (bit_at_or a b k) ∙ ap (λ (n : ℕ). bit_at n k) h ∙ bit_at-zero k in
@@ -36,7 +26,7 @@ first_zero a b h = same_from_bits a 0 (λ k.
     zero ∙ sym (bit_at-zero k))
 
 share_or : (x y u : ℕ) → share (bit_or x y) u ≡ (share x u || share y u)
-share_or x y u = ap (λ (n : ℕ). not (n == 0)) (over_both x y u) ∙ by_tests (bit_and x u) (bit_and y u) (bit_and x u == 0) (bit_and y u == 0) refl refl
+share_or x y u = ap (λ (n : ℕ). not (n == 0)) (and_or x y u) ∙ by_tests (bit_and x u) (bit_and y u) (bit_and x u == 0) (bit_and y u == 0) refl refl
   where
     left : (a b : ℕ) (p : Bool) → (a == 0) ≡ false → (bit_or a b == 0) ≡ p → not (bit_or a b == 0) ≡ true
     left a b true e f = absurd (both_ways (a == 0) e (eq-eqb a 0 (first_zero a b (eqb-true (bit_or a b) 0 f))))

@@ -1,5 +1,6 @@
 -- A result sees the words that its name reads, and of the controls bit 12 and the condition code where it is read.
 use Rattle.std.proofs.Common.{◌≡◌, ℕ, ◌+◌, ◌/◌, ◌%◌, ◌^◌, ◌<◌, Bool, true, false, cond, List, [], ◌∷◌, Option, Some, None, refl, sym, ap, ◌∙◌, subst, arith, ℤ}
+use Rattle.std.proofs.lemmas.Bool.{ltb-true}
 use Rattle.std.specs.Prelude.{◌==◌, nat_lt, nat_le, not, bit_or, bit_and, slice_index, ◌+ℤ◌, ◌-ℤ◌, ◌*ℤ◌, pos, int_lt}
 use Rattle.std.specs.Int.RustNames.{int_div, int_rem}
 use Rattle.i9_isa.specs.declared.op.Op.{Op}
@@ -9,7 +10,6 @@ use Rattle.i9_isa.specs.Table.{row_of}
 use Rattle.i9_isa.specs.Words.{bit, field}
 use Rattle.i9_isa.specs.Resources.{reads_code, writes_code}
 use Rattle.i9_model.specs.declared.arith.Arith.TheVariants.{Overflow, ZeroDivide}
-use Rattle.std.proofs.lemmas.Bool.Decides.{nat_tests}
 use Rattle.i9_model.specs.Writes.{wrapped}
 use Rattle.i9_model.specs.Operands.{reduced}
 use Rattle.i9_model.specs.Numbers.{signed, fits, modulo, complement, highest_one, bit_word}
@@ -29,14 +29,11 @@ reads_used : (op : Op) (a b : List ℕ) (c ac : ℕ) → results_by op (all_used
 reads_used Addi a b c ac = refl
 reads_used _ a b c ac = refl
 
-below : (k n : ℕ) → nat_lt k n ≡ true → k < n
-below k n t = grind (arith, nat_tests, t)
-
 used_same : (n k w v : ℕ) → (k < n → w ≡ v) → used n k w ≡ used n k v
 used_same n k w v same = by_test (nat_lt k n) refl
   where
     by_test : (b : Bool) → nat_lt k n ≡ b → cond b w 0 ≡ cond b v 0
-    by_test true t = same (below k n t)
+    by_test true t = same (ltb-true k n t)
     by_test false t = refl
 
 four : (p q r s v w x y : ℕ) → p ≡ v → q ≡ w → r ≡ x → s ≡ y → p ∷ q ∷ r ∷ s ∷ [] ≡ v ∷ w ∷ x ∷ y ∷ []

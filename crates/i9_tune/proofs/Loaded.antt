@@ -13,12 +13,9 @@ use Rattle.i9_model.specs.Image.{pairs_of, pairs_of_part}
 use Rattle.i9_model.proofs.LastPuts.{last_append}
 use Rattle.i9_hex.specs.declared.segments.Segment.{Segment}
 use Rattle.i9_hex.specs.Shown.{part_of}
-use Rattle.i9_model.proofs.Upwards.{or_none, get_later}
+use Rattle.i9_model.proofs.Upwards.{or_none, get_later, above, before_first}
 
--- how far an address lies above another one, and the last place of so many that lies there
-abbrev above : ℕ → ℕ → ℕ
-above a x = (x + (2 ^ 32 - a % 2 ^ 32)) % 2 ^ 32
-
+-- the last place of so many that lies so far above an address
 abbrev last_place : ℕ → ℕ → ℕ
 last_place n k = k + (n - (k + 1)) / 2 ^ 32 * 2 ^ 32
 
@@ -26,9 +23,6 @@ next_place : (a x n : ℕ) → x < 2 ^ 32 → x ≢ wrapped a → last_place (n 
 next_place a x n small other =
     let e : above a x ≡ above (a + 1) x + 1 = omega arith in
     omega (arith, e)
-
-before_first : (a : ℕ) → above (a + 1) (wrapped a) ≡ 2 ^ 32 - 1
-before_first a = omega arith
 
 -- the first address comes again or not
 at_first : (a b : ℕ) (bs : List ℕ) (x : ℕ) → x ≡ wrapped a → or_earlier (slice_get bs (last_place (length bs) (above (a + 1) x))) (Some b) ≡ slice_get (b ∷ bs) (last_place (length bs + 1) (above a x))

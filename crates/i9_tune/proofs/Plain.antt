@@ -1,5 +1,6 @@
 -- What instructions of a block need.
 use Rattle.std.proofs.Common.{◌≡◌, ℕ, ◌+◌, ◌*◌, ◌<◌, ◌≤◌, ◌^◌, List, [], ◌∷◌, length, take, reverse, slice_index_or, sym, ap, ◌∙◌, subst, arith}
+use Rattle.i9_issue.proofs.Early.{each-done}
 use Rattle.std.proofs.lemmas.List.{take_more, reverse-append}
 use Rattle.std.specs.List.{AllByRecursion}
 use Rattle.i9_model.specs.declared.need.Need.{Need}
@@ -17,10 +18,6 @@ all_early : (m limit : ℕ) (rs : List TimedNeed) → m < limit → AllByRecursi
 all_early m limit [] lt h = tt
 all_early m limit (r ∷ rs) lt h = (let d = h.0 in omega (arith, d, lt), all_early m limit rs lt h.1)
 
-all_later : (m k : ℕ) (rs : List TimedNeed) → m ≤ k → AllByRecursion (λ r. r.done ≤ m) rs → AllByRecursion (λ r. r.done ≤ k) rs
-all_later m k [] le h = tt
-all_later m k (r ∷ rs) le h = (let d = h.0 in omega (arith, d, le), all_later m k rs le h.1)
-
 -- where all is done early, a need may still be placed
 pub early_by : (p : Pending) (n : Need) (m : ℕ) → IsAllDone p m → m < 2 ^ 62 → n.not_before ≡ 0 → n.cost ≤ 248 → IsEarly p n
 early_by p n m done lt waited cost =
@@ -28,7 +25,7 @@ early_by p n m done lt waited cost =
     record { last = omega (arith, last, lt); done = all_early m (2 ^ 62) p.records lt done.done; waited = omega (arith, waited); cost = omega (arith, cost) }
 
 pub done_later : (p : Pending) (m k : ℕ) → m ≤ k → IsAllDone p m → IsAllDone p k
-done_later p m k le done = let last = done.in_order in record { in_order = omega (arith, last, le); done = all_later m k p.records le done.done }
+done_later p m k le done = let last = done.in_order in record { in_order = omega (arith, last, le); done = each-done m k p.records le done.done }
 
 pub none_done : (p : Pending) → StandsFor p [] → IsAllDone p 1
 none_done p stands = subst (λ (q : Pending). IsAllDone q 1) (sym stands.pending) (record { in_order = omega arith; done = tt })

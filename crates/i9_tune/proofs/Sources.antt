@@ -1,7 +1,7 @@
 -- What an allowed instruction does depends on what it reads alone.
 use Rattle.std.proofs.Common.{◌≡◌, ℕ, ◌+◌, ◌*◌, ◌%◌, ◌^◌, ◌<◌, Bool, true, false, cond, ◌||◌, ◌&&◌, List, [], ◌∷◌, ◌++◌, Option, Some, None, refl, sym, ap, ◌∙◌, arith}
-use Rattle.std.specs.Prelude.{◌==◌, nat_le, not, replicate}
-use Rattle.std.proofs.lemmas.Bool.{or_left, or_right, or_parts, both_ways, eq-eqb, cond-true}
+use Rattle.std.specs.Prelude.{◌==◌, nat_le, replicate}
+use Rattle.std.proofs.lemmas.Bool.{or_left, or_right, or_parts, both_ways, eq-eqb, cond-true, and_from, and_parts, not-true}
 use Rattle.std.proofs.lemmas.Bool.Decides.{nat_tests}
 use Rattle.i9_isa.specs.declared.op.Op.{Op}
 use Rattle.i9_isa.specs.declared.op.Op.TheVariants.{Addi, Lda}
@@ -76,22 +76,17 @@ reads_b i k h = or_left _ _ (or_left _ _ (or_left _ _ (or_right _ _ h)))
 reads_c : (i : Inst) (k : ℕ) → is_in_operand i.c (words_read (row_of i.op).c) k ≡ true → is_register_read i k ≡ true
 reads_c i k h = or_left _ _ (or_left _ _ (or_right _ _ h))
 
-also : (b c : Bool) → b ≡ true → c ≡ true → (b && c) ≡ true
-also true true h k = refl
-also false c h k = absurd (cc h)
-also true false h k = absurd (cc k)
-
 reads_base : (i : Inst) → has_base i.ea.mode ≡ true → is_register_read i i.ea.base ≡ true
-reads_base i h = or_left _ _ (or_right _ _ (also _ _ h (eq-eqb i.ea.base i.ea.base refl)))
+reads_base i h = or_left _ _ (or_right _ _ (and_from _ _ h (eq-eqb i.ea.base i.ea.base refl)))
 
 reads_index : (i : Inst) → has_index i.ea.mode ≡ true → is_register_read i i.ea.index ≡ true
-reads_index i h = or_right _ _ (also _ _ h (eq-eqb i.ea.index i.ea.index refl))
+reads_index i h = or_right _ _ (and_from _ _ h (eq-eqb i.ea.index i.ea.index refl))
 
 pub register_is_read : (i : Inst) (k : ℕ) → is_register_read i k ≡ true → is_read i k ≡ true
 register_is_read i k h = or_left _ _ h
 
 pub code_is_read : (i : Inst) → reads_code i.op ≡ true → is_read i CONDITION_CODE ≡ true
-code_is_read i h = or_right _ _ (also _ _ h refl)
+code_is_read i h = or_right _ _ (and_from _ _ h refl)
 
 -- ---- sources
 
@@ -147,22 +142,13 @@ pub record IsAllowed (i : Inst) : Type 0 where
   pub c : is_special i.c ≡ false
   pub own : is_relative i.ea.mode ≡ false
 
-both : (p q : Bool) → (p && q) ≡ true → (p ≡ true) × (q ≡ true)
-both true true h = (refl, refl)
-both true false h = absurd (cc h)
-both false q h = absurd (cc h)
-
-negated : (p : Bool) → not p ≡ true → p ≡ false
-negated false h = refl
-negated true h = absurd (cc h)
-
 pub allowed_parts : (i : Inst) → is_allowed i ≡ true → IsAllowed i
 allowed_parts i h =
-    let p = both _ _ h in
-    let q = both _ _ p.0 in
-    let u = or_parts _ _ (negated _ q.1) in
+    let p = and_parts _ _ h in
+    let q = and_parts _ _ p.0 in
+    let u = or_parts _ _ (not-true _ q.1) in
     let v = or_parts _ _ u.0 in
-    record { name = q.0; a = v.0; b = v.1; c = u.1; own = negated _ p.1 }
+    record { name = q.0; a = v.0; b = v.1; c = u.1; own = not-true _ p.1 }
 
 pub address_same : (i : Inst) (s t : State) → IsAllowed i → Agree i s t → address s i.ea ≡ address t i.ea
 address_same i s t ok same =

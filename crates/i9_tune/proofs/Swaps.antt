@@ -40,7 +40,7 @@ use Rattle.i9_model.specs.Access.{Access, NoAccess, Reads, access_by, access_of,
 use Rattle.i9_model.specs.Standing.{raised_in, later_fault}
 use Rattle.i9_model.specs.Step.{Action, following, action_of, moved, acted, counted}
 use Rattle.i9_model.specs.Run.{exit_in}
-use Rattle.i9_model.proofs.Stored.{written-last}
+use Rattle.i9_model.proofs.Stored.{written-last, with_none}
 use Rattle.i9_turns.proofs.MaskLaws.{IsOutside, sets_beside}
 use Rattle.i9_turns.proofs.CodeLaws.{code_beside}
 use Rattle.i9_model.proofs.FrameLaws.{none_wrote}
@@ -149,10 +149,6 @@ load_request i s a n ok reads = by_transfer (transfer_of i.op) refl
 quiet_other : (a b : Bool) → (a && b) ≡ false → b ≡ true → a ≡ false
 quiet_other false b h k = refl
 quiet_other true b h k = absurd (both_ways b h k)
-
-with_none : (m : Memory) → with_writes m [] ≡ m
-unfolding written
-with_none m = refl
 
 -- the deed writes nothing, and makes nothing soft
 pub record IsQuiet (d : Deed) : Type 0 where

@@ -1,7 +1,7 @@
 -- A text that is cut where it was joined gives its parts.
 use Rattle.std.proofs.Common.{◌≡◌, ℕ, Bool, true, false, not, List, [], ◌∷◌, ◌++◌, length, take, drop, Some, refl, ap, ◌∙◌, arith}
 use Rattle.std.specs.List.{position_or_len, list_all}
-use Rattle.std.proofs.lemmas.Bool.{and_parts}
+use Rattle.std.proofs.lemmas.Bool.{and_parts, not-true}
 use Rattle.std.proofs.lemmas.List.Folds.{list_all-append}
 use Rattle.std.proofs.Math.Seq.{take-append_seam, drop-append_seam}
 use Rattle.i9_value.specs.Cut.{before, from, is_byte, closed}
@@ -15,17 +15,13 @@ abbrev pub stops : (ℕ → Bool) → List ℕ → Bool
 stops p [] = true
 stops p (b ∷ t) = p b
 
-pub not_true : (b : Bool) → not b ≡ true → b ≡ false
-not_true true h = absurd cc
-not_true false h = refl
-
 pub cut_place : (p : ℕ → Bool) (w t : List ℕ) → is_free p w ≡ true → stops p t ≡ true → position_or_len p (w ++ t) ≡ length w
 cut_place p [] [] free stop = refl
 cut_place p [] (b ∷ t) free stop = rw stop refl
 cut_place p (b ∷ w) t free stop =
     let h = and_parts (not (p b)) (list_all (λ x. not (p x)) w) free in
     let rest = cut_place p w t h.1 stop in
-    rw (not_true (p b) h.0) (omega (arith, rest))
+    rw (not-true (p b) h.0) (omega (arith, rest))
 
 pub before-cut : (p : ℕ → Bool) (w t : List ℕ) → is_free p w ≡ true → stops p t ≡ true → before p (w ++ t) ≡ w
 before-cut p w t free stop = ap (λ n. take n (w ++ t)) (cut_place p w t free stop) ∙ take-append_seam w t

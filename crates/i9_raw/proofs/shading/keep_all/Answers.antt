@@ -1,8 +1,7 @@
-use Rattle.std.proofs.Common.{[], ◌++◌, subst, sym}
+use Rattle.std.proofs.Common.{[]}
 use Rattle.i9_course.specs.Course.{move_writes}
 use Rattle.i9_processor.specs.Effect.{move_in, writes_in}
 use Rattle.i9_processor.specs.State.{state_of, cache_of, size_of, bytes_of}
-use Rattle.i9_shade.specs.Shade.{Piece}
 use Rattle.i9_raw.proofs.Pieces.{adds_both, hides_of}
 use Rattle.i9_raw.proofs.shading.keep_all.Goals as goal
 

@@ -1,4 +1,4 @@
-use Rattle.std.proofs.Common.{◌≡◌, ◌≤◌, length, take, reverse}
+use Rattle.std.proofs.Common.{◌≡◌, take, reverse}
 use Rattle.i9_processor.specs.State.{cache_of, bytes_of}
 use Rattle.i9_raw.specs.Adding.{under}
 use Rattle.i9_raw.proofs.shading.keep_held.Given as goal

@@ -1,4 +1,4 @@
-use Rattle.std.proofs.Common.{ℕ, List, [], subst, sym, ap, ◌∙◌, arith, reverse, length}
+use Rattle.std.proofs.Common.{List, [], subst, sym, arith, reverse, length}
 use Rattle.i9_course.specs.Course.{move_writes, all_writes}
 use Rattle.i9_processor.specs.declared.effect.Move.{Move}
 use Rattle.i9_processor.specs.Effect.{move_in}

@@ -1,4 +1,4 @@
-use Rattle.std.proofs.Common.{ℕ, ◌^◌, ◌<◌, ◌++◌, ◌∷◌, [], List, Option, sym, subst, arith}
+use Rattle.std.proofs.Common.{ℕ, ◌^◌, ◌<◌, ◌∷◌, [], List, Option, sym, subst, arith}
 use Rattle.i9_processor.specs.Effect.{one_in}
 use Rattle.i9_processor.specs.State.{bytes_of}
 use Rattle.i9_shade.specs.Shade.{Piece}

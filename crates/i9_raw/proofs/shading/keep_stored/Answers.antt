@@ -1,4 +1,3 @@
-use Rattle.std.proofs.Common.{◌+◌, ◌++◌}
 use Rattle.i9_processor.specs.Effect.{run_in, one_in, requests_in}
 use Rattle.i9_processor.specs.State.{bytes_of}
 use Rattle.i9_raw.proofs.Pieces.{adds_both}
