@@ -20,7 +20,7 @@ use Rattle.i9_value.specs.declared.values.Value.TheVariants.{Number}
 use Rattle.i9_value.specs.Cut.{before, from, is_byte}
 use Rattle.i9_value.specs.Noted.{fine, least}
 use Rattle.i9_value.specs.Values.{Names, is_name_byte, value_of}
-use Rattle.i9_value.proofs.Cutting.{is_free, free_by, before-cut, from-cut, all_append, all_by}
+use Rattle.i9_value.proofs.Cutting.{is_free, before-cut, from-cut, all_append, all_by}
 use Rattle.i9_value.proofs.ReadValues.{has_byte-some, decimal_some, decimal_bytes, value_of-decimal}
 use Rattle.i9_statement.specs.Addresses.{bang, opens, address_behind, address_of, base_of, index_of, valued, front_of, with_base}
 use Rattle.i9_statement.specs.Fields.{fields_of, join_fields, comma}
@@ -29,7 +29,7 @@ use Rattle.i9_statement.specs.Mnemonics.{mnemonic, op_named, named_by}
 use Rattle.i9_statement.specs.Operands.{operand_of}
 use Rattle.i9_statement.specs.Statements.{open_brace, fields_text, spare_of, statement_of, joined, with_spare}
 use Rattle.i9_statement.proofs.Classes.{is_operand_byte, apart_by, free_in, IsField}
-use Rattle.i9_statement.proofs.ReadAddresses.{ea}
+use Rattle.i9_statement.proofs.ReadAddresses.{ea, free_of_opens}
 use Rattle.i9_statement.proofs.ReadFields.{fields_of-text}
 use Rattle.i9_statement.proofs.StatementBytes.{is_statement_byte, operand_statement, low_statement}
 use Rattle.i9_asm.specs.Lines.{Instruction, Labelled, code_of, code_len, without_comment, labelled, item_by, item_of, label_of}
@@ -67,15 +67,11 @@ none_from p w free = ap (from p) (sym (append-nil w)) ∙ from-cut p w [] free r
 abbrev pub number_address : ℕ → Ea
 number_address n = ea (cond (ltb n 4096) Offset Disp) 0 0 0 n
 
-opens_free : (w : List ℕ) → list_all is_name_byte w ≡ true → is_free opens w ≡ true
-opens_free w h =
-    free_by is_name_byte opens (λ b in_q. rw (apart_by is_name_byte 40 b refl in_q, apart_by is_name_byte 91 b refl in_q) refl) w h
-
 address_number : (names : Names) (w : List ℕ) (n : ℕ) → IsNumber w n → address_of names w ≡ fine (number_address n)
 unfolding address_of address_behind base_of index_of
 address_number names [] n h = absurd (omega (arith, h.some))
 address_number names (c ∷ w) n h =
-    let free = opens_free (c ∷ w) h.bytes in
+    let free = free_of_opens (c ∷ w) h.bytes in
     rw (apart_by is_name_byte bang c refl (and_parts (is_name_byte c) _ h.bytes).0)
     (ap (λ x. with_base false (front_of names x) (base_of (from opens (c ∷ w)))) (whole_before opens (c ∷ w) free)
     ∙ ap (λ x. with_base false (front_of names (c ∷ w)) (base_of x)) (none_from opens (c ∷ w) free)

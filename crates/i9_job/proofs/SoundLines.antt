@@ -1,5 +1,6 @@
 -- Lines none of which has a fault are a source that assembles; that none has one is a test that computes.
 use Rattle.std.proofs.Common.{◌≡◌, ℕ, ◌+◌, Bool, true, not, ◌&&◌, List, [], ◌∷◌, ◌++◌, Option, Some, None, refl, sym, ap, ◌∙◌, inl, inr}
+use Rattle.i9_asm.proofs.TakenLines.{begun_total}
 use Rattle.std.specs.Prelude.{is_some}
 use Rattle.std.specs.Option.{option_map}
 use Rattle.std.proofs.lemmas.Bool.{and_parts}
@@ -10,7 +11,7 @@ use Rattle.i9_value.specs.Noted.{kind_of}
 use Rattle.i9_value.specs.Values.{Names}
 use Rattle.i9_asm.specs.Lines.{item_of, label_of}
 use Rattle.i9_asm.specs.Places.{Place, start_place, past_label, past_line, past_lines, size_of, moved_to, all_names}
-use Rattle.i9_asm.specs.Source.{Source, start_source, labelled_source, begun, line_fault, fault_of, Assembles}
+use Rattle.i9_asm.specs.Source.{Source, start_source, labelled_source, line_fault, fault_of, Assembles}
 use Rattle.i9_asm.specs.Laws.{IsAssembly}
 use Rattle.i9_asm.proofs.SomeAnswer.{some_answer}
 
@@ -56,10 +57,6 @@ first_sound : (names : Names) (s : Source) (line : List ℕ) (lines : List (List
 unfolding are_sound line_fault
 first_sound names s line lines h =
     none_by (line_fault names s line) (and_parts (not (is_some (line_fault names s line))) _ h).0
-
-begun_total : (moved : Option ℕ) (s : Source) → (begun moved s).total ≡ s.total
-begun_total None s = refl
-begun_total (Some a) s = refl
 
 rest_sound : (names : Names) (s t : Source) (line : List ℕ) (lines : List (List ℕ))
     → Assembles names s line t → are_sound names s.place s.total (line ∷ lines) ≡ true → are_sound names t.place t.total lines ≡ true

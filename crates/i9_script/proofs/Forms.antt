@@ -1,5 +1,6 @@
 -- The functions that read the words of a line answer the forms, both ways.
-use Rattle.std.proofs.Common.{◌≡◌, ℕ, cond, Bool, true, false, ◌||◌, List, [], ◌∷◌, Option, Some, None, Result, Ok, Err, refl, sym, ap, subst, inl, inr, codes}
+use Rattle.std.proofs.Common.{◌≡◌, ℕ, cond, Bool, true, false, ◌||◌, List, [], ◌∷◌, Option, Some, None, Result, Ok, Err, refl, sym, subst, inl, inr, codes}
+use Rattle.i9_replay.proofs.EventForms.{same_some, ok_or_ok}
 use Rattle.std.specs.Option.{option_and_then, option_map, ok_or}
 use Rattle.std.specs.Str.{bytes_eq}
 use Rattle.std.proofs.lemmas.Bool.{cases_Bool}
@@ -10,16 +11,6 @@ use Rattle.i9_script.specs.ScriptText.{IsCommand, is_turn, is_until, is_regs, is
 use Rattle.i9_script.specs.Lines.{bare_of, number_of, place_of, turn_of, until_of, piece_of, mem_of, rawmem_of, back_of, last_of, who_of, command_of}
 use Rattle.i9_script.specs.declared.command.Command.{Command}
 use Rattle.i9_script.specs.declared.command.Command.TheVariants.{Turn, Until, Regs, Raw, Held, Mem, RawMem, Back, Last, Who}
-
-same_some : {A : Type 0} (x y : A) → ◌≡◌ {A = Option A} (Some x) (Some y) → x ≡ y
-same_some x y h = cc
-
-same_ok : {A : Type 0} (x y : A) → ◌≡◌ {A = Result A ℕ} (Ok x) (Ok y) → x ≡ y
-same_ok x y h = cc
-
-ok_or_ok : {A : Type 0} (o : Option A) (k : ℕ) (x : A) → ok_or o k ≡ Ok x → o ≡ Some x
-ok_or_ok (Some y) k x h = ap Some (same_ok y x h)
-ok_or_ok None k x h = absurd cc
 
 -- ---- what is read is what the words say
 
