@@ -70,9 +70,9 @@ IsInTime g h (Some f) wait = Unit {0}
 
 -- Contents stand for the first items of the run of what is given, its records and the fences between them, with this
 -- end of it answered, if any: the state is the one after them but for bytes that are not compared; there are as many
--- sets as are asked for, or as the PRCB asks for, and the frames in them and the memory behind, with all that waits, are
--- those of the run; what lands late is as the course of the items has it at the turn, which is at most that of what lies
--- ahead as long as no end was answered; and what stood under an open barrier's writes is kept.
+-- sets as are asked for, or as the PRCB asks for, and the frames in them and the memory behind, with all that waits,
+-- are those of the run; what lands late is as the course of the items has it at the turn, which is at most that of what
+-- lies ahead as long as no end was answered; and what stood under an open barrier's writes is kept.
 pub record Stand (g : Given) (h : List Item) (end : Option Finish) (k : Contents) : Type 0 where
   pub past : IsCourse g h
   pub state : AreAlike (state_after g (records_of h)) k.at.state

@@ -27,9 +27,14 @@ use Rattle.i9_machine.specs.Step.{TellsRecord, LeavesFewer, IsStep, Did, Steps, 
 use Rattle.i9_machine.proofs.Arriving.{kept_planned, same_planned}
 use Rattle.i9_machine.proofs.NewPages.{none_then}
 use Rattle.i9_machine.proofs.Issuing.{step_covers, step_acts}
-use Rattle.i9_machine.proofs.Stepping.{no_memory, did_steps, step_after, step_lines, step_needs, fewer_by, did_fewer, did_within, step_room, plan_is_behind}
+use Rattle.i9_machine.proofs.Stepping.{no_memory, did_steps, step_after, step_lines, step_needs, fewer_by, did_fewer, did_within, step_within, step_room, plan_is_behind}
 use Rattle.i9_machine.proofs.Turning.{waiting_cost, paced_early}
 use Rattle.i9_machine.proofs.machine.Machine.perform.Goals as goal
+
+pub go_on-requires : goal.go_on-requires
+go_on-requires c = λ reaches.
+    let step = c.requires.step.is in
+    step_within (situation c.args.self.now) c.args.plan.now step.kind step.is_next (sym step.reaches ∙ reaches)
 
 pub act-answer-requires-clause-ready : goal.act-answer-requires-clause-ready
 act-answer-requires-clause-ready c =
