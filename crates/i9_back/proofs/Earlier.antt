@@ -1,5 +1,6 @@
 -- Each number of instructions of a run has one earlier state.
 use Rattle.std.proofs.Common.{◌≡◌, ℕ, ◌+◌, ◌<◌, ◌≤◌, List, [], ◌∷◌, ◌++◌, Some, refl, sym, ap, ◌∙◌, subst, ◌⊎◌, inl, inr, arith}
+use Rattle.i9_past.proofs.Ends.{boot_count}
 use Rattle.i9_model.specs.Run.{Given, Kind, Instruction, Faulted, Entered, Interrupted, Reached, Record, counts_of, state_after, Finish}
 use Rattle.i9_model.specs.State.{boot, started}
 use Rattle.i9_past.proofs.Left.{counts_after}
@@ -25,10 +26,6 @@ one_or_none (Faulted inst fault) = inl refl
 one_or_none (Entered e) = inr refl
 one_or_none (Interrupted c e) = inr refl
 one_or_none (Reached e u) = inr refl
-
-boot_count : (image : List (ℕ × ℕ)) → (boot image).count ≡ 0
-unfolding boot started
-boot_count image = refl
 
 -- no records count none
 pub none_done : (g : Given) → (state_after g []).count ≡ 0

@@ -14,7 +14,7 @@ use Rattle.i9_model.specs.PrintedText.{out_text, spaced, spaced_byte, spaced_reg
 use Rattle.i9_model.specs.declared.event.Event.{Event}
 use Rattle.i9_model.specs.Events.{journal_text}
 use Rattle.i9_replay.proofs.ReadBack.{journal_plain}
-use Rattle.i9_replay.proofs.Replay.{plain_words, plain_drained, plain_bytes}
+use Rattle.i9_replay.proofs.Replay.{plain_words, plain_drained, plain_bytes, plain_registers}
 use Rattle.i9_lines.specs.Lines.{refused_line, elf_line, ending, generated_line}
 use Rattle.i9_model.specs.declared.frame.Frame.{Frame}
 use Rattle.i9_lines.specs.PlaceText.{turn_text, held_text, raw_bytes_text, who_text}
@@ -93,18 +93,6 @@ line-generated number count events f =
     let counted = plain_number (codes "#gen " ++ decimal number ++ codes " ") count begun in
     let taken = plain_number (codes "#gen " ++ decimal number ++ codes " " ++ decimal count ++ codes " ") events counted in
     after_plain (codes "#gen " ++ decimal number ++ codes " " ++ decimal count ++ codes " " ++ decimal events ++ codes " ") (ending f) taken (line-ending f)
-
--- a register, or eight dashes
-plain_register : (v : View) (r : ℕ) → is_plain (spaced_register v r) ≡ true
-plain_register v r = by_mark (bit v.marks r)
-  where
-    by_mark : (t : Bool) → is_plain (cond t (codes " --------") (spaced (slice_index v.regs r))) ≡ true
-    by_mark true = refl
-    by_mark false = plain-append (codes " ") (word_text (slice_index v.regs r)) refl (plain-word_text (slice_index v.regs r))
-
-plain_registers : (v : View) (rs : List ℕ) → is_plain (flat_map (spaced_register v) rs) ≡ true
-plain_registers v [] = refl
-plain_registers v (r ∷ rs) = plain-append (spaced_register v r) (flat_map (spaced_register v) rs) (plain_register v r) (plain_registers v rs)
 
 line-registers : (label : List ℕ) (v : View) (first : ℕ) → is_plain label ≡ true → IsLine (registers_text label v first)
 unfolding registers_text

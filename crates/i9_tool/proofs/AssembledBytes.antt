@@ -1,5 +1,6 @@
 -- What a source assembles to are bytes.
 use Rattle.std.proofs.Common.{◌≡◌, ℕ, zero, suc, ◌+◌, ◌<◌, Bool, true, false, not, cond, eqb, List, [], ◌∷◌, ◌++◌, take, drop, flat_map, Option, Some, None, refl, sym, subst, arith}
+use Rattle.i9_asm.proofs.ReadListing.{low_take, low_drop}
 use Rattle.std.specs.Prelude.{IfSome, codes}
 use Rattle.std.specs.List.{AllByRecursion, list_all, position_or_len}
 use Rattle.std.specs.Str.{bytes_eq}
@@ -28,16 +29,6 @@ use Rattle.i9_tool.specs.FileKinds.{AreBytes}
 pub low_append : (xs ys : List ℕ) → IsLow xs → IsLow ys → IsLow (xs ++ ys)
 low_append [] ys h k = k
 low_append (x ∷ xs) ys h k = (h.0, low_append xs ys h.1 k)
-
-pub low_take : (n : ℕ) (xs : List ℕ) → IsLow xs → IsLow (take n xs)
-low_take zero xs h = tt
-low_take (suc n) [] h = tt
-low_take (suc n) (x ∷ xs) h = (h.0, low_take n xs h.1)
-
-pub low_drop : (n : ℕ) (xs : List ℕ) → IsLow xs → IsLow (drop n xs)
-low_drop zero xs h = h
-low_drop (suc n) [] h = tt
-low_drop (suc n) (x ∷ xs) h = low_drop n xs h.1
 
 low_each : {X : Type 0} (bytes : X → List ℕ) (xs : List X) → ((x : X) → IsLow (bytes x)) → IsLow (flat_map bytes xs)
 low_each bytes [] h = tt

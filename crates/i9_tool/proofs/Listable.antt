@@ -16,7 +16,8 @@ use Rattle.i9_dis.proofs.Listed.{some_listing}
 use Rattle.i9_tool.specs.declared.refusal.FileKind.TheVariants.{Image}
 use Rattle.i9_tool.specs.FileKinds.{AreBytes, octets, IsAccepted}
 use Rattle.i9_tool.specs.Outcome.{DisGives, listed}
-use Rattle.i9_tool.proofs.AssembledBytes.{low_append, low_take, low_drop}
+use Rattle.i9_asm.proofs.ReadListing.{low_take, low_drop}
+use Rattle.i9_tool.proofs.AssembledBytes.{low_append}
 
 -- ---- the pairs of an accepted image stand in the address space
 

@@ -1,5 +1,6 @@
 -- A script prints one text from a place on, and leads to one place.
 use Rattle.std.proofs.Common.{◌≡◌, ℕ, ◌+◌, ◌<◌, ◌≤◌, true, false, List, [], ◌∷◌, ◌++◌, length, drop, Option, Some, None, refl, sym, ap, ◌∙◌, subst, ◌⊎◌, inl, inr, arith}
+use Rattle.i9_past.proofs.Unique.{does_is}
 use Rattle.i9_model.specs.Late.{turns as late_turns}
 use Rattle.i9_model.specs.PrintedText.{text_of, lines_of}
 use Rattle.i9_model.specs.Run.{Given, Record, Does, Finish}
@@ -15,9 +16,6 @@ use Rattle.i9_debug.specs.Session.{Place, at, ended, turn_ahead, comes_to, NoneC
 use Rattle.i9_debug.proofs.Places.{record_issues}
 
 -- ---- records behind items
-
-does_is : (r q : Record) → Does r ≡ Does q → r ≡ q
-does_is r q e = cc
 
 -- as many records behind the same items are the same
 same_length : (g : Given) (h : List Item) (rs qs : List Record) → length rs ≡ length qs → IsCourse g (steps_on rs h) → IsCourse g (steps_on qs h) → rs ≡ qs
