@@ -27,26 +27,21 @@ const LONG: u32 = 8;
 /// no answer.
 #[derive(Drop)]
 pub struct DecodeCache {
-    known: Vec<Option<Kept>>,
-    last: Kept,
+    known: Vec<Kept>,
+    at: usize,
     moving: Option<Moving>,
 }
 
 impl DecodeCache {
-    /// A decode cache without room: each word is decoded.
-    pub fn none(alloc: Global) -> DecodeCache {
-        DecodeCache {
-            known: Vec::new(alloc),
-            last: Kept::first(),
-            moving: None,
-        }
-    }
-
-    /// A decode cache with room for the instructions of a loop.
+    /// A decode cache with room for the instructions of a loop. Each place has a branch to itself at first.
     pub fn new(alloc: Global) -> Result<DecodeCache, NoMemory> {
-        let mut decodes = DecodeCache::none(alloc);
-        match decodes.known.resize(PLACES, None) {
-            Ok(()) => Ok(decodes),
+        let mut known = Vec::new(alloc);
+        match known.resize(PLACES, Kept::first()) {
+            Ok(()) => Ok(DecodeCache {
+                known,
+                at: 0,
+                moving: None,
+            }),
             Err(_) => Err(NoMemory),
         }
     }
@@ -55,14 +50,14 @@ impl DecodeCache {
     pub fn inst(&self) -> &Inst
         ensures { result.now ≡ inst_in self.now }
     {
-        &self.last.inst
+        &self.known[self.at].inst
     }
 
     /// Its words.
     pub fn words(&self) -> Words
         ensures { result ≡ words_in self.now }
     {
-        self.last.words
+        self.known[self.at].words
     }
 
     /// What it needs by its name and its operands alone.
@@ -70,21 +65,21 @@ impl DecodeCache {
         ensures kept { result.now ≡ need_in self.now }
         ensures need { result.now ≡ fixed_need (inst_in self.now) }
     {
-        &self.last.need
+        &self.known[self.at].need
     }
 
     /// Whether it has two words.
     pub(crate) fn is_long(&self) -> bool
         ensures { result ≡ (words_of (inst_in self.now) == 2) }
     {
-        self.last.need.length == LONG
+        self.known[self.at].need.length == LONG
     }
 
     /// Whether it has a result.
     pub(crate) fn gives(&self) -> bool
         ensures { result ≡ has_result (inst_in self.now).op }
     {
-        self.last.gives
+        self.known[self.at].gives
     }
 
     /// The load or the store that it is, as it was worked out last.
@@ -97,11 +92,11 @@ impl DecodeCache {
     /// Works out the load or the store that it is, where it is one, and keeps that.
     #[inline(always)]
     pub(crate) fn locate(&mut self, p: &Processor) -> Option<Moving>
-        ensures same { self.new.last ≡ self.old.last }
+        ensures same { last_of self.new ≡ last_of self.old }
         ensures moving { result ≡ moving_in self.new }
         ensures located { Locates (state_of p.now) self.new }
     {
-        let moving = moving_by(p, &self.last.inst, self.last.transfer);
+        let moving = moving_by(p, &self.known[self.at].inst, self.known[self.at].transfer);
         self.moving = moving;
         moving
     }
@@ -113,25 +108,10 @@ impl DecodeCache {
         ensures { MatchResult result (λ done. (words_in self.new).first ≡ word) (λ why. decoded word 0 ≡ Err why) }
     {
         let place = (address / 4) as usize % PLACES;
-        match self.known.get(place) {
-            Some(Some(kept)) if kept.words.first == word => {
-                self.last = *kept;
-                Ok(())
-            }
-            _ => self.learn(place, word),
+        if self.known[place].words.first != word {
+            self.known[place] = Kept::of(word)?;
         }
-    }
-
-    /// Reads a first word that is not known, and keeps it at a place, where there is room.
-    #[inline(never)]
-    fn learn(&mut self, place: usize, word: u32) -> Result<(), BadWord>
-        ensures { MatchResult result (λ done. (words_in self.new).first ≡ word) (λ why. decoded word 0 ≡ Err why) }
-    {
-        let kept = Kept::of(word)?;
-        self.last = kept;
-        if let Some(old) = self.known.get_mut(place) {
-            *old = Some(kept);
-        }
+        self.at = place;
         Ok(())
     }
 
@@ -142,6 +122,6 @@ impl DecodeCache {
         ensures long { words_of (inst_in self.new) ≡ 2 }
         ensures valid { IsValid (inst_in self.new) }
     {
-        self.last.lengthen(second);
+        self.known[self.at].lengthen(second);
     }
 }
