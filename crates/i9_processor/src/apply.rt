@@ -684,6 +684,7 @@ impl Processor {
         self.flag(e.trace_by(light));
         self.renew(sets);
         self.add_count(counts);
+        self.storage.keep_word(self.ip);
     }
 
     /// What is due by `turn` lands: bytes that wait are stored. Nothing else changes, and no room goes. Planned values

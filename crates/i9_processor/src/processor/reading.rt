@@ -206,6 +206,13 @@ impl Processor {
         self.storage.hard_word(a)
     }
 
+    /// The word at the instruction address, where it is kept.
+    #[inline(always)]
+    pub fn kept_word(&self) -> Option<u32>
+    {
+        self.storage.kept_word(self.ip)
+    }
+
     /// Words from `a` up, each in the order of its own region, where none of their bytes is soft. At most 64.
     #[inline(always)]
     #[tactic(auto, unfolding(crate::specs::State::state_of))]
