@@ -42,16 +42,6 @@ fn fetch_long(p: &Processor, decodes: &mut DecodeCache) -> Result<(), Unread>
     Ok(())
 }
 
-/// Reads the first word, or tells the byte at which that meets a hazard.
-#[inline(never)]
-fn read_first(p: &Processor) -> Result<u32, u32>
-{
-    if let Some(a) = p.check_read(p.ip(), 4) {
-        return Err(a);
-    }
-    Ok(p.hard_word(p.ip()))
-}
-
 /// Reads the instruction at the instruction address into the decode cache, or tells why there is none. The second
 /// word is read where there is one.
 #[inline(always)]
@@ -59,12 +49,9 @@ fn read_first(p: &Processor) -> Result<u32, u32>
 pub(crate) fn fetch(p: &Processor, decodes: &mut DecodeCache) -> Result<(), Unread>
     ensures fetched { IsFetched (state_of p.now) decodes.new result }
 {
-    let first = match p.kept_word() {
-        Some(word) => word,
-        None => match read_first(p) {
-            Ok(word) => word,
-            Err(a) => return Err(Unread::Meets(a)),
-        },
+    let first = match p.first_word() {
+        Ok(first) => first,
+        Err(a) => return Err(Unread::Meets(a)),
     };
     if let Err(why) = decodes.read(p.ip(), first) {
         return Err(Unread::Refused { first, why });
