@@ -49,10 +49,10 @@ fn fetch_long(p: &Processor, decodes: &mut DecodeCache) -> Result<(), Unread>
 pub(crate) fn fetch(p: &Processor, decodes: &mut DecodeCache) -> Result<(), Unread>
     ensures fetched { IsFetched (state_of p.now) decodes.new result }
 {
-    if let Some(a) = p.check_read(p.ip(), 4) {
-        return Err(Unread::Meets(a));
-    }
-    let first = p.hard_word(p.ip());
+    let first = match p.first_word() {
+        Ok(first) => first,
+        Err(a) => return Err(Unread::Meets(a)),
+    };
     if let Err(why) = decodes.read(p.ip(), first) {
         return Err(Unread::Refused { first, why });
     }

@@ -627,6 +627,22 @@ impl Processor {
         }
     }
 
+    /// The word at the instruction address is kept, where none of its bytes is soft, so that a fetch finds it at once.
+    #[inline(always)]
+    #[tactic(auto, unfolding(crate::specs::State::state_of, crate::specs::State::cache_of, crate::specs::State::size_of, crate::specs::State::bytes_of, crate::specs::State::queue_of))]
+    fn look_ahead(&mut self)
+        ensures state { state_of self.new ≡ state_of self.old }
+        ensures cache { cache_of self.new ≡ cache_of self.old }
+        ensures size { size_of self.new ≡ size_of self.old }
+        ensures count { (state_of self.new).count ≡ (state_of self.old).count }
+        ensures registers { KeepsFile self.old self.new }
+        ensures queue { queue_of self.new ≡ queue_of self.old }
+        ensures bytes { bytes_of self.new ≡ bytes_of self.old }
+        ensures no_more { AddsNoPage self.old self.new }
+    {
+        self.storage.keep_word(self.ip);
+    }
+
     /// Counts so many instructions.
     #[tactic(auto, unfolding(crate::specs::State::state_of, crate::specs::State::cache_of, crate::specs::State::size_of, crate::specs::State::bytes_of, crate::specs::State::queue_of))]
     fn add_count(&mut self, n: u64)
@@ -684,6 +700,7 @@ impl Processor {
         self.flag(e.trace_by(light));
         self.renew(sets);
         self.add_count(counts);
+        self.look_ahead();
     }
 
     /// What is due by `turn` lands: bytes that wait are stored. Nothing else changes, and no room goes. Planned values

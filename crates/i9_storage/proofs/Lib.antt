@@ -9,3 +9,5 @@ pub mod Known
 pub mod Youngest
 pub mod Saves
 pub mod Legible
+pub mod KeptWords
+pub mod Current

@@ -1,14 +1,15 @@
 -- Frames that are held in place of memory: what they are with the memory behind them, and what holds of them.
-use Rattle.std.specs.Prelude.{◌≡◌, ℕ, ◌+◌, ◌-◌, ◌*◌, ◌/◌, ◌%◌, length, take, slice_index, List, [], ◌∷◌}
+use Rattle.std.specs.Prelude.{◌≡◌, None, ℕ, ◌+◌, ◌-◌, ◌*◌, ◌/◌, ◌%◌, length, take, slice_index, List, [], ◌∷◌}
 use Rattle.std.specs.List.{AllByRecursion, AllByRecursion-prop}
 use Rattle.std.proofs.Props.{props}
 use Rattle.i9_model.specs.declared.layout.TheConstants.{FRAME_SIZE}
 use Rattle.i9_model.specs.declared.frame.Frame.{Frame}
 use Rattle.i9_model.specs.Writes.{wrapped}
 use Rattle.i9_model.specs.Memory as model
-use Rattle.i9_model.specs.Memory.{word_bytes}
+use Rattle.i9_model.specs.Memory.{word_bytes, word_in}
+use Rattle.i9_model.specs.Hazards.{read_hazard}
 use Rattle.i9_model.specs.Sound.{AreApart, IsSound}
-use Rattle.i9_model.specs.HeldFrames.{Cache, cache, over, AreYoungest}
+use Rattle.i9_model.specs.HeldFrames.{Cache, cache, over, overlaid, AreYoungest}
 use Rattle.i9_memory.specs.declared.memory.Memory.{Memory}
 use Rattle.i9_memory.specs.Memory.{IsReserved}
 use Rattle.i9_queue.specs.declared.behind.Behind.{Behind}
@@ -16,6 +17,8 @@ use Rattle.i9_queue.specs.Behind.{settled, waiting_of, HasRoomIn, KeepsRoomIn}
 use Rattle.i9_watch.specs.declared.watch.Watch.{Watch}
 use Rattle.i9_watch.specs.Watch.{frames_of}
 use Rattle.i9_frames.specs.Sets.{Held}
+use Rattle.i9_storage.specs.declared.words.Words.{Words}
+use Rattle.i9_storage.specs.Words.{Keeps}
 
 -- what is held, and the memory behind it after all that waits
 abbrev pub cache_in : Behind → Held → Cache
@@ -45,6 +48,11 @@ pub record IsKept (b : Behind) (w : Watch) (h : Held) : Type 0 where
   pub sound : IsSound (frames_of w)
   pub youngest : AreYoungest h.frames (frames_of w).live
   pub room : HaveRoom b h.frames
+
+-- each word that is kept is the one of memory, and none of its bytes is soft
+abbrev pub AreCurrent : Words → Behind → Watch → Held → Type 0
+AreCurrent ws b w h = (a v : ℕ) → Keeps ws a v
+    → (read_hazard (frames_of w) a 4 ≡ None) × (v ≡ word_in (overlaid (cache_in b h)) a)
 
 -- ---- there is at most one proof of it
 

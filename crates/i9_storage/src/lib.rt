@@ -3,5 +3,6 @@
 #![tactic(auto)]
 
 mod storage;
+mod words;
 
 pub use storage::Storage;

@@ -18,7 +18,7 @@ ghost use Rattle.i9_queue.specs.Queue.{wait_in};
 ghost use Rattle.i9_watch.specs.Bits.{bits_of};
 ghost use Rattle.i9_watch.specs.Watch.{frames_of, HasRunMarks, KeepsMarks};
 ghost use Rattle.i9_frames.specs.Sets.{held};
-ghost use Rattle.i9_storage.specs.Kept.{IsKept, IsKept-prop};
+ghost use Rattle.i9_storage.specs.Kept.{IsKept, IsKept-prop, AreCurrent};
 
 mod plans;
 mod reading;
@@ -31,6 +31,7 @@ use i9_model::layout::FRAME_SIZE;
 use i9_queue::{Behind, Request};
 use i9_watch::Watch;
 use spilling::{hold, write_back};
+use crate::words::Words;
 use std::alloc::Global;
 
 /// Memory as the accesses of a run see it. A frame that is saved is held in a set of the local
@@ -49,7 +50,9 @@ pub struct Storage {
     behind: Behind,
     watch: Watch,
     sets: Sets,
+    words: Words,
     ghost kept: { IsKept behind watch sets } by { IsKept-prop behind watch sets },
+    ghost current: { AreCurrent words behind watch sets },
 }
 
 /// Drops the youngest live frame, where one is live.
@@ -105,6 +108,7 @@ impl Storage {
             behind: Behind::new(memory),
             watch: Watch::new(alloc),
             sets: Sets::new(alloc, sets)?,
+            words: Words::new(alloc)?,
         })
     }
 
@@ -116,10 +120,12 @@ impl Storage {
         let behind = self.behind.copy()?;
         let watch = self.watch.copy()?;
         let sets = self.sets.copy(alloc)?;
+        let words = Words::new(alloc)?;
         Ok(Storage {
             behind,
             watch,
             sets,
+            words,
         })
     }
 
@@ -143,6 +149,7 @@ impl Storage {
             (picked wrapped a (bits_of stale (length bytes.now))) }
         ensures keeps { KeepsRest self.old self.new }
     {
+        self.words.forget(a, bytes.len() as u32);
         self.behind.store(a, bytes);
         mark_stored(&mut self.watch, a, bytes.len() as u32, stale);
     }
@@ -166,6 +173,7 @@ impl Storage {
     {
         let a = request.address;
         let n = request.bytes.len() as u32;
+        self.words.forget(a, n);
         self.behind.enqueue(request);
         mark_stored(&mut self.watch, a, n, stale);
     }
@@ -202,6 +210,7 @@ impl Storage {
             (picked wrapped f.address (byte_marks (bits_of marks 16))) }
         ensures keeps { KeepsRest self.old self.new }
     {
+        self.words.forget(f.address, FRAME_SIZE);
         hold(&mut self.behind, &mut self.sets, f);
         self.watch.called(f.address, marks);
     }

@@ -1,5 +1,5 @@
 //! What is read of the state that a processor stands for.
-ghost use Rattle.std.specs.Prelude.{◌≡◌, ℕ, ◌+◌, ◌*◌, ◌<◌, ◌≤◌, ◌↔◌, ◌&&◌, nat_lt, None, IsTrue};
+ghost use Rattle.std.specs.Prelude.{◌≡◌, ℕ, ◌+◌, ◌*◌, ◌<◌, ◌≤◌, ◌↔◌, ◌&&◌, nat_lt, None, Some, IsTrue, IfOk, IfErr};
 ghost use Rattle.i9_isa.specs.Words.{bit};
 ghost use Rattle.i9_model.specs.declared.layout.TheConstants.{LOCALS};
 ghost use Rattle.i9_model.specs.Writes.{wrapped};
@@ -204,6 +204,35 @@ impl Processor {
         ensures { result ≡ word_in (state_of self.now).memory a }
     {
         self.storage.hard_word(a)
+    }
+
+    /// The word at the instruction address, looked up.
+    // Most words are kept, and this is no part of the code that calls it.
+    #[inline(never)]
+    #[tactic(auto, unfolding(crate::specs::State::state_of))]
+    fn find_first_word(&self) -> Result<u32, u32>
+        ensures ok { IfOk result (λ w. (read_hazard (state_of self.now).frames (state_of self.now).ip 4 ≡ None)
+            × (w ≡ word_in (state_of self.now).memory (state_of self.now).ip)) }
+        ensures err { IfErr result (λ a. read_hazard (state_of self.now).frames (state_of self.now).ip 4 ≡ Some a) }
+    {
+        match self.check_read(self.ip, 4) {
+            Some(a) => Err(a),
+            None => Ok(self.storage.hard_word(self.ip)),
+        }
+    }
+
+    /// The word at the instruction address, or its first byte that is soft.
+    #[inline(always)]
+    #[tactic(auto, unfolding(crate::specs::State::state_of))]
+    pub fn first_word(&self) -> Result<u32, u32>
+        ensures ok { IfOk result (λ w. (read_hazard (state_of self.now).frames (state_of self.now).ip 4 ≡ None)
+            × (w ≡ word_in (state_of self.now).memory (state_of self.now).ip)) }
+        ensures err { IfErr result (λ a. read_hazard (state_of self.now).frames (state_of self.now).ip 4 ≡ Some a) }
+    {
+        match self.storage.kept_word(self.ip) {
+            Some(word) => Ok(word),
+            None => self.find_first_word(),
+        }
     }
 
     /// Words from `a` up, each in the order of its own region, where none of their bytes is soft. At most 64.

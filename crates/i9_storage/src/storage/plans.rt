@@ -262,6 +262,7 @@ impl Storage {
         ensures refused { OnErr result (cache_of self.new ≡ cache_of self.old) }
         ensures keeps { KeepsRest self.old self.new }
     {
+        self.words.forget_all();
         reinit(self.behind.memory_mut(), &self.watch, first, prcb)
     }
 
@@ -288,6 +289,7 @@ impl Storage {
         ensures frames { frames_in self.new ≡ frames_in self.old }
         ensures keeps { KeepsRest self.old self.new }
     {
+        self.words.forget_all();
         configure_regions(&mut self.behind, region, words);
     }
 }

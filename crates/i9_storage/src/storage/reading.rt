@@ -74,7 +74,7 @@ fn overlaid_byte(behind: &Behind, sets: &Sets, a: u32) -> u8
 }
 
 impl Storage {
-    ghost use Rattle.i9_storage.specs.Storage.{memory_in, legible_in, left_in, acted_in, frames_in};
+    ghost use Rattle.i9_storage.specs.Storage.{memory_in, legible_in, left_in, acted_in, frames_in, KeepsContents, KeepsPages};
 
     /// The byte at `a`; 0 in the port page. All bytes of held frames are soft, so the sets are looked
     /// at for a soft byte alone.
@@ -135,6 +135,38 @@ impl Storage {
         ensures { result ≡ word_in (memory_in self.now) a }
     {
         self.behind.word(a)
+    }
+
+    /// The word at `a`, where it is kept.
+    #[inline(always)]
+    pub fn kept_word(&self, a: u32) -> Option<u32>
+        ensures { IfSome result (λ v. (read_hazard (frames_in self.now) a 4 ≡ None)
+            × (v ≡ word_in (memory_in self.now) a)) }
+    {
+        self.words.get(a)
+    }
+
+    /// Keeps the word at `a`, which was not kept, where none of its bytes is soft.
+    #[inline(never)]
+    fn learn_word(&mut self, a: u32)
+        ensures contents { KeepsContents self.old self.new }
+        ensures pages { KeepsPages self.old self.new }
+    {
+        if self.watch.check_read(a, 4).is_none() {
+            let word = self.hard_word(a);
+            self.words.put(a, word);
+        }
+    }
+
+    /// Keeps the word at `a`, where none of its bytes is soft.
+    #[inline(always)]
+    pub fn keep_word(&mut self, a: u32)
+        ensures contents { KeepsContents self.old self.new }
+        ensures pages { KeepsPages self.old self.new }
+    {
+        if self.words.get(a).is_none() {
+            self.learn_word(a);
+        }
     }
 
     /// Words from `a` up, each in the order of its own region, where none of their bytes is soft: memory has

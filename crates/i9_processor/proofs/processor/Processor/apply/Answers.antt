@@ -32,7 +32,7 @@ returns-clause-state c =
     ap (λ (o : Option Trace). flagged o (state_of c.control.new.self)) c.trace_by.ensures
     ∙ ap (flagged c.args.e.now.trace) (c.control.ensures.state ∙ ap (λ (k : Control). controlled t (control_in k)) c.control_by.ensures) in
     let last = applied_alike c.args.e.now.control s t (state_of c.renew.new.self) a (reads_zero p) refl c.requires.controls alike (c.renew.ensures.state ∙ c.flag.ensures.state ∙ known) in
-    subst (AreAlike (counted c.args.counts (acted s a))) (sym c.add_count.ensures.state) (counted_alike c.args.counts (acted s a) (state_of c.renew.new.self) last)
+    subst (AreAlike (counted c.args.counts (acted s a))) (sym (c.look_ahead.ensures.state ∙ c.add_count.ensures.state)) (counted_alike c.args.counts (acted s a) (state_of c.renew.new.self) last)
 
 pub returns-clause-cells : goal.returns-clause-cells
 unfolding state_of cells_of
@@ -40,10 +40,10 @@ returns-clause-cells c =
     let l = c.args.landing.now in
     let olds = c.args.self.now.file in
     let done = c.control.ensures.issued olds c.do_moves.ensures.issued in
-    let files = c.add_count.ensures.keeps.registers.file ∙ c.renew.ensures.registers.file ∙ c.flag.ensures.keeps.registers.file in
-    let flags = c.add_count.ensures.keeps.registers.flags ∙ c.renew.ensures.registers.flags ∙ c.flag.ensures.keeps.registers.flags in
-    let last : IsIssued l.writes l.done c.add_count.new.self.flags olds c.add_count.new.self.file =
-    subst (λ (n : ℕ). IsIssued l.writes l.done n olds c.add_count.new.self.file) (sym flags)
+    let files = c.look_ahead.ensures.registers.file ∙ c.add_count.ensures.keeps.registers.file ∙ c.renew.ensures.registers.file ∙ c.flag.ensures.keeps.registers.file in
+    let flags = c.look_ahead.ensures.registers.flags ∙ c.add_count.ensures.keeps.registers.flags ∙ c.renew.ensures.registers.flags ∙ c.flag.ensures.keeps.registers.flags in
+    let last : IsIssued l.writes l.done c.look_ahead.new.self.flags olds c.look_ahead.new.self.file =
+    subst (λ (n : ℕ). IsIssued l.writes l.done n olds c.look_ahead.new.self.file) (sym flags)
     (subst (λ (cs : File). IsIssued l.writes l.done c.control.new.self.flags olds cs) (sym files) done) in
     last.each
 
@@ -54,12 +54,14 @@ returns-clause-waits c asks =
     let keeps = ap control_in (c.control_by.ensures ∙ (c.requires.acts.0 asks).control) in
     let counted = c.add_count.ensures.keeps.stored.storage in
     let flagged = c.flag.ensures.keeps.stored.storage in (
-      ap (λ (s : Storage). (acted_in s).bytes) counted
+      c.look_ahead.ensures.bytes
+          ∙ ap (λ (s : Storage). (acted_in s).bytes) counted
           ∙ c.renew.ensures.bytes
           ∙ ap (λ (s : Storage). (acted_in s).bytes) flagged
           ∙ c.control.ensures.bytes keeps
           ∙ (c.do_moves.ensures.waits asks).0,
-      ap (λ (s : Storage). waiting_in s) counted
+      c.look_ahead.ensures.queue
+          ∙ ap (λ (s : Storage). waiting_in s) counted
           ∙ c.renew.ensures.queue
           ∙ ap (λ (s : Storage). waiting_in s) flagged
           ∙ c.control.ensures.keeps.queue
@@ -69,7 +71,8 @@ returns-clause-waits c asks =
 pub returns-clause-acts : goal.returns-clause-acts
 unfolding queue_of
 returns-clause-acts c rests =
-    ap (λ (s : Storage). waiting_in s) c.add_count.ensures.keeps.stored.storage
+    c.look_ahead.ensures.queue
+    ∙ ap (λ (s : Storage). waiting_in s) c.add_count.ensures.keeps.stored.storage
     ∙ c.renew.ensures.queue
     ∙ ap (λ (s : Storage). waiting_in s) c.flag.ensures.keeps.stored.storage
     ∙ c.control.ensures.keeps.queue
@@ -78,7 +81,8 @@ returns-clause-acts c rests =
 pub returns-clause-still : goal.returns-clause-still
 unfolding bytes_of
 returns-clause-still c rests still =
-    ap (λ (s : Storage). (acted_in s).bytes) c.add_count.ensures.keeps.stored.storage
+    c.look_ahead.ensures.bytes
+    ∙ ap (λ (s : Storage). (acted_in s).bytes) c.add_count.ensures.keeps.stored.storage
     ∙ c.renew.ensures.bytes
     ∙ ap (λ (s : Storage). (acted_in s).bytes) c.flag.ensures.keeps.stored.storage
     ∙ c.control.ensures.bytes (ap control_in c.control_by.ensures ∙ still.control)

@@ -1,4 +1,5 @@
 use Rattle.i9_storage.proofs.Keeping.{kept_copy}
+use Rattle.i9_storage.proofs.Current.{current_none}
 use Rattle.i9_storage.proofs.storage.Storage.copy.Goals as goal
 
 pub invariant_of-result : goal.invariant_of-result
@@ -7,4 +8,4 @@ invariant_of-result c =
     let behind = c.in_ok-behind in
     let watch = c.in_ok-watch in
     let sets = c.in_ok-sets in
-    record { kept = kept_copy old.behind behind.behind old.watch watch.watch old.sets sets.sets old.kept behind.ensures.keeps watch.ensures.frames sets.ensures }
+    record { kept = kept_copy old.behind behind.behind old.watch watch.watch old.sets sets.sets old.kept behind.ensures.keeps watch.ensures.frames sets.ensures; current = current_none c.in_ok-words.words behind.behind watch.watch sets.sets c.in_ok-words.ensures }
