@@ -11,15 +11,13 @@ use Rattle.i9_plan.proofs.fetched.fetch.Goals as goal
 pub returns-else-is_long : goal.returns-else-is_long
 returns-else-is_long c =
     let s = state_of c.args.p.now in
-    let clear = ap (λ (a : ℕ). read_hazard s.frames a 4) (sym c.ip.ensures) ∙ sym c.check_read.ensures ∙ c.in_default.is in
-    let here = c.hard_word-first.ensures ∙ ap (word_in s.memory) c.ip-2.ensures in
-    record { fetched = short_read s c.read.new.self clear (c.in_default-read.ensures ∙ here) (sym c.is_long.ensures ∙ c.if-is_long.false) }
+    let found = c.in-Ok.ensures.ok in
+    record { fetched = short_read s c.read.new.self found.0 (c.in_default.ensures ∙ found.1) (sym c.is_long.ensures ∙ c.if-is_long.false) }
 
-pub returns-in-Err : goal.returns-in-Err
-returns-in-Err c =
+pub returns-in-Err-read : goal.returns-in-Err-read
+returns-in-Err-read c =
     let s = state_of c.args.p.now in
-    let clear = ap (λ (a : ℕ). read_hazard s.frames a 4) (sym c.ip.ensures) ∙ sym c.check_read.ensures ∙ c.in_default.is in
-    let here = c.hard_word-first.ensures ∙ ap (word_in s.memory) c.ip-2.ensures in
-    let first = c.hard_word-first.result in
-    let read = sym (ap (λ (w : ℕ). decoded w (next_word s)) here) ∙ refusal_free first 0 (next_word s) c.in-Err.why c.in-Err.ensures in
-    record { fetched = (refused_fetch_by s first c.in-Err.why clear here c.in-Err.ensures, read, here) }
+    let found = c.in-Ok.ensures.ok in
+    let first = c.in-Ok.first in
+    let read = sym (ap (λ (w : ℕ). decoded w (next_word s)) found.1) ∙ refusal_free first 0 (next_word s) c.in-Err-read.why c.in-Err-read.ensures in
+    record { fetched = (refused_fetch_by s first c.in-Err-read.why found.0 found.1 c.in-Err-read.ensures, read, found.1) }
