@@ -19,7 +19,7 @@ use Rattle.i9_model.specs.Hazards.{or_else, read_hazard}
 use Rattle.i9_model.specs.Step.{first_word, next_word}
 use Rattle.i9_model.specs.Access.{second_hazard, fetch_hazard}
 use Rattle.i9_plan.specs.declared.decode_cache.DecodeCache.{DecodeCache}
-use Rattle.i9_plan.specs.Kept.{inst_in, words_in}
+use Rattle.i9_plan.specs.Kept.{last_of, inst_in, words_in}
 use Rattle.i9_plan.specs.Planned.{IsRead}
 
 -- ---- the second word
@@ -106,12 +106,12 @@ pub short_read : (s : State) (m : DecodeCache) → read_hazard s.frames s.ip 4 �
 short_read s m clear first short =
     let i = inst_in m in
     let one = one_word i.ea.mode short in
-    let none = m.last.short ∙ ap (λ (b : Bool). cond b m.last.words.second 0) short in
-    let read = sym (ap (λ (w : ℕ). decoded w (next_word s)) first) ∙ second_free m.last.words.first m.last.words.second (next_word s) i one m.last.read in
+    let none = (last_of m).short ∙ ap (λ (b : Bool). cond b (last_of m).words.second 0) short in
+    let read = sym (ap (λ (w : ℕ). decoded w (next_word s)) first) ∙ second_free (last_of m).words.first (last_of m).words.second (next_word s) i one (last_of m).read in
     record {
       clear = short_fetch s i clear read one;
       read = read;
-      valid = decoded_valid m.last.words.first 0 i (omega arith) (sym (ap (decoded m.last.words.first) none) ∙ m.last.read);
+      valid = decoded_valid (last_of m).words.first 0 i (omega arith) (sym (ap (decoded (last_of m).words.first) none) ∙ (last_of m).read);
       words = record { first = first; second = none ∙ sym (ap (λ (b : Bool). cond b (next_word s) 0) short) };
     }
 
@@ -119,7 +119,7 @@ short_read s m clear first short =
 pub long_met : (s : State) (m : DecodeCache) → read_hazard s.frames s.ip 4 ≡ None → (words_in m).first ≡ first_word s
     → words_of (inst_in m) ≡ 2 → fetch_hazard s ≡ read_hazard s.frames (wrapped (s.ip + 4)) 4
 long_met s m clear first long =
-    let given = second_given m.last.words.first m.last.words.second (next_word s) (inst_in m) long m.last.read in
+    let given = second_given (last_of m).words.first (last_of m).words.second (next_word s) (inst_in m) long (last_of m).read in
     long_fetch s _ clear (sym (ap (λ (w : ℕ). decoded w (next_word s)) first) ∙ given) long
 
 -- an instruction of two words
@@ -129,7 +129,7 @@ pub long_read : (s : State) (m : DecodeCache) → read_hazard s.frames s.ip 4 �
 long_read s m clear free first second long valid =
     record {
       clear = long_met s m clear first long ∙ free;
-      read = sym (ap (λ (w : ℕ). decoded w (next_word s)) first) ∙ sym (ap (decoded m.last.words.first) second) ∙ m.last.read;
+      read = sym (ap (λ (w : ℕ). decoded w (next_word s)) first) ∙ sym (ap (decoded (last_of m).words.first) second) ∙ (last_of m).read;
       valid = valid;
       words = record { first = first; second = second ∙ sym (ap (λ (n : ℕ). cond (n == 2) (next_word s) 0) long) };
     }

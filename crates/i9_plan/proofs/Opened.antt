@@ -27,7 +27,7 @@ use Rattle.i9_plan.specs.declared.fetched.Unread.{Unread}
 use Rattle.i9_plan.specs.declared.fetched.Unread.TheVariants as unreads
 use Rattle.i9_plan.specs.declared.outcome.Outcome.{Outcome}
 use Rattle.i9_plan.specs.declared.outcome.Outcome.TheVariants as outcomes
-use Rattle.i9_plan.specs.Kept.{inst_in}
+use Rattle.i9_plan.specs.Kept.{last_of, inst_in}
 use Rattle.i9_plan.specs.Planned.{TellsWords, IsRead, IsUnread, standing_in}
 use Rattle.i9_plan.specs.Open.{WaitsForAll, IsNoBarrier, NeedsAhead}
 
@@ -92,7 +92,7 @@ word_waits i s b = by (misuses i s)
 -- ---- what stands there
 
 -- what was read stays so while the instruction does
-pub still_read : (s : State) (m n : DecodeCache) → n.last ≡ m.last → IsRead s m → IsRead s n
+pub still_read : (s : State) (m n : DecodeCache) → last_of n ≡ last_of m → IsRead s m → IsRead s n
 still_read s m n e read = record {
   clear = read.clear;
   read = read.read ∙ sym (ap (λ (k : Kept). Ok k.inst) e);

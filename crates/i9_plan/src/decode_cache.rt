@@ -1,14 +1,15 @@
 //! Instructions that were decoded, kept by the address of their word, and the one that was read last.
-ghost use Rattle.std.specs.Prelude.{◌≡◌, ◌==◌, MatchResult};
+ghost use Rattle.std.specs.Prelude.{◌≡◌, ◌==◌, ◌<◌, MatchResult};
 ghost use Rattle.i9_isa.specs.Valid.{IsValid};
 ghost use Rattle.i9_isa.specs.Words.{decoded, words_of};
 ghost use Rattle.i9_model.specs.Results.{has_result};
 ghost use Rattle.i9_need.specs.Fixed.{fixed_need};
 ghost use Rattle.i9_processor.specs.State.{state_of};
-ghost use Rattle.i9_plan.specs.Kept.{inst_in, words_in, need_in, moving_in, Locates};
+ghost use Rattle.i9_plan.specs.Kept.{last_of, inst_in, words_in, need_in, moving_in, Locates};
 
 use crate::fetched::Words;
 use crate::kept::Kept;
+use crate::places::Places;
 use crate::transfers::{Moving, moving_by};
 use i9_decode::BadWord;
 use i9_isa::{Inst, NoMemory};
@@ -22,13 +23,11 @@ const PLACES: usize = 256;
 /// The number of bytes of two words.
 const LONG: u32 = 8;
 
-/// Instructions that were decoded, so that a loop's words are decoded once, and the one that was read last,
-/// with the load or the store that it is, where its effective address was worked out. What it keeps changes
-/// no answer.
+/// Instructions that were decoded, so that a loop's words are decoded once, and of the one that was read last the load or
+/// the store that it is, where its effective address was worked out. What it keeps changes no answer.
 #[derive(Drop)]
 pub struct DecodeCache {
-    known: Vec<Kept>,
-    at: usize,
+    places: Places,
     moving: Option<Moving>,
 }
 
@@ -38,8 +37,7 @@ impl DecodeCache {
         let mut known = Vec::new(alloc);
         match known.resize(PLACES, Kept::first()) {
             Ok(()) => Ok(DecodeCache {
-                known,
-                at: 0,
+                places: Places { known, last: 0 },
                 moving: None,
             }),
             Err(_) => Err(NoMemory),
@@ -50,14 +48,14 @@ impl DecodeCache {
     pub fn inst(&self) -> &Inst
         ensures { result.now ≡ inst_in self.now }
     {
-        &self.known[self.at].inst
+        &self.places.known[self.places.last].inst
     }
 
     /// Its words.
     pub fn words(&self) -> Words
         ensures { result ≡ words_in self.now }
     {
-        self.known[self.at].words
+        self.places.known[self.places.last].words
     }
 
     /// What it needs by its name and its operands alone.
@@ -65,21 +63,21 @@ impl DecodeCache {
         ensures kept { result.now ≡ need_in self.now }
         ensures need { result.now ≡ fixed_need (inst_in self.now) }
     {
-        &self.known[self.at].need
+        &self.places.known[self.places.last].need
     }
 
     /// Whether it has two words.
     pub(crate) fn is_long(&self) -> bool
         ensures { result ≡ (words_of (inst_in self.now) == 2) }
     {
-        self.known[self.at].need.length == LONG
+        self.places.known[self.places.last].need.length == LONG
     }
 
     /// Whether it has a result.
     pub(crate) fn gives(&self) -> bool
         ensures { result ≡ has_result (inst_in self.now).op }
     {
-        self.known[self.at].gives
+        self.places.known[self.places.last].gives
     }
 
     /// The load or the store that it is, as it was worked out last.
@@ -96,7 +94,11 @@ impl DecodeCache {
         ensures moving { result ≡ moving_in self.new }
         ensures located { Locates (state_of p.now) self.new }
     {
-        let moving = moving_by(p, &self.known[self.at].inst, self.known[self.at].transfer);
+        let moving = moving_by(
+            p,
+            &self.places.known[self.places.last].inst,
+            self.places.known[self.places.last].transfer,
+        );
         self.moving = moving;
         moving
     }
@@ -108,10 +110,21 @@ impl DecodeCache {
         ensures { MatchResult result (λ done. (words_in self.new).first ≡ word) (λ why. decoded word 0 ≡ Err why) }
     {
         let place = (address / 4) as usize % PLACES;
-        if self.known[place].words.first != word {
-            self.known[place] = Kept::of(word)?;
+        if self.places.known[place].words.first != word {
+            return self.learn(place, word);
         }
-        self.at = place;
+        self.places.last = place;
+        Ok(())
+    }
+
+    /// Reads a first word that is not known, and keeps it at a place.
+    #[inline(never)]
+    fn learn(&mut self, place: usize, word: u32) -> Result<(), BadWord>
+        requires { place < 256 }
+        ensures { MatchResult result (λ done. (words_in self.new).first ≡ word) (λ why. decoded word 0 ≡ Err why) }
+    {
+        self.places.known[place] = Kept::of(word)?;
+        self.places.last = place;
         Ok(())
     }
 
@@ -122,6 +135,6 @@ impl DecodeCache {
         ensures long { words_of (inst_in self.new) ≡ 2 }
         ensures valid { IsValid (inst_in self.new) }
     {
-        self.known[self.at].lengthen(second);
+        self.places.known[self.places.last].lengthen(second);
     }
 }

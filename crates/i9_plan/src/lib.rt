@@ -17,6 +17,7 @@ mod names;
 mod needs;
 mod open;
 mod outcome;
+mod places;
 mod planned;
 mod raised;
 mod sources;
