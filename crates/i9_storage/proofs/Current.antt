@@ -1,5 +1,5 @@
 -- Words that are kept stay those of memory, where none of their bytes is stored to or becomes soft.
-use Rattle.std.proofs.Common.{◌≡◌, ℕ, zero, suc, ◌+◌, ◌*◌, ◌^◌, ◌<◌, Bool, true, false, not, ◌&&◌, ◌||◌, cond, List, [], ◌∷◌, length, Some, None, refl, sym, ap, ◌∙◌, subst, ◌⊎◌, inl, inr, arith}
+use Rattle.std.proofs.Common.{◌≡◌, ℕ, zero, suc, ◌+◌, ◌^◌, ◌<◌, Bool, true, false, not, ◌&&◌, ◌||◌, cond, List, [], length, Some, None, refl, sym, ap, ◌∙◌, ◌⊎◌, inl, inr, arith}
 use Rattle.std.specs.Prelude.{find}
 use Rattle.std.proofs.lemmas.Bool.{and_left, or_left, or_right, not_from_false, both_ways}
 use Rattle.std.proofs.lemmas.List.FromFn.{length-map-range_with_len}
@@ -14,7 +14,7 @@ use Rattle.i9_model.specs.Frames.{places, in_bytes, is_put, has, is_kept, saved,
 use Rattle.i9_model.specs.Stale.{picked}
 use Rattle.i9_model.specs.Hazards.{least, read_hazard}
 use Rattle.i9_model.specs.Alike.{with_other, is_beyond, is_hard, is_compared, AgreeWhere}
-use Rattle.i9_model.specs.HeldFrames.{Cache, over, overlaid}
+use Rattle.i9_model.specs.HeldFrames.{over, overlaid}
 use Rattle.i9_model.proofs.Among.{in_bytes-has, among-bytes}
 use Rattle.i9_model.proofs.FrameLaws.{read_hazard-none}
 use Rattle.i9_model.proofs.Readings.{inner_word_same}
@@ -122,11 +122,10 @@ module _ (ws us : Words) (b c : Behind) (w v : Watch) (h g : Held) (current : Ar
       (λ a u kept. ((beside a u kept).0, λ j l hard. byte (wrapped (a + j)) ((beside a u kept).1 j l) hard))
     where
       byte : (y : ℕ) → in_bytes f.address FRAME_SIZE y ≡ false → Stays (frames_of w) (frames_of v) before behind y
-      byte y out hard =
-          (
-            ap (λ (s : Frames). s.soft y) frames ∙ ap (λ (t : Bool). t || (frames_of w).soft y) out ∙ hard,
-            ap (λ (m : model.Memory). m.bytes y) memory ∙ words_kept before f.address f.words y whole (inl out),
-          )
+      byte y out hard = (
+        ap (λ (s : Frames). s.soft y) frames ∙ ap (λ (t : Bool). t || (frames_of w).soft y) out ∙ hard,
+        ap (λ (m : model.Memory). m.bytes y) memory ∙ words_kept before f.address f.words y whole (inl out),
+      )
 
   -- a return
   pub current_return : ((a u : ℕ) → Keeps us a u → Keeps ws a u) → c ≡ b → frames_of v ≡ returned (frames_of w)

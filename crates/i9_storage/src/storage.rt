@@ -24,6 +24,7 @@ mod plans;
 mod reading;
 mod spilling;
 
+use crate::words::Words;
 use i9_frames::{Frame, Sets};
 use i9_isa::NoMemory;
 use i9_memory::Memory;
@@ -31,7 +32,6 @@ use i9_model::layout::FRAME_SIZE;
 use i9_queue::{Behind, Request};
 use i9_watch::Watch;
 use spilling::{hold, write_back};
-use crate::words::Words;
 use std::alloc::Global;
 
 /// Memory as the accesses of a run see it. A frame that is saved is held in a set of the local
@@ -44,7 +44,8 @@ use std::alloc::Global;
 /// - live frames are apart and outside the port page, and all their bytes are soft;
 /// - the frames that are held are the youngest live ones, with sixteen words each;
 /// - memory has room for each held frame and for what waits, so that no spill, no flush and no store
-///   that lands asks for memory.
+///   that lands asks for memory;
+/// - each word that is kept for a fetch is the one that is read, and none of its bytes is soft.
 #[derive(Drop)]
 pub struct Storage {
     behind: Behind,

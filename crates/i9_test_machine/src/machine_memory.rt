@@ -77,7 +77,7 @@ fn machines_of(
     Ok(machines)
 }
 
-// With a byte for each instruction of its run each of the machines would take 2,441 pages; it takes two.
+// With a byte for each instruction of its run each of the machines would take 2,441 pages; it takes three.
 #[test]
 fn a_length_takes_no_memory(rt: HostRuntime) -> Result<(), Fail> {
     let image = image_of(

@@ -47,6 +47,14 @@ fn regions_text(alloc: Global, p: &Processor) -> Told {
     Ok(text)
 }
 
+/// The word at the instruction address.
+fn first_word_text(alloc: Global, p: &Processor) -> Told {
+    match p.first_word() {
+        Ok(word) => hex_text(alloc, word),
+        Err(a) => hazard_text(alloc, a),
+    }
+}
+
 /// The vector that comes next, where one does.
 fn chosen_text(alloc: Global, p: &Processor) -> Told {
     if !p.is_drained() {
@@ -209,6 +217,7 @@ fn answer(alloc: Global, p: &mut Processor, question: &str) -> Told {
     match (name, numbers.as_slice()) {
         ("count", []) => hex_text(alloc, u32::try_from(p.count())?),
         ("ip", []) => hex_text(alloc, p.ip()),
+        ("first_word", []) => first_word_text(alloc, p),
         ("ac", []) => hex_text(alloc, p.ac()),
         ("pc", []) => hex_text(alloc, p.pc()),
         ("tc", []) => hex_text(alloc, p.tc()),
@@ -261,6 +270,15 @@ boots 0 | ip, ac, pc, tc, count, sets | 1234, 7, 1F2002, 23400FE, 0, 0 of 7
  | port E0000000, port E0000001, port E0000005 | 1 8070605, none 7060504, none none
  | port DFFFFFF8, port DFFFFFF7, port DFFFFFF0 | 9 100F0E0D, A none, none none
 boots 400000 | port E0000000 | 1 5060708
+";
+
+/// Stores to the word at the instruction address.
+const FETCHES: &str = "\
+boots 0 | first_word | 0
+stores 4000 1 2 | ip, first_word | 1308, 0
+stores 1308 33 44 | ip, first_word | 1308, 4433
+stores 130A 55 66 | ip, first_word | 1308, 66554433
+stores_marked 1309 77 88 2 | ip, first_word | 1308, hazard 130A | one byte of it is marked
 ";
 
 /// Frames, and starts anew.
@@ -335,7 +353,7 @@ sets_one 1F 7780 0 | call | saves 7780 77C0 7780 7800
 #[test]
 fn answers_rows(rt: HostRuntime) -> Result<(), Fail> {
     let mut p = booted(rt.alloc(), 0)?;
-    for table in [READS, FRAMES, MARKS, CHANGES] {
+    for table in [READS, FETCHES, FRAMES, MARKS, CHANGES] {
         for row in table.lines() {
             let (steps, questions, wanted) = columns(row)?;
             // The steps of each row are done to a copy of what the rows before it left.

@@ -39,6 +39,14 @@ fn word_text(alloc: Global, storage: &Storage, a: u32) -> Told {
     hex_text(alloc, word)
 }
 
+/// The word that is kept of an address.
+fn kept_text(alloc: Global, storage: &Storage, a: u32) -> Told {
+    match storage.kept_word(a) {
+        Some(word) => hex_text(alloc, word),
+        None => Ok(format!(in alloc; "none")?),
+    }
+}
+
 /// Four words as a load finds them.
 fn legible_words_text(alloc: Global, storage: &Storage, a: u32) -> Told {
     words_text(alloc, &storage.legible_words::<4>(a))
@@ -179,6 +187,7 @@ fn memory_answer(alloc: Global, storage: &Storage, name: &str, numbers: &[u32]) 
     match (name, numbers) {
         ("byte", &[a]) => hex_text(alloc, u32::from(storage.byte(a))),
         ("word", &[a]) => word_text(alloc, storage, a),
+        ("kept", &[a]) => kept_text(alloc, storage, a),
         ("hard_words", &[a]) => hard_words_text(alloc, storage, a),
         ("legible_byte", &[a]) => hex_text(alloc, u32::from(storage.legible_byte(a))),
         ("legible_half", &[a]) => hex_text(alloc, u32::from(storage.legible_half(a))),
@@ -277,6 +286,32 @@ store_half 2001 ABCD | soft 2001, legible_word 2000 | false, 12ABCD78 | it is st
 marked_waiting | soft 2000, soft 2001, legible_word 2000, word 2000 | false, true, 14000011, 14131211
 ";
 
+/// Words that are kept, each at the place of its address, until one of their bytes is stored to: by a store, one that
+/// waits or one that runs on to 0, by a save, or where the order of their region may change. Nothing else drops them.
+const KEPT: &str = "\
+zeros, store_word 1000 12345678, keep 1000 | kept 1000, kept 1004 | 12345678, none
+store_word 1004 1, keep 1004, store_word FF8 2 | kept 1000, kept 1004 | 12345678, 1
+store_half 1002 ABCD | kept 1000, kept 1004 | none, 1 | two of its bytes
+store_half FFF 9876 | kept 1000, kept 1004 | none, 1
+keep 1000 | kept 1000 | ABCD5698
+store_word FFE 0, keep FFC | kept FFC, kept 1000, kept 1004 | 0, none, 1 | the last two bytes are in the next word
+store_word 1400 5, keep 1000, keep 1400 | kept 1400, kept 1000 | 5, none | both have one place
+keep 1002, keep 1401 | kept 1002, kept 1401 | none, none | no word of an instruction
+save 1400 100 | kept 1400, kept 1004 | none, 1
+keep 1404 | kept 1404 | none | only the save wrote it
+flush, keep 1404, keep 1440 | kept 1404, kept 1440 | 101, 0
+save 1440 200, return | kept 1404, kept 1440 | 101, none | a return drops none, and a save those that it writes
+store_word FFFFFFFC 12345678, store_word 0 9, keep FFFFFFFC, keep 0 | kept FFFFFFFC, kept 0 | 12345678, 9
+store_word FFFFFFFE ABCDEF12 | kept FFFFFFFC, kept 0 | none, none
+keep FFFFFFFC, keep 0 | kept FFFFFFFC, kept 0 | EF125678, ABCD
+store_word 20000000 12345678, keep 20000000, configure 2 400000 0 | kept 20000000 | none
+keep 20000000 | kept 20000000 | 78563412
+waiting, keep 1038, keep 103C | kept 103C, kept 1040 | 14331211, none | after all that waits
+land 5, land 6, land 9 | kept 103C, kept 1038 | 14331211, 0
+tables, keep 2000 | kept 2000, reinit 1236 2000, kept 2000 | 1110, 1236 1110 3000 7 40000000 4440 5550 7770 7 \
+control A0 A1 A2 A3 0 0 0 0 0 0 400000 0 0 0 0 0 0 0 0 0 0 0 0 0 0 0 0 C3, none
+";
+
 /// Calls, faults and returns beside a frame that is held at 4040 and one that was spilled at 4000: a hazard is in one
 /// of them. The record gives back PC and AC; then only the youngest frame is returned to.
 const PLANS: &str = "\
@@ -305,7 +340,7 @@ control A0 A1 A2 A3 0 0 0 0 0 0 400000 0 0 0 0 0 0 0 0 0 0 0 0 0 0 0 0 C3
 #[test]
 fn answers_rows(rt: HostRuntime) -> Result<(), Fail> {
     let mut storage = with_waiting(rt.alloc())?;
-    for table in [FRAMES, STORES, MARKS, PLANS] {
+    for table in [FRAMES, STORES, MARKS, KEPT, PLANS] {
         for row in table.lines() {
             let (steps, questions, wanted) = columns(row)?;
             let told = answers(rt.alloc(), &mut storage, steps, questions)?;

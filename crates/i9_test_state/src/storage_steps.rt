@@ -235,6 +235,7 @@ pub(crate) fn does(alloc: Global, storage: &mut Storage, step: &str) -> Result<(
             let bytes = storage.word_bytes(a, v);
             store(storage, a, &bytes, u16::try_from(stale)?)?;
         }
+        ("keep", &[a]) => storage.keep_word(a),
         ("land", &[turn]) => storage.land(u64::from(turn)),
         ("configure", &[region, v, w]) => configure(storage, u8::try_from(region)?, [v, w])?,
         _ => begins(alloc, storage, name)?,

@@ -158,7 +158,8 @@ impl Storage {
         }
     }
 
-    /// Keeps the word at `a`, where none of its bytes is soft.
+    /// Keeps the word at `a`, where none of its bytes is soft and `a` is a multiple of 4, in place of another one. What is
+    /// kept changes no answer but that of `kept_word`.
     #[inline(always)]
     pub fn keep_word(&mut self, a: u32)
         ensures contents { KeepsContents self.old self.new }

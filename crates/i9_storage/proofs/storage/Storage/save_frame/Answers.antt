@@ -11,7 +11,8 @@ invariant_of-self c =
     let whole : length c.args.f.words ≡ LOCALS = search rules in
     record {
       kept = kept_save old.behind c.hold.new.behind old.watch c.called.new.self old.sets c.hold.new.sets c.args.f c.args.marks old.kept c.hold.ensures.keeps.keeps c.called.ensures.frames c.requires.known c.requires.free
-          c.hold.ensures.cache whole c.requires.space.bytes; current = current_save old.words c.forget.new.self old.behind c.hold.new.behind old.watch c.called.new.self old.sets c.hold.new.sets old.current c.args.f _ c.forget.ensures c.called.ensures.frames whole (save_laid old.sets.size c.args.f (cache_in old.behind old.sets) (cache_in c.hold.new.behind c.hold.new.sets) c.hold.ensures.cache);
+          c.hold.ensures.cache whole c.requires.space.bytes;
+      current = current_save old.words c.forget.new.self old.behind c.hold.new.behind old.watch c.called.new.self old.sets c.hold.new.sets old.current c.args.f _ c.forget.ensures c.called.ensures.frames whole (save_laid old.sets.size c.args.f (cache_in old.behind old.sets) (cache_in c.hold.new.behind c.hold.new.sets) c.hold.ensures.cache);
     }
 
 pub returns-clause-memory : goal.returns-clause-memory

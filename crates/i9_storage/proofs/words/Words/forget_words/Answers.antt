@@ -1,4 +1,4 @@
-use Rattle.std.proofs.Common.{◌/◌, ◌+◌, ◌%◌, ◌<◌, arith}
+use Rattle.std.proofs.Common.{arith}
 use Rattle.i9_storage.proofs.KeptWords.{beside_words}
 use Rattle.i9_storage.proofs.words.Words.forget_words.Goals as goal
 
