@@ -95,14 +95,33 @@ fn result_outcome(p: &Processor, i: &Inst, effect: &mut Effect) -> Outcome
     }
 }
 
-/// What the condition of a branch gives.
-pub(crate) fn jump_of(p: &Processor, i: &Inst) -> Jump
+/// What the condition of a branch gives, where it has one.
+#[inline(never)]
+fn jump_asked(p: &Processor, i: &Inst) -> Jump
     ensures ac { result.ac
         ≡ branch_controls i.now (value (state_of p.now) i.now.a) (value (state_of p.now) i.now.b) (state_of p.now).ac }
     ensures taken { result.taken
         ≡ is_taken i.now (value (state_of p.now) i.now.a) (value (state_of p.now) i.now.b) (state_of p.now).ac }
 {
     branch(i, value(p, i.a), value(p, i.b), p.ac())
+}
+
+/// What the condition of a branch gives. One without a condition is taken, and the controls stay.
+// Each loop has a branch, and many have no other: nothing is read for that.
+#[inline(always)]
+pub(crate) fn jump_of(p: &Processor, i: &Inst) -> Jump
+    ensures ac { result.ac
+        ≡ branch_controls i.now (value (state_of p.now) i.now.a) (value (state_of p.now) i.now.b) (state_of p.now).ac }
+    ensures taken { result.taken
+        ≡ is_taken i.now (value (state_of p.now) i.now.a) (value (state_of p.now) i.now.b) (state_of p.now).ac }
+{
+    match i.op {
+        Op::B => Jump {
+            ac: p.ac(),
+            taken: true,
+        },
+        _ => jump_asked(p, i),
+    }
 }
 
 /// The condition code changes, and control goes to the target where the branch is taken.

@@ -118,7 +118,7 @@ a first word in the live frame, all marked | 0 1F2002 3002 8CA83000 0 FFFFFFFF |
 /// What is planned in the state of a row.
 fn planned(alloc: Global, state: &str) -> Result<String, Fail> {
     let p = marked(alloc, state)?;
-    next_text(alloc, &p, &mut DecodeCache::none(alloc))
+    next_text(alloc, &p, &mut DecodeCache::new(alloc)?)
 }
 
 #[test]
@@ -184,7 +184,7 @@ fn returns_to_marked_words(rt: HostRuntime) -> Result<(), Fail> {
     goes(&mut p, 0, PC, 0x1000)?;
     same(
         &rt,
-        next_text(rt.alloc(), &p, &mut DecodeCache::none(rt.alloc()))?.as_str(),
+        next_text(rt.alloc(), &p, &mut DecodeCache::new(rt.alloc())?)?.as_str(),
         "Ret A000000 0: 0 1F2002 0 8, returns 3040 8008",
     );
     Ok(())

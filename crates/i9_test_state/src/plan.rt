@@ -97,7 +97,7 @@ sdma 1, g4, g8    | 0 1F2002 1000 63C50801 0 | Sdma 63C50801 0: 0 1F2002 0 1004,
 /// What is planned in the state of a row.
 fn planned(alloc: Global, state: &str) -> Result<String, Fail> {
     let p = given(alloc, state)?;
-    next_text(alloc, &p, &mut DecodeCache::none(alloc))
+    next_text(alloc, &p, &mut DecodeCache::new(alloc)?)
 }
 
 #[test]

@@ -64,7 +64,7 @@ fn need_of(alloc: Global, p: &Processor) -> Option<Need>
     requires { IsDrained p.now }
 {
     let mut effect = Effect::blank();
-    let mut decodes = DecodeCache::none(alloc);
+    let mut decodes = DecodeCache::new(alloc).ok()?;
     match plan_next(p, &mut decodes, &mut effect) {
         Planned::Runs => Some(need_done(p, &decodes, &effect)),
         Planned::Faults(number) => Some(need_faulted(p, &decodes, number)),

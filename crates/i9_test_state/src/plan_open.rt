@@ -54,7 +54,7 @@ addi that overflows, traced | 0 1F2003 1000 59A48092 0 | Addi 59A48092 0: fault 
 
 /// What is planned while something is open.
 pub(crate) fn open_text(alloc: Global, p: &Processor) -> Result<String, Fail> {
-    let mut decodes = DecodeCache::none(alloc);
+    let mut decodes = DecodeCache::new(alloc)?;
     let mut effect = Effect::blank();
     match plan_open(p, &mut decodes, &mut effect) {
         Open::Waits { .. } => Ok(format!(in alloc; "waits")?),
@@ -90,7 +90,7 @@ st to the live frame | 0 1F2002 1000 92A42000 0 | false, then meets 3010
 /// What is planned of what waits, once all is done, and whether it had been read.
 fn read_text(alloc: Global, state: &str) -> Result<String, Fail> {
     let p = &given(alloc, state)?;
-    let mut decodes = DecodeCache::none(alloc);
+    let mut decodes = DecodeCache::new(alloc)?;
     let mut effect = Effect::blank();
     let Open::Waits { read } = plan_open(p, &mut decodes, &mut effect) else {
         return Err("it does not wait".into());
@@ -152,7 +152,7 @@ fn known_text(alloc: Global, text: &str) -> Result<String, Fail> {
         return Err("a row has six numbers".into());
     };
     let p = ready(alloc, *at, (*first, *second), *ac, *pc)?;
-    let mut decodes = DecodeCache::none(alloc);
+    let mut decodes = DecodeCache::new(alloc)?;
     let frames = (*frames).min(15) as u8;
     let mut effect = Effect::blank();
     match plan_next(&p, &mut decodes, &mut effect) {
