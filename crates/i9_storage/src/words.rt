@@ -108,6 +108,14 @@ impl Words {
         self.end = 0;
     }
 
+    /// Whether all words that are kept lie beside the addresses from one on and below another.
+    #[inline(always)]
+    fn lie_beside(&self, from: u64, to: u64) -> bool
+        ensures { result ≡ true → (to ≤ self.now.low) ⊎ ((self.now.end ≤ from) × (to ≤ 2 ^ 32)) }
+    {
+        to <= self.low || from >= self.end && to <= NOWHERE
+    }
+
     /// No word with one of so many bytes is kept any more.
     #[inline(never)]
     fn forget_words(&mut self, a: u32, n: u32)
@@ -121,14 +129,6 @@ impl Words {
         for k in 0..(a % 4 + n + 3) / 4 {
             self.forget_word(first.wrapping_add(4 * k));
         }
-    }
-
-    /// Whether all words that are kept lie beside the addresses from one on and below another.
-    #[inline(always)]
-    fn lie_beside(&self, from: u64, to: u64) -> bool
-        ensures { result ≡ true → (to ≤ self.now.low) ⊎ ((self.now.end ≤ from) × (to ≤ 2 ^ 32)) }
-    {
-        to <= self.low || from >= self.end && to <= NOWHERE
     }
 
     /// The same. Most runs lie apart from all words that are kept.
