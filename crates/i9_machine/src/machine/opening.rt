@@ -1,14 +1,16 @@
 //! What comes next for the machine, and when.
 ghost use Rattle.std.specs.Prelude.{◌≡◌, ℕ, ◌<◌, List, None, Some, Ok, true, false, IfSome, IsNone};
 ghost use Rattle.i9_model.specs.Before.{choice_in};
-ghost use Rattle.i9_model.specs.Standing.{stands_at};
+ghost use Rattle.i9_model.specs.Run.{Faulted, fault_at};
+ghost use Rattle.i9_model.specs.Standing.{stands_at, Faults};
 ghost use Rattle.i9_model.specs.declared.need.TimedNeed.{TimedNeed};
 ghost use Rattle.i9_model.specs.Turns.{StandsFor, IssuesAt, last_issue, issue_turn};
+ghost use Rattle.i9_plan.specs.Kept.{inst_in, Locates};
 ghost use Rattle.i9_plan.specs.Open.{OpenStands, OpenPlanned, WaitsForAll};
 ghost use Rattle.i9_processor.specs.State.{state_of};
 ghost use Rattle.i9_schedule.specs.Plan.{Plan};
 ghost use Rattle.i9_machine.specs.Contents.{situation, outlook, contents_of, IsLike};
-ghost use Rattle.i9_machine.specs.Opening.{IsFreeToIssue, NextWaits, HasOpenNeed, HasKept};
+ghost use Rattle.i9_machine.specs.Opening.{IsFreeToIssue, NextWaits, HasNeed, HasOpenNeed, HasKept};
 
 use super::Machine;
 use super::planning::standing;
@@ -56,6 +58,22 @@ impl Machine {
         }
     }
 
+    /// The need of the instruction at the instruction address is kept, which faults.
+    // Few do, and this is no part of the code for the others.
+    #[inline(never)]
+    fn keep_faulted(&mut self, number: (u8, u16))
+        requires stands { stands_at (state_of self.old.processor) ≡ Faults (inst_in self.old.decodes) number }
+        requires located { Locates (state_of self.old.processor) self.old.decodes }
+        ensures need { HasNeed (situation self.old)
+            (Faulted (Some (inst_in self.old.decodes)) (fault_at (state_of self.old.processor) number)) self.new.need }
+        ensures like { IsLike self.old self.new }
+        ensures decodes { self.new.decodes ≡ self.old.decodes }
+        ensures effect { self.new.effect ≡ self.old.effect }
+    {
+        let need = need_faulted(&self.processor, &self.decodes, number);
+        self.keep(need);
+    }
+
     /// What the instruction at the instruction address would do, as if nothing came before it. Its need is kept, and
     /// where it runs its effect is made in the machine.
     // It is no part of the code that calls it: `proceed` would grow so large that the build would keep it apart itself.
@@ -73,10 +91,7 @@ impl Machine {
                 let need = need_done(&self.processor, &self.decodes, &self.effect);
                 self.keep(need);
             }
-            Open::Faults(number) => {
-                let need = need_faulted(&self.processor, &self.decodes, number);
-                self.keep(need);
-            }
+            Open::Faults(number) => self.keep_faulted(number),
         }
         open
     }

@@ -5,7 +5,7 @@ use Rattle.i9_plan.specs.declared.open.Open.{Open}
 use Rattle.i9_plan.specs.Kept.{inst_in}
 use Rattle.i9_machine.specs.Contents.{situation}
 use Rattle.i9_machine.specs.Opening.{HasNeed, HasOpenNeed}
-use Rattle.i9_machine.proofs.Overtaking.{runs_ahead, faults_ahead}
+use Rattle.i9_machine.proofs.Overtaking.{runs_ahead}
 use Rattle.i9_machine.proofs.machine.Machine.plan_instruction.Goals as goal
 
 pub returns-in-Runs-clause-need : goal.returns-in-Runs-clause-need
@@ -25,14 +25,6 @@ returns-in-Runs-clause-need c =
 pub returns-in-Faults-clause-need : goal.returns-in-Faults-clause-need
 returns-in-Faults-clause-need c =
     let at = situation c.args.self.now in
-    let mid = c.keep-in-Faults.new.self in
-    let need = c.need_faulted-need.ensures in
-    let number = c.in-Faults.number in
-    subst (λ (n : DecodeCache). HasNeed at (Faulted (Some (inst_in n)) (fault_at at.state number)) mid.need)
-    (sym c.keep-in-Faults.ensures.decodes) (record {
-      need = c.need_faulted-need.result;
-      fenced = c.keep-in-Faults.ensures.need;
-      is_need = need.need at.size at.cache;
-      cost = need.cost;
-      ahead = faults_ahead at.state _ _ number c.in-Faults.ensures.stands.0 need.need;
-    })
+    let mid = c.keep_faulted.new.self in
+    subst (λ (n : DecodeCache). HasNeed at (Faulted (Some (inst_in n)) (fault_at at.state c.in-Faults.number)) mid.need)
+    (sym c.keep_faulted.ensures.decodes) c.keep_faulted.ensures.need
