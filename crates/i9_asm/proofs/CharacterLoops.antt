@@ -3,7 +3,7 @@ use Rattle.std.proofs.Common.{◌≡◌, ℕ, ◌+◌, true, false, eqb, List, [
 use Rattle.std.specs.Option.{option_map}
 use Rattle.std.proofs.lemmas.Bool.{eqb-true}
 use Rattle.i9_text.specs.Text.{is_in_word}
-use Rattle.i9_value.specs.Cut.{from}
+use Rattle.i9_statement.specs.Cut.{from}
 use Rattle.i9_asm.specs.Strings.{if_blank, characters}
 
 -- a quote with more than blanks behind it

@@ -9,11 +9,11 @@ use Rattle.std.proofs.lemmas.Bool.{ltb-false}
 use Rattle.std.proofs.lemmas.List.{length-take-le}
 use Rattle.i9_isa.specs.Words.{words_of}
 use Rattle.i9_text.specs.Text.{is_blank}
-use Rattle.i9_value.specs.declared.fault.Fault.{Fault}
-use Rattle.i9_value.specs.declared.fault.Fault.TheVariants as fault
-use Rattle.i9_value.specs.declared.values.Value.{Value}
-use Rattle.i9_value.specs.Cut.{before, from}
-use Rattle.i9_value.specs.Values.{Names, value_of}
+use Rattle.i9_statement.specs.declared.fault.Fault.{Fault}
+use Rattle.i9_statement.specs.declared.fault.Fault.TheVariants as fault
+use Rattle.i9_statement.specs.declared.values.Value.{Value}
+use Rattle.i9_statement.specs.Cut.{before, from}
+use Rattle.i9_statement.specs.Values.{Names, value_of}
 use Rattle.i9_statement.specs.Fields.{fields_of}
 use Rattle.i9_statement.specs.Statements.{statement_of}
 use Rattle.i9_statement.specs.Codes.{Stands, stands_one, stands_two}

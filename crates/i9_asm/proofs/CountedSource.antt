@@ -2,9 +2,9 @@
 use Rattle.std.proofs.Common.{◌≡◌, ℕ, ◌+◌, ◌≤◌, List, [], ◌∷◌, ◌++◌, length, Option, Some, None, refl, sym, subst, ◌∙◌, arith, lit≤, length-append}
 use Rattle.i9_asm.proofs.TakenLines.{begun_total}
 use Rattle.i9_model.specs.Image.{Part, pairs_of}
-use Rattle.i9_runs.proofs.PairCounts.{length-with_part}
+use Rattle.i9_hex.proofs.PairCounts.{length-with_part}
 use Rattle.i9_text.specs.FirstFault.{SaysAll}
-use Rattle.i9_value.specs.Values.{Names}
+use Rattle.i9_statement.specs.Values.{Names}
 use Rattle.i9_asm.specs.Lines.{label_of, item_of}
 use Rattle.i9_asm.specs.Places.{Place, past_line, all_names, size_of, moved_to}
 use Rattle.i9_asm.specs.Source.{Source, start_source, segments_of, begun, grown, labelled_source, most_bytes, Assembles}

@@ -3,9 +3,9 @@ use Rattle.std.proofs.Common.{◌≡◌, ℕ, ◌+◌, ◌*◌, Bool, true, fals
 use Rattle.std.specs.Prelude.{is_some}
 use Rattle.std.specs.List.{list_all, slice_split, flat_map}
 use Rattle.std.proofs.lemmas.Bool.{ltb-true, ltb-false, lt-ltb, le-ltb, cases_Bool}
-use Rattle.i9_value.specs.declared.fault.Fault.{Fault}
-use Rattle.i9_value.specs.Noted.{kind_of, least}
-use Rattle.i9_value.specs.Values.{Names, value_of}
+use Rattle.i9_statement.specs.declared.fault.Fault.{Fault}
+use Rattle.i9_statement.specs.Noted.{kind_of, least}
+use Rattle.i9_statement.specs.Values.{Names, value_of}
 use Rattle.i9_statement.specs.Fields.{is_comma, field_of, fields_left}
 use Rattle.i9_asm.specs.declared.lines.Width.{Width}
 use Rattle.i9_asm.specs.declared.lines.Width.TheVariants.{Byte, Short, Word}

@@ -7,13 +7,13 @@ use Rattle.std.specs.List.{flat_map}
 use Rattle.std.specs.Int.{w32, to_le_bytes}
 use Rattle.std.proofs.lemmas.List.{append-nil}
 use Rattle.i9_isa.specs.Words.{words_of}
-use Rattle.i9_value.specs.declared.fault.Fault.{Fault}
-use Rattle.i9_value.specs.declared.fault.Fault.TheVariants.{Form}
-use Rattle.i9_value.specs.declared.fault.Noted.{Noted}
+use Rattle.i9_statement.specs.declared.fault.Fault.{Fault}
+use Rattle.i9_statement.specs.declared.fault.Fault.TheVariants.{Form}
+use Rattle.i9_statement.specs.declared.fault.Noted.{Noted}
 use Rattle.i9_statement.specs.declared.statements.Statement.{Statement}
-use Rattle.i9_value.specs.Values.{Names, value_of}
+use Rattle.i9_statement.specs.Values.{Names, value_of}
 use Rattle.i9_statement.specs.Statements.{statement_of}
-use Rattle.i9_value.specs.Noted.{fine}
+use Rattle.i9_statement.specs.Noted.{fine}
 use Rattle.i9_statement.specs.Codes.{IsCode, stands_one, stands_two}
 use Rattle.i9_asm.specs.Lines.{Item, Data, Ascii, Space, Instruction}
 use Rattle.i9_asm.specs.Strings.{string_of}

@@ -18,15 +18,15 @@ use Rattle.i9_isa.specs.Table.{row_of}
 use Rattle.i9_isa.specs.Words.{words_of, words_of_mode}
 use Rattle.i9_decode.specs.Ignored.{fields_of, ignored_in, ignored_bits}
 use Rattle.i9_text.specs.Text.{is_blank}
-use Rattle.i9_value.specs.declared.fault.Fault.{Fault}
-use Rattle.i9_value.specs.declared.fault.Fault.TheVariants.{Form, UnknownName}
-use Rattle.i9_value.specs.declared.fault.Noted.{Noted}
-use Rattle.i9_value.specs.declared.values.Value.{Value}
-use Rattle.i9_value.specs.declared.values.Value.TheVariants.{Number, Named, Beyond, Unknown}
-use Rattle.i9_value.specs.Cut.{before, from, is_byte}
-use Rattle.i9_value.specs.Noted.{kind_of, fine, wrong, least}
-use Rattle.i9_value.specs.Registers.{register_of}
-use Rattle.i9_value.specs.Values.{Names, is_name, has_name_start, is_sign, number_text, named, tail_number, name_text, value_of}
+use Rattle.i9_statement.specs.declared.fault.Fault.{Fault}
+use Rattle.i9_statement.specs.declared.fault.Fault.TheVariants.{Form, UnknownName}
+use Rattle.i9_statement.specs.declared.fault.Noted.{Noted}
+use Rattle.i9_statement.specs.declared.values.Value.{Value}
+use Rattle.i9_statement.specs.declared.values.Value.TheVariants.{Number, Named, Beyond, Unknown}
+use Rattle.i9_statement.specs.Cut.{before, from, is_byte}
+use Rattle.i9_statement.specs.Noted.{kind_of, fine, wrong, least}
+use Rattle.i9_statement.specs.Registers.{register_of}
+use Rattle.i9_statement.specs.Values.{Names, is_name, has_name_start, is_sign, number_text, named, tail_number, name_text, value_of}
 use Rattle.i9_statement.specs.declared.parts.Front.{Front}
 use Rattle.i9_statement.specs.declared.parts.Front.TheVariants.{Absent, Valued}
 use Rattle.i9_statement.specs.declared.parts.Base.{Base}

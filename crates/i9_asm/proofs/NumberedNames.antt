@@ -7,9 +7,9 @@ use Rattle.std.specs.Str.{bytes_eq}
 use Rattle.std.proofs.Math.Path.{fun_ext}
 use Rattle.std.proofs.lemmas.Bool.{cases_Bool, lt-ltb, le-ltb}
 use Rattle.std.proofs.lemmas.Slice.Eq.{bytes_eq-Decides}
-use Rattle.i9_value.specs.declared.known.Definition.{Definition}
-use Rattle.i9_value.specs.Known.{enter, values_of, value_before, values_before}
-use Rattle.i9_value.specs.Values.{is_name, value_of, settled}
+use Rattle.i9_statement.specs.declared.known.Definition.{Definition}
+use Rattle.i9_statement.specs.Known.{enter, values_of, value_before, values_before}
+use Rattle.i9_statement.specs.Values.{is_name, value_of, settled}
 use Rattle.i9_asm.specs.Lines.{Item, Empty, Bad, Org, Space, Align, Set, Data, Ascii, Instruction, label_of}
 use Rattle.i9_asm.specs.Places.{Place, define, address_at, past_label, past_line, past_lines, effect_of, assigned}
 use Rattle.i9_asm.specs.Numbered.{Definitions, no_definitions, label_entered, item_entered, line_entered, lines_entered}

@@ -6,8 +6,8 @@ use Rattle.std.specs.Int.{w32, to_le_bytes}
 use Rattle.i9_model.specs.Image.{Part}
 use Rattle.i9_text.specs.FirstFault.{SaysAll, IsRefused}
 use Rattle.i9_text.proofs.FirstFaultOnce.{all_once, refused_once, never_both}
-use Rattle.i9_value.specs.Noted.{kind_of}
-use Rattle.i9_value.specs.Values.{Names, value_of}
+use Rattle.i9_statement.specs.Noted.{kind_of}
+use Rattle.i9_statement.specs.Values.{Names, value_of}
 use Rattle.i9_statement.specs.Codes.{Stands}
 use Rattle.i9_statement.proofs.StatementWords.{stands_once}
 use Rattle.i9_asm.specs.Lines.{Item, Empty, Org, Space, Align, Set, Data, Ascii, Instruction, item_of, label_of}

@@ -11,14 +11,14 @@ use Rattle.i9_isa.specs.declared.inst.Inst.{Inst}
 use Rattle.i9_isa.specs.Valid.{IsValid}
 use Rattle.i9_text.specs.Text.{space, is_blank, is_in_word}
 use Rattle.i9_asm.specs.declared.comments.Quote.TheVariants.{Outside}
-use Rattle.i9_value.specs.Cut.{before, from, is_byte}
-use Rattle.i9_value.specs.Values.{is_name_byte, begins_name}
+use Rattle.i9_statement.specs.Cut.{before, from, is_byte}
+use Rattle.i9_statement.specs.Values.{is_name_byte, begins_name}
 use Rattle.i9_statement.specs.Mnemonics.{mnemonic, mnemonic_text}
 use Rattle.i9_statement.specs.Fields.{fields_of, join_fields}
 use Rattle.i9_statement.specs.Instructions.{Fields, operand_fields}
 use Rattle.i9_statement.specs.Statements.{open_brace, close_brace, fields_text, spare_text, statement_text}
 use Rattle.i9_asm.specs.Lines.{code_len, without_comment, ends_head, labelled_by, labelled, Org, Data, Instruction, one_value, some_values, directive_of, item_by, item_of, label_of, Says}
-use Rattle.i9_value.proofs.Cutting.{is_free, stops, before-cut, from-cut, free_by, all_append}
+use Rattle.i9_statement.proofs.Cutting.{is_free, stops, before-cut, from-cut, free_by, all_append}
 use Rattle.i9_statement.proofs.ReadInstructions.{mnemonic_bytes}
 use Rattle.i9_statement.proofs.Classes.{apart_by, IsField}
 use Rattle.i9_statement.proofs.ReadFields.{pad, fields_of-text}

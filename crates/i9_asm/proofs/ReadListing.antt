@@ -18,9 +18,9 @@ use Rattle.i9_decode.specs.Ignored.{ignored_bits}
 use Rattle.i9_decode.proofs.ValidWords.{encodes_valid}
 use Rattle.i9_text.specs.Text.{space, lines_of}
 use Rattle.i9_text.specs.Written.{word_text, byte_text}
-use Rattle.i9_value.specs.Noted.{least}
-use Rattle.i9_value.specs.Values.{Names, settled}
-use Rattle.i9_value.specs.NumberText.{hex_text, hex_byte_text}
+use Rattle.i9_statement.specs.Noted.{least}
+use Rattle.i9_statement.specs.Values.{Names, settled}
+use Rattle.i9_statement.specs.NumberText.{hex_text, hex_byte_text}
 use Rattle.i9_model.specs.Image.{Part}
 use Rattle.i9_hex.specs.Put.{with_part}
 use Rattle.i9_statement.specs.Statements.{statement_of, statement_text}
@@ -29,12 +29,12 @@ use Rattle.i9_statement.specs.Codes.{Stands, taken}
 use Rattle.i9_asm.specs.Places.{is_ascii, all_names, no_names, if_fine, Place, address_at, location_count, statement_size, size_of, moved_to, assigned}
 use Rattle.i9_asm.specs.Source.{start_source, segments_of, Gives, gives_nothing, gives_instruction, gives_data, gives_move, item_fault, Source, most_bytes, line_fault, Assembles, data_value, fits_width, low_bytes, past_bytes, HasRoom, AddsBytes}
 use Rattle.i9_asm.specs.Listing.{text_by, text_of, printed_words, printed_bytes, word_at, whole_size, is_single, line_size, whole_text, said_text, noted_words, first_line, Lists, lists_none, lists_line, org_line, ListsAll, lists_all, lists_run}
-use Rattle.i9_runs.specs.Runs.{IsLow, IsRun, bytes_in}
+use Rattle.i9_hex.specs.Runs.{IsLow, IsRun, bytes_in}
 use Rattle.i9_asm.specs.Laws.{IsAssembly}
-use Rattle.i9_value.proofs.Cutting.{all_by}
+use Rattle.i9_statement.proofs.Cutting.{all_by}
 use Rattle.i9_text.proofs.WrittenLines.{is_plain_byte, is_plain, ascii-plain, plain-append, plain-word_text, plain-byte_text, IsPlain as IsPlainLine, lines_of-written}
 use Rattle.i9_hex.specs.Writing.{with_line_feed}
-use Rattle.i9_value.proofs.ReadValues.{value_of-hex, value_of-hex_byte}
+use Rattle.i9_statement.proofs.ReadValues.{value_of-hex, value_of-hex_byte}
 use Rattle.i9_statement.proofs.Classes.{apart_by, hex_field, hex_byte_field}
 use Rattle.i9_statement.proofs.ReadFields.{pad}
 use Rattle.i9_statement.proofs.ReadStatements.{statement_of-text}

@@ -2,8 +2,8 @@
 use Rattle.std.proofs.Common.{◌≡◌, ℕ, ◌+◌, ◌*◌, List, [], ◌∷◌, Option, Some, Bor, MatchOption, refl, sym, ap, subst, ◌∙◌, arith}
 use Rattle.i9_text.specs.Text.{lines_of, lines_left}
 use Rattle.i9_text.proofs.Loop.{lines_left-split}
-use Rattle.i9_value.specs.Values.{Names}
-use Rattle.i9_value.specs.Known.{values_of, values_before}
+use Rattle.i9_statement.specs.Values.{Names}
+use Rattle.i9_statement.specs.Known.{values_of, values_before}
 use Rattle.i9_asm.specs.declared.source.Source as code
 use Rattle.i9_asm.specs.Lines.{label_of}
 use Rattle.i9_asm.specs.Places.{Place, no_names, past_label, past_line, start_place, all_names}

@@ -4,7 +4,7 @@ use Rattle.std.specs.Prelude.{is_some}
 use Rattle.std.specs.List.{slice_split}
 use Rattle.std.proofs.lemmas.List.Splits.{length-slice_split}
 use Rattle.i9_statement.specs.Fields.{is_comma, field_of, fields_left}
-use Rattle.i9_value.specs.declared.fault.Fault.TheVariants.{Form}
+use Rattle.i9_statement.specs.declared.fault.Fault.TheVariants.{Form}
 use Rattle.i9_asm.specs.Lines.{Item, Bad, Data, one_value, two_values, some_values}
 
 parts_one : (item : List ℕ → Item) (f : List ℕ) (parts : List (List ℕ)) → 0 < length parts → one_value item (f ∷ map field_of parts) ≡ Bad Form

@@ -5,9 +5,9 @@ use Rattle.std.specs.Int.{w32, to_le_bytes}
 use Rattle.std.specs.Option.{option_map}
 use Rattle.i9_model.specs.Image.{Part}
 use Rattle.i9_text.specs.FirstFault.{SaysAll, IsRefused, at_line, at_end}
-use Rattle.i9_value.specs.declared.fault.Fault.{Fault}
-use Rattle.i9_value.specs.Noted.{kind_of}
-use Rattle.i9_value.specs.Values.{Names, value_of}
+use Rattle.i9_statement.specs.declared.fault.Fault.{Fault}
+use Rattle.i9_statement.specs.Noted.{kind_of}
+use Rattle.i9_statement.specs.Values.{Names, value_of}
 use Rattle.i9_statement.proofs.SomeWords.{some_words}
 use Rattle.i9_asm.specs.Lines.{Item, Empty, Org, Space, Align, Set, Data, Ascii, Instruction, item_of, label_of}
 use Rattle.i9_asm.specs.Lines as items

@@ -3,10 +3,10 @@ use Rattle.std.proofs.Common.{◌≡◌, ℕ, ◌+◌, Bool, true, false, not, L
 use Rattle.std.specs.Prelude.{is_some, if◌then◌else◌}
 use Rattle.std.specs.Option.{option_map}
 use Rattle.std.specs.List.{list_all}
-use Rattle.i9_value.specs.declared.fault.Fault.{Fault}
-use Rattle.i9_value.specs.declared.fault.Fault.TheVariants.{Form, NameTwice}
-use Rattle.i9_value.specs.Noted.{kind_of, least}
-use Rattle.i9_value.specs.Values.{Names, is_name}
+use Rattle.i9_statement.specs.declared.fault.Fault.{Fault}
+use Rattle.i9_statement.specs.declared.fault.Fault.TheVariants.{Form, NameTwice}
+use Rattle.i9_statement.specs.Noted.{kind_of, least}
+use Rattle.i9_statement.specs.Values.{Names, is_name}
 use Rattle.i9_asm.specs.declared.source.Source as code
 use Rattle.i9_asm.specs.declared.source.Grown as grown
 use Rattle.i9_asm.specs.declared.source.LineError.{LineError}

@@ -3,7 +3,7 @@ use Rattle.std.specs.Prelude.{◌≡◌, ℕ, List, None}
 use Rattle.i9_text.specs.FirstFault.{SaysAll, IsRefused}
 use Rattle.i9_text.specs.Text.{lines_of}
 use Rattle.i9_model.specs.Image.{Part, pairs_of}
-use Rattle.i9_runs.specs.Runs.{SaySameBytes}
+use Rattle.i9_hex.specs.Runs.{SaySameBytes}
 use Rattle.i9_asm.specs.Lines.{label_of}
 use Rattle.i9_asm.specs.Places.{Place, past_label, all_names}
 use Rattle.i9_asm.specs.Source.{Source, start_source, fault_of, Assembles, segments_of}

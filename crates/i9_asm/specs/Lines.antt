@@ -3,11 +3,11 @@ use Rattle.std.specs.Prelude.{◌≡◌, ℕ, ◌+◌, ◌==◌, ◌||◌, Bool,
 use Rattle.std.specs.Prelude.{if◌then◌else◌}
 use Rattle.std.specs.Str.{bytes_eq}
 use Rattle.i9_text.specs.Text.{is_blank, is_in_word}
-use Rattle.i9_value.specs.declared.fault.Fault.{Fault}
-use Rattle.i9_value.specs.declared.fault.Fault.TheVariants as fault
+use Rattle.i9_statement.specs.declared.fault.Fault.{Fault}
+use Rattle.i9_statement.specs.declared.fault.Fault.TheVariants as fault
 use Rattle.i9_asm.specs.declared.comments.Quote.{Quote}
 use Rattle.i9_asm.specs.declared.comments.Quote.TheVariants.{Outside, Quoted, Escaped}
-use Rattle.i9_value.specs.Cut.{before, from}
+use Rattle.i9_statement.specs.Cut.{before, from}
 use Rattle.i9_statement.specs.Fields.{fields_of}
 
 -- `"`, `#`, `.` and `\`

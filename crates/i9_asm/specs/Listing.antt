@@ -12,11 +12,11 @@ use Rattle.i9_model.specs.Image.{Part}
 use Rattle.i9_hex.specs.Writing.{with_line_feed}
 use Rattle.i9_text.specs.Text.{space}
 use Rattle.i9_text.specs.Written.{word_text, byte_text}
-use Rattle.i9_value.specs.NumberText.{hex_text, hex_byte_text}
+use Rattle.i9_statement.specs.NumberText.{hex_text, hex_byte_text}
 use Rattle.i9_statement.specs.Statements.{statement_text}
 use Rattle.i9_statement.specs.Codes.{taken}
 use Rattle.i9_asm.specs.Lines.{hash}
-use Rattle.i9_runs.specs.Runs.{AreRuns}
+use Rattle.i9_hex.specs.Runs.{AreRuns}
 
 -- ---- the statement of two words
 

@@ -1,9 +1,9 @@
 -- The table of names that the first pass leaves: each name with its value and the step of its definition. The label of
 -- the line behind n lines is defined at step 2 n, and what `.set` assigns there at step 2 n + 1.
 use Rattle.std.specs.Prelude.{ℕ, ◌+◌, ◌&&◌, List, [], ◌∷◌, Option, Some, None, is_some, if◌then◌else◌}
-use Rattle.i9_value.specs.declared.known.Definition.{Definition}
-use Rattle.i9_value.specs.Known.{enter}
-use Rattle.i9_value.specs.Values.{is_name, value_of, settled}
+use Rattle.i9_statement.specs.declared.known.Definition.{Definition}
+use Rattle.i9_statement.specs.Known.{enter}
+use Rattle.i9_statement.specs.Values.{is_name, value_of, settled}
 use Rattle.i9_asm.specs.Lines.{Item, Set, label_of}
 use Rattle.i9_asm.specs.Places.{Place, address_at, past_label, past_line, effect_of}
 

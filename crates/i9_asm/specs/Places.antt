@@ -5,13 +5,13 @@ use Rattle.std.specs.List.{list_all, list_any}
 use Rattle.std.specs.Str.{bytes_eq}
 use Rattle.std.specs.Map.{update}
 use Rattle.i9_isa.specs.Words.{words_of}
-use Rattle.i9_value.specs.declared.fault.Fault.{Fault}
-use Rattle.i9_value.specs.declared.fault.Fault.TheVariants as fault
-use Rattle.i9_value.specs.declared.fault.Noted.{Noted}
+use Rattle.i9_statement.specs.declared.fault.Fault.{Fault}
+use Rattle.i9_statement.specs.declared.fault.Fault.TheVariants as fault
+use Rattle.i9_statement.specs.declared.fault.Noted.{Noted}
 use Rattle.i9_statement.specs.declared.statements.Statement.{Statement}
-use Rattle.i9_value.specs.declared.values.Value.{Value}
-use Rattle.i9_value.specs.Noted.{kind_of, wrong}
-use Rattle.i9_value.specs.Values.{Names, is_name, value_of, settled}
+use Rattle.i9_statement.specs.declared.values.Value.{Value}
+use Rattle.i9_statement.specs.Noted.{kind_of, wrong}
+use Rattle.i9_statement.specs.Values.{Names, is_name, value_of, settled}
 use Rattle.i9_statement.specs.Statements.{statement_of}
 use Rattle.i9_asm.specs.Lines.{Item, Empty, Org, Space, Align, Set, Data, Ascii, Instruction, item_of, label_of}
 use Rattle.i9_asm.specs.Strings.{string_of}

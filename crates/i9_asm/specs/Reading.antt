@@ -2,12 +2,12 @@
 use Rattle.std.specs.Prelude.{◌≡◌, ℕ, ◌<◌, ◌++◌, List, [], length, Option, Some, None, Result, Ok, Err}
 use Rattle.std.specs.List.{flat_map}
 use Rattle.std.specs.Int.{w32, to_le_bytes}
-use Rattle.i9_value.specs.Known.{definitions}
+use Rattle.i9_statement.specs.Known.{definitions}
 use Rattle.i9_model.specs.Image.{Part}
-use Rattle.i9_value.specs.declared.fault.Fault.{Fault}
-use Rattle.i9_value.specs.Noted.{kind_of}
-use Rattle.i9_value.specs.Values.{Names}
-use Rattle.i9_value.specs.Known.{known_in, values_of}
+use Rattle.i9_statement.specs.declared.fault.Fault.{Fault}
+use Rattle.i9_statement.specs.Noted.{kind_of}
+use Rattle.i9_statement.specs.Values.{Names}
+use Rattle.i9_statement.specs.Known.{known_in, values_of}
 use Rattle.i9_statement.specs.Codes.{Stands}
 use Rattle.i9_asm.specs.declared.strings.First as code
 use Rattle.i9_asm.specs.declared.strings.First.TheVariants.{Character, End, Malformed}

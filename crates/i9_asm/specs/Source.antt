@@ -4,12 +4,12 @@ use Rattle.std.specs.Prelude.{[], ◌∷◌, ◌++◌, length, take, Option, Som
 use Rattle.std.specs.Option.{option_map}
 use Rattle.std.specs.List.{list_all, flat_map}
 use Rattle.std.specs.Int.{w32, to_le_bytes}
-use Rattle.i9_value.specs.declared.fault.Fault.{Fault}
-use Rattle.i9_value.specs.declared.fault.Fault.TheVariants as fault
-use Rattle.i9_value.specs.declared.fault.Noted.{Noted}
-use Rattle.i9_value.specs.declared.values.Value.{Value}
-use Rattle.i9_value.specs.Noted.{kind_of, least}
-use Rattle.i9_value.specs.Values.{Names, is_name, value_of, settled}
+use Rattle.i9_statement.specs.declared.fault.Fault.{Fault}
+use Rattle.i9_statement.specs.declared.fault.Fault.TheVariants as fault
+use Rattle.i9_statement.specs.declared.fault.Noted.{Noted}
+use Rattle.i9_statement.specs.declared.values.Value.{Value}
+use Rattle.i9_statement.specs.Noted.{kind_of, least}
+use Rattle.i9_statement.specs.Values.{Names, is_name, value_of, settled}
 use Rattle.i9_statement.specs.Statements.{statement_of}
 use Rattle.i9_statement.specs.Codes.{Stands}
 use Rattle.i9_asm.specs.Lines.{Item, Empty, Bad, Org, Space, Align, Set, Data, Ascii, Instruction, item_of, label_of}

@@ -1,7 +1,7 @@
 -- The characters of a string.
 use Rattle.std.specs.Prelude.{ℕ, ◌==◌, List, [], ◌∷◌, Option, Some, None, if◌then◌else◌}
 use Rattle.i9_text.specs.Text.{line_feed, is_in_word}
-use Rattle.i9_value.specs.Cut.{from}
+use Rattle.i9_statement.specs.Cut.{from}
 use Rattle.i9_asm.specs.Lines.{quote, backslash}
 
 -- `n` and `0`

@@ -1,6 +1,6 @@
 //! Assembling a source line by line, in two passes.
 ghost use Rattle.std.specs.Prelude.{◌≡◌, ◌≤◌, ℕ, List, length, IfOk, IfErr, Ok, Err};
-ghost use Rattle.i9_value.specs.Known.{definitions};
+ghost use Rattle.i9_statement.specs.Known.{definitions};
 ghost use Rattle.i9_text.specs.Text.{lines_of};
 ghost use Rattle.i9_model.specs.Image.{Part, pairs_of};
 ghost use Rattle.i9_asm.specs.Places.{start_place};
@@ -14,8 +14,8 @@ use crate::naming::Naming;
 use crate::source::Source;
 use i9_hex::Segments;
 use i9_isa::NoMemory;
+use i9_statement::Table;
 use i9_text::split_line;
-use i9_value::Table;
 use std::alloc::{AllocError, Global};
 
 /// The names of a source with their definitions.

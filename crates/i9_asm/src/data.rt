@@ -1,16 +1,15 @@
 //! The values of a directive.
 ghost use Rattle.std.specs.Prelude.{◌≡◌, ◌≤◌, ◌^◌, ◌*◌, ◌++◌, ℕ, length, is_some, IfOk, OnOk, Some, if◌then◌else◌};
 ghost use Rattle.std.specs.List.{list_all, flat_map};
-ghost use Rattle.i9_value.specs.Known.{known_in};
-ghost use Rattle.i9_value.specs.Values.{value_of};
+ghost use Rattle.i9_statement.specs.Known.{known_in};
+ghost use Rattle.i9_statement.specs.Values.{value_of};
 ghost use Rattle.i9_statement.specs.Fields.{fields_left};
 ghost use Rattle.i9_asm.specs.Places.{no_names, if_holds};
 ghost use Rattle.i9_asm.specs.Source.{fits_width, data_value, data_fault, low_bytes};
 ghost use Rattle.i9_asm.specs.Said.{bytes_of};
 
 use crate::lines::Width;
-use i9_statement::split_field;
-use i9_value::{Fault, Known, Noted, Value, least, settled, value_of};
+use i9_statement::{Fault, Known, Noted, Value, least, settled, split_field, value_of};
 use std::alloc::AllocError;
 
 impl Width {

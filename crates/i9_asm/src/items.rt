@@ -1,6 +1,6 @@
 //! Items: their faults at a place, and their bytes.
 ghost use Rattle.std.specs.Prelude.{◌≡◌, ◌++◌, None, IfOk, OnOk};
-ghost use Rattle.i9_value.specs.Known.{known_in};
+ghost use Rattle.i9_statement.specs.Known.{known_in};
 ghost use Rattle.i9_statement.specs.Statements.{statement_of};
 ghost use Rattle.i9_asm.specs.Said.{item_as, label_in};
 ghost use Rattle.i9_asm.specs.Lines.{Set, Ascii};
@@ -12,8 +12,9 @@ use crate::data::add_data;
 use crate::lines::Said;
 use crate::places::{Place, alignment_of, space_of};
 use crate::strings::{add_string, string_size};
-use i9_statement::{code_of, statement_of};
-use i9_value::{Fault, Known, is_name, least, lookup, settled, value_of};
+use i9_statement::{
+    Fault, Known, code_of, is_name, least, lookup, settled, statement_of, value_of,
+};
 use std::alloc::AllocError;
 
 /// Appends the words of a statement at an address, low bytes first, where it has no fault, and answers the fault.

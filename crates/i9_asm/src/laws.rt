@@ -2,12 +2,12 @@
 ghost use Rattle.std.specs.Prelude.{◌≡◌, ◌≤◌, ◌⊎◌, ◌+◌, ℕ, List, length, None};
 ghost use Rattle.std.specs.List.{AllByRecursion};
 ghost use Rattle.i9_model.specs.Image.{Part};
-ghost use Rattle.i9_value.specs.Values.{Names};
+ghost use Rattle.i9_statement.specs.Values.{Names};
 ghost use Rattle.i9_asm.specs.Lines.{item_of};
 ghost use Rattle.i9_asm.specs.Places.{size_of, moved_to, past_line};
 ghost use Rattle.i9_asm.specs.Source.{Source, Gives, line_fault, most_bytes};
 ghost use Rattle.i9_asm.specs.Listing.{ListsAll};
-ghost use Rattle.i9_runs.specs.Runs.{IsRun, bytes_in};
+ghost use Rattle.i9_hex.specs.Runs.{IsRun, bytes_in};
 ghost use Rattle.i9_asm.specs.Laws.{item_place, IsAssembly, IsRefusedSource};
 
 /// The lines of a listing of at most 4,194,304 bytes assemble without a fault, to the listed runs.

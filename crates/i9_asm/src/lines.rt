@@ -1,16 +1,15 @@
 //! Lines of a source: the label, and what follows it.
 ghost use Rattle.std.specs.Prelude.{◌≡◌, ℕ, List, MatchOption};
 ghost use Rattle.i9_text.specs.Text.{is_in_word};
-ghost use Rattle.i9_value.specs.declared.fault.Fault.TheVariants as fault;
-ghost use Rattle.i9_value.specs.Cut.{before, from};
+ghost use Rattle.i9_statement.specs.declared.fault.Fault.TheVariants as fault;
+ghost use Rattle.i9_statement.specs.Cut.{before, from};
 ghost use Rattle.i9_statement.specs.Fields.{fields_of};
 ghost use Rattle.i9_asm.specs.Lines.{Item, Bad, Org, Space, Align, Set, ends_head, labelled, item_of, label_of};
 ghost use Rattle.i9_asm.specs.Lines.{one_value, two_values, some_values, directive_of, item_by};
 ghost use Rattle.i9_asm.specs.Said.{bytes_of, item_as, label_as, label_in};
 
 use crate::comments::without_comment;
-use i9_statement::{fields_of, split_field};
-use i9_value::{Fault, cut_blank, cut_where};
+use i9_statement::{Fault, cut_blank, cut_where, fields_of, split_field};
 
 /// How many bytes a value of a directive has.
 #[derive(Clone, Copy, Debug, PartialEq, Eq)]

@@ -1,11 +1,11 @@
 //! The first pass: the names of a source and their definitions.
 ghost use Rattle.std.specs.Prelude.{◌≡◌, ◌<◌, ◌*◌, ◌^◌, IfOk};
-ghost use Rattle.i9_value.specs.Known.{definitions};
+ghost use Rattle.i9_statement.specs.Known.{definitions};
 ghost use Rattle.i9_asm.specs.Said.{item_as, label_in};
 
 use crate::lines::{Said, read_line};
 use crate::places::{Place, effect_of, is_label};
-use i9_value::{Definition, Known, Table, is_name, settled, value_of};
+use i9_statement::{Definition, Known, Table, is_name, settled, value_of};
 use std::alloc::{AllocError, Global};
 
 /// Where the first pass stands: the location, and the names that are defined before it.

@@ -10,8 +10,9 @@ use crate::data::{data_size, if_holds};
 use crate::lines::{Line, Said};
 use crate::strings::string_size;
 use i9_isa::word_count;
-use i9_statement::{Statement, statement_of};
-use i9_value::{Fault, Known, Noted, Value, is_name, settled, value_of};
+use i9_statement::{
+    Fault, Known, Noted, Statement, Value, is_name, settled, statement_of, value_of,
+};
 
 /// How many bytes `.space` has at most.
 const MOST_SPACE: u32 = 1_048_576;

@@ -1,7 +1,7 @@
 //! Sources: what each line adds, and the segments.
 ghost use Rattle.std.specs.Prelude.{◌≡◌, ◌<◌, ◌≤◌, ◌^◌, ◌+◌, ◌*◌, IfOk};
-ghost use Rattle.i9_value.specs.Known.{definitions};
-ghost use Rattle.i9_value.specs.Values.{Names};
+ghost use Rattle.i9_statement.specs.Known.{definitions};
+ghost use Rattle.i9_statement.specs.Values.{Names};
 ghost use Rattle.i9_asm.specs.Said.{item_as};
 ghost use Rattle.i9_asm.specs.Source.{most_bytes, fault_if};
 
@@ -10,7 +10,7 @@ use crate::lines::{Said, read_line};
 use crate::places::{Place, is_ascii};
 use i9_hex::Segments;
 use i9_isa::NoMemory;
-use i9_value::{Fault, Known, Table, least};
+use i9_statement::{Fault, Known, Table, least};
 use std::alloc::{AllocError, Global};
 
 /// How many addresses there are.
@@ -74,8 +74,8 @@ pub(crate) struct Grown {
 }
 
 impl Source {
-    ghost use Rattle.i9_value.specs.Noted.{least};
-    ghost use Rattle.i9_value.specs.Known.{known_in, values_of, values_before};
+    ghost use Rattle.i9_statement.specs.Noted.{least};
+    ghost use Rattle.i9_statement.specs.Known.{known_in, values_of, values_before};
     ghost use Rattle.i9_asm.specs.Lines.{label_of};
     ghost use Rattle.i9_asm.specs.Places.{no_names, start_place, past_label, size_of, moved_to};
     ghost use Rattle.i9_asm.specs.Source.{start_source, item_fault, room_fault, rest_fault, begun, segments_of};

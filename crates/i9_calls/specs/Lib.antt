@@ -1,1 +1,4 @@
+pub mod Callers
 pub mod Controls
+pub mod Kinds
+pub mod Switches

@@ -3,12 +3,12 @@ ghost use Rattle.std.specs.Prelude.{◌≡◌, ◌%◌, None, IfOk};
 ghost use Rattle.i9_model.specs.declared.layout.TheConstants.{PC_MASK};
 ghost use Rattle.i9_model.specs.Hazards.{save_hazard};
 ghost use Rattle.i9_model.specs.Calls.{planned_call, planned_calls};
-ghost use Rattle.i9_entry.specs.Callers.{caller_of};
+ghost use Rattle.i9_calls.specs.Callers.{caller_of};
 ghost use Rattle.i9_memory.specs.Memory.{memory_of};
 ghost use Rattle.i9_watch.specs.Watch.{frames_of};
 ghost use Rattle.i9_model.specs.Numbers.{IsWithin};
 
-use i9_entry::{enter_system, trace_enable};
+use crate::{enter_system, trace_enable};
 use i9_memory::Memory;
 use i9_model::layout::{LOCAL_RETURN, MOST_SYSTEM_CALL, SUPERVISOR_RETURN};
 use i9_model::{CallsStop, Push, Sys};

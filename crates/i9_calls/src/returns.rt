@@ -8,7 +8,7 @@ ghost use Rattle.i9_memory.specs.Memory.{memory_of};
 ghost use Rattle.i9_watch.specs.Watch.{frames_of};
 ghost use Rattle.i9_calls.specs.Controls.{recorded, controls_after};
 
-use i9_entry::{WORD_SIZE, in_supervisor_mode, read_word, without_supervisor};
+use crate::{WORD_SIZE, in_supervisor_mode, read_word, without_supervisor};
 use i9_memory::Memory;
 use i9_model::Pop;
 use i9_model::layout::{

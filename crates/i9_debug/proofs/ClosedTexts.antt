@@ -4,8 +4,8 @@ use Rattle.i9_model.specs.PrintedText.{lines_of}
 use Rattle.i9_model.specs.Run.{Given, Record, Finish}
 use Rattle.i9_course.specs.Course.{Item}
 use Rattle.i9_machine.specs.Turned.{steps_on}
-use Rattle.i9_script.specs.declared.command.Command.{Command}
-use Rattle.i9_script.specs.declared.command.Command.TheVariants as commands
+use Rattle.i9_schedule.specs.declared.command.Command.{Command}
+use Rattle.i9_schedule.specs.declared.command.Command.TheVariants as commands
 use Rattle.i9_lines.proofs.TextLines.{IsClosed, closed_none, closed_line, closed_join}
 use Rattle.i9_lines.proofs.LineCounts.{line-bytes, line-turn, line-held, line-raw_bytes, line-who}
 use Rattle.i9_lines.proofs.ClosedLines.{closed_text, closed_view, closed_raw}

@@ -16,9 +16,9 @@ use Rattle.i9_back.specs.Stands.{StaysAt}
 use Rattle.i9_machine.specs.StandsFor.{StandsFor, IsUnderWay, FollowsUntil}
 use Rattle.i9_machine.specs.InRun.{IsInRun}
 use Rattle.i9_machine.specs.Turned.{steps_on}
-use Rattle.i9_script.specs.declared.command.Command.{Command}
-use Rattle.i9_script.specs.declared.command.Command.TheVariants as commands
-use Rattle.i9_script.specs.ScriptText.{IsCommandInRange}
+use Rattle.i9_schedule.specs.declared.command.Command.{Command}
+use Rattle.i9_schedule.specs.declared.command.Command.TheVariants as commands
+use Rattle.i9_schedule.specs.ScriptText.{IsCommandInRange}
 use Rattle.i9_lines.specs.declared.print.Printed.{Printed}
 use Rattle.i9_lines.specs.declared.print.Printed.TheVariants.{Done, Write, Memory}
 use Rattle.i9_debug.specs.declared.sessions.SessionEnd.{SessionEnd}

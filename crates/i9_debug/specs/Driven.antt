@@ -19,8 +19,8 @@ use Rattle.i9_model.specs.Run.{Given, Record, counts_of, Finish}
 use Rattle.i9_schedule.specs.Plan.{Plan}
 use Rattle.i9_machine.specs.declared.machine.Machine.{Machine}
 use Rattle.i9_machine.specs.StandsFor.{StandsFor, FollowsUntil}
-use Rattle.i9_script.specs.declared.command.Command.{Command}
-use Rattle.i9_script.specs.declared.command.Command.TheVariants as commands
+use Rattle.i9_schedule.specs.declared.command.Command.{Command}
+use Rattle.i9_schedule.specs.declared.command.Command.TheVariants as commands
 use Rattle.i9_lines.specs.declared.print.Printed.{Printed}
 use Rattle.i9_lines.specs.declared.print.Printed.TheVariants as printed
 use Rattle.i9_debug.specs.declared.sessions.SessionEnd.{SessionEnd}

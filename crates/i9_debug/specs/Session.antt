@@ -16,8 +16,8 @@ use Rattle.i9_machine.specs.Raw.{raw_at}
 use Rattle.i9_machine.specs.Turned.{steps_on}
 use Rattle.i9_back.specs.Earlier.{IsEarlier, issue_of}
 use Rattle.i9_back.specs.Stands.{last_change}
-use Rattle.i9_script.specs.declared.command.Command.{Command}
-use Rattle.i9_script.specs.declared.command.Command.TheVariants as commands
+use Rattle.i9_schedule.specs.declared.command.Command.{Command}
+use Rattle.i9_schedule.specs.declared.command.Command.TheVariants as commands
 use Rattle.i9_lines.specs.PlaceText.{turn_text, view_text, raw_text, held_text, raw_bytes_text, raw_bytes, who_text}
 
 -- ---- places

@@ -18,8 +18,7 @@ use i9_isa::NoMemory;
 use i9_machine::Machine;
 use i9_model::View;
 use i9_model::layout::MAX_LENGTH;
-use i9_schedule::Schedule;
-use i9_script::Command;
+use i9_schedule::{Command, Schedule};
 use i9_tracer::{Stop, ViewTest};
 use std::alloc::Global;
 

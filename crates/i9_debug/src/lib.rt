@@ -10,6 +10,6 @@ pub use i9_lines::{
     Printed, print_elf_refusal, print_generated, print_heading, print_line, print_lines,
     print_piece, print_refusal, print_text,
 };
-pub use i9_script::{Command, Script, read_script};
+pub use i9_schedule::{Command, Script, read_script};
 pub use seeking::last;
 pub use sessions::{SessionEnd, session};

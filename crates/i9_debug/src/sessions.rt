@@ -4,7 +4,7 @@ ghost use Rattle.i9_model.specs.Given.{Given};
 ghost use Rattle.i9_course.specs.Course.{Item};
 ghost use Rattle.i9_machine.specs.InRun.{IsInRun};
 ghost use Rattle.i9_machine.specs.StandsFor.{StandsFor, Follows, IsUnderWay};
-ghost use Rattle.i9_script.specs.ScriptText.{IsCommandInRange, most_turns};
+ghost use Rattle.i9_schedule.specs.ScriptText.{IsCommandInRange, most_turns};
 ghost use Rattle.i9_tracer.specs.Closures.{TakesEachView};
 ghost use Rattle.i9_back.specs.Stands.{StaysAt};
 ghost use Rattle.i9_back.specs.Trail.{IsTrail};
@@ -24,8 +24,7 @@ use i9_lines::{Printed, print_lines, print_text};
 use i9_machine::{End, Machine, Turn};
 use i9_model::View;
 use i9_outside::Sink;
-use i9_schedule::Schedule;
-use i9_script::{Command, Script};
+use i9_schedule::{Command, Schedule, Script};
 use i9_tracer::{Stop, ViewTest};
 use std::alloc::Global;
 

@@ -12,7 +12,7 @@ use i9_lines::{
     standing_bytes,
 };
 use i9_machine::Machine;
-use i9_script::Command;
+use i9_schedule::Command;
 use std::alloc::{AllocError, Global};
 
 /// Appends what a command tells of the place at which a machine stands, with the last change of a byte where it tells

@@ -13,10 +13,10 @@ use Rattle.i9_asm.specs.Laws.{Reassembles}
 use Rattle.i9_asm.specs.Listing.{word_at, whole_size, is_single, line_size, first_line, Lists, lists_none, lists_line, org_line, ListsAll, lists_all, lists_run, IsListing}
 use Rattle.i9_asm.proofs.ReadListing.{line_size-le, text_is_assembly}
 use Rattle.i9_dis.specs.Printed.{AddsRuns}
-use Rattle.i9_runs.specs.Runs.{IsLow, bytes_in, AreRunsOf, AreRuns}
-use Rattle.i9_runs.proofs.Rising.{ArePlaced, in_order, in_order_rises, in_order_placed, in_order_says}
-use Rattle.i9_runs.proofs.Joining.{joined, joined_runs, runs_once}
-use Rattle.i9_runs.proofs.Placed.{image_placed}
+use Rattle.i9_hex.specs.Runs.{IsLow, bytes_in, AreRunsOf, AreRuns}
+use Rattle.i9_hex.proofs.Rising.{ArePlaced, in_order, in_order_rises, in_order_placed, in_order_says}
+use Rattle.i9_hex.proofs.Joining.{joined, joined_runs, runs_once}
+use Rattle.i9_hex.proofs.Placed.{image_placed}
 
 -- ---- the lines of a run
 

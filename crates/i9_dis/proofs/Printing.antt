@@ -7,7 +7,7 @@ use Rattle.i9_model.specs.Image.{Part}
 use Rattle.i9_hex.specs.Shown.{part_of}
 use Rattle.i9_hex.specs.Writing.{with_line_feed}
 use Rattle.i9_hex.specs.declared.segments.Segment.{Segment}
-use Rattle.i9_runs.specs.Runs.{IsRun}
+use Rattle.i9_hex.specs.Runs.{IsRun}
 use Rattle.i9_asm.specs.Listing.{line_size, first_line, Lists, lists_none, lists_line, org_line, ListsAll, lists_all, lists_run}
 use Rattle.i9_dis.specs.Printed.{AddsLines, AddsRuns}
 

@@ -2,14 +2,13 @@
 ghost use Rattle.std.specs.Prelude.{ℕ, ◌≤◌, List, IfOk};
 ghost use Rattle.i9_model.specs.Image.{Part};
 ghost use Rattle.i9_asm.specs.Source.{most_bytes};
-ghost use Rattle.i9_runs.specs.Runs.{bytes_in, AreRuns};
+ghost use Rattle.i9_hex.specs.Runs.{bytes_in, AreRuns};
 ghost use Rattle.i9_asm.specs.Laws.{Reassembles};
 ghost use Rattle.i9_asm.specs.Listing.{IsListing};
 
 use crate::lines::lines_of;
-use i9_hex::Segments;
+use i9_hex::{Segments, runs_of};
 use i9_isa::NoMemory;
-use i9_runs::runs_of;
 use std::alloc::{AllocError, Global};
 
 /// The listing of an image: of each run of loaded addresses, in ascending order, `.org` with its

@@ -4,10 +4,10 @@ ghost use Rattle.std.specs.List.{AllByRecursion};
 ghost use Rattle.hex.specs.Hex.{encode_upper};
 ghost use Rattle.i9_isa.specs.Words.{decoded};
 ghost use Rattle.i9_text.specs.Text.{space};
-ghost use Rattle.i9_value.specs.NumberText.{hex_byte_text};
+ghost use Rattle.i9_statement.specs.NumberText.{hex_byte_text};
 ghost use Rattle.i9_hex.specs.Shown.{part_of};
 ghost use Rattle.i9_hex.specs.Writing.{with_line_feed};
-ghost use Rattle.i9_runs.specs.Runs.{IsRun};
+ghost use Rattle.i9_hex.specs.Runs.{IsRun};
 ghost use Rattle.i9_asm.specs.Listing.{word_at, whole_size, whole_text, line_size, said_text, noted_words, first_line};
 ghost use Rattle.i9_asm.specs.Listing.{org_line};
 ghost use Rattle.i9_dis.specs.Printed.{AddsLines, AddsRuns};
@@ -16,7 +16,7 @@ use crate::words::{add_instruction, add_number};
 use i9_decode::decode;
 use i9_hex::Segment;
 use i9_isa::word_count;
-use i9_value::add_hex;
+use i9_statement::add_hex;
 use std::alloc::{AllocError, Global};
 
 /// The byte at a place, or 0.
@@ -64,7 +64,7 @@ fn add_whole(alloc: Global, text: &mut Vec<u8>, ip: u32, bytes: &[u8]) -> Result
 }
 
 /// Appends a byte behind `.byte`.
-#[tactic(auto, unfolding(i9_value::specs::NumberText::hex_byte_text, i9_text::specs::Written::byte_text))]
+#[tactic(auto, unfolding(i9_statement::specs::NumberText::hex_byte_text, i9_text::specs::Written::byte_text))]
 fn add_byte(alloc: Global, text: &mut Vec<u8>, byte: u8) -> Result<(), AllocError>
     ensures { OnOk result (text.new.items ≡ text.old.items ++ codes ".byte " ++ hex_byte_text byte) }
 {

@@ -1,15 +1,14 @@
 //! The statement of two words at an address.
 ghost use Rattle.std.specs.Prelude.{◌≡◌, ◌++◌, ℕ, List, Ok, codes, OnOk, IfOk};
 ghost use Rattle.i9_isa.specs.Valid.{IsValid};
-ghost use Rattle.i9_value.specs.NumberText.{hex_text};
-ghost use Rattle.i9_value.specs.Values.{Names};
+ghost use Rattle.i9_statement.specs.NumberText.{hex_text};
+ghost use Rattle.i9_statement.specs.Values.{Names};
 ghost use Rattle.i9_asm.specs.Source.{AddsBytes};
 ghost use Rattle.i9_asm.specs.Listing.{text_by, text_of, printed_bytes};
 
 use i9_decode::{decode, spare_bits};
 use i9_isa::{Inst, NoMemory};
-use i9_statement::{Statement, add_statement};
-use i9_value::add_hex;
+use i9_statement::{Statement, add_hex, add_statement};
 use std::alloc::{AllocError, Global};
 
 /// Appends the statement of an instruction with this first word.

@@ -1,3 +1,4 @@
-pub mod Loads
 pub mod Answers
+pub mod ImageAnswers
+pub mod Loads
 pub mod RoundTrip

@@ -7,9 +7,9 @@ use Rattle.i9_model.specs.Image.{Part, upwards, pairs_of}
 use Rattle.i9_model.specs.HexText.{most_bytes}
 use Rattle.i9_hex.specs.Shown.{part_of}
 use Rattle.i9_hex.specs.declared.segments.Segment.{Segment}
-use Rattle.i9_runs.specs.Runs.{IsRun, bytes_in, AreRuns}
-use Rattle.i9_runs.proofs.Placed.{runs_few}
-use Rattle.i9_runs.proofs.PairCounts.{length-pairs_of}
+use Rattle.i9_hex.specs.Runs.{IsRun, bytes_in, AreRuns}
+use Rattle.i9_hex.proofs.Placed.{runs_few}
+use Rattle.i9_hex.proofs.PairCounts.{length-pairs_of}
 use Rattle.i9_elf.specs.Files.{half_at, word_at, header_count, header_size, Header, header_of, headers_in, is_load, load_kind, loads_of, memory_size, loaded_bytes, loaded_pairs, IsLoadable, IsImage}
 use Rattle.i9_elf.specs.Written.{most_headers, words, file_header, program_header, program_headers, bytes_place, file_of, ReadsBack}
 

@@ -1,3 +1,5 @@
 pub mod Files
-pub mod Written
+pub mod ImageReading
+pub mod Images
 pub mod Reading
+pub mod Written

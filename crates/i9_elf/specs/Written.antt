@@ -3,7 +3,7 @@ use Rattle.std.specs.Prelude.{ℕ, ◌+◌, ◌*◌, List, [], ◌∷◌, ◌++�
 use Rattle.std.specs.List.{flat_map}
 use Rattle.byteorder.specs.Endian.{little_bytes}
 use Rattle.i9_model.specs.Image.{Part, pairs_of}
-use Rattle.i9_runs.specs.Runs.{SaySameBytes}
+use Rattle.i9_hex.specs.Runs.{SaySameBytes}
 use Rattle.i9_elf.specs.Files.{magic, file_header_size, bits_32, low_first, executable, i960, header_size, load_kind}
 use Rattle.i9_elf.specs.Files.{IsImage}
 

@@ -4,16 +4,15 @@ ghost use Rattle.std.specs.List.{AllByRecursion};
 ghost use Rattle.i9_model.specs.Image.{Part, pairs_of};
 ghost use Rattle.i9_model.specs.HexText.{most_bytes};
 ghost use Rattle.i9_hex.specs.Shown.{part_of};
-ghost use Rattle.i9_runs.specs.Runs.{IsRun, bytes_in, AreRuns};
+ghost use Rattle.i9_hex.specs.Runs.{IsRun, bytes_in, AreRuns};
 ghost use Rattle.i9_elf.specs.Written.{halves, words, most_headers, file_header, program_header, program_headers};
 ghost use Rattle.i9_elf.specs.Written.{bytes_place, file_of, ReadsBack};
 
 use crate::error::WriteError;
 use crate::header::{HEADER_SIZE, LOAD};
 use crate::reading::{BITS_32, EXECUTABLE, FILE_HEADER_SIZE, I960, LOW_FIRST};
-use i9_hex::{Segment, Segments};
+use i9_hex::{Segment, Segments, runs_of};
 use i9_isa::NoMemory;
-use i9_runs::runs_of;
 use std::alloc::{AllocError, Global};
 
 /// How many program headers a file has at most.

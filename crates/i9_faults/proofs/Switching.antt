@@ -11,7 +11,7 @@ use Rattle.i9_model.specs.declared.faults.FaultStop.TheVariants.{Hazard}
 use Rattle.i9_model.specs.Hazards.{unless, record_write_hazard}
 use Rattle.i9_model.specs.Calls.{Caller, entered_here, system_entered}
 use Rattle.i9_model.specs.Faults.{◌>>=◌, or_stop, table_entry, planned_handler, planned_frame, entry_of, planned_fault_by}
-use Rattle.i9_entry.proofs.Switching.{system-stops, system-goes_on}
+use Rattle.i9_calls.proofs.Switching.{system-stops, system-goes_on}
 use Rattle.i9_faults.specs.Switches.{handler_switch, fault_switch}
 
 -- ---- the frame of a handler

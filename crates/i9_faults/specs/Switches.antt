@@ -7,7 +7,7 @@ use Rattle.i9_model.specs.declared.faults.Handler.TheVariants.{Local, System}
 use Rattle.i9_model.specs.Memory.{Memory}
 use Rattle.i9_model.specs.State.{Frames}
 use Rattle.i9_model.specs.Faults.{◌>>=◌, or_stop, table_entry, planned_handler}
-use Rattle.i9_entry.specs.Switches.{system_switch}
+use Rattle.i9_calls.specs.Switches.{system_switch}
 
 -- a handler is entered on the stack in use, or as by a system call
 abbrev pub handler_switch : Memory → Frames → ℕ → ℕ → Handler → Result Bool ℕ

@@ -6,11 +6,11 @@ ghost use Rattle.i9_model.specs.Faults.{without_trace, fault_record, table_entry
 ghost use Rattle.i9_model.specs.Hazards.{record_write_hazard};
 ghost use Rattle.i9_memory.specs.Memory.{memory_of};
 ghost use Rattle.i9_watch.specs.Watch.{frames_of};
-ghost use Rattle.i9_entry.specs.Callers.{caller_of};
+ghost use Rattle.i9_calls.specs.Callers.{caller_of};
 ghost use Rattle.i9_faults.specs.Switches.{handler_switch, fault_switch};
 
 use crate::handlers::plan_handler;
-use i9_entry::{enter_here, enter_system, record_write_hazard, system_switches};
+use i9_calls::{enter_here, enter_system, record_write_hazard, system_switches};
 use i9_memory::Memory;
 use i9_model::faults::{FAULT_ENTRY_SIZE, TRACE_MASK};
 use i9_model::layout::{FAULT_RETURN, RECORD_SIZE};

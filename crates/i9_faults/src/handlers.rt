@@ -4,7 +4,7 @@ ghost use Rattle.i9_model.specs.Faults.{handler_of, planned_handler};
 ghost use Rattle.i9_memory.specs.Memory.{memory_of};
 ghost use Rattle.i9_watch.specs.Watch.{frames_of};
 
-use i9_entry::{WORD_SIZE, read_word};
+use i9_calls::{WORD_SIZE, read_word};
 use i9_memory::Memory;
 use i9_model::faults::{NO_HANDLER, NO_PROCEDURE, NO_SYSTEM_ENTRY, SYSTEM_ENTRY};
 use i9_model::layout::MOST_SYSTEM_CALL;

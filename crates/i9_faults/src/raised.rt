@@ -4,7 +4,7 @@ ghost use Rattle.i9_isa.specs.Valid.{IsValid};
 ghost use Rattle.i9_model.specs.Faults.{alignment, is_invalid, is_message, is_past_table, is_special};
 ghost use Rattle.i9_model.specs.Faults.{is_supervisor_only, is_unaligned, mismatches, raised, uses_special};
 
-use i9_entry::in_supervisor_mode;
+use i9_calls::in_supervisor_mode;
 use i9_isa::{Inst, Op, Operand};
 use i9_model::faults::{INVALID_OPERAND, LENGTH, MISMATCH, OPERATION, PROTECTION, TYPE, UNALIGNED};
 use i9_model::layout::MOST_SYSTEM_CALL;

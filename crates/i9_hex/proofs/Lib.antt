@@ -1,6 +1,10 @@
-pub mod PartLemmas
-pub mod OneLine
-pub mod WholeText
+pub mod Joining
 pub mod OneAnswer
-pub mod WrittenPieces
+pub mod OneLine
+pub mod PairCounts
+pub mod PartLemmas
+pub mod Placed
+pub mod Rising
 pub mod RoundTrip
+pub mod WholeText
+pub mod WrittenPieces

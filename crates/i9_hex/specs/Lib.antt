@@ -1,5 +1,7 @@
-pub mod Shown
-pub mod Put
 pub mod Lines
+pub mod Pairs
+pub mod Put
 pub mod Reading
+pub mod Runs
+pub mod Shown
 pub mod Writing

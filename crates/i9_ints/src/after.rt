@@ -13,7 +13,7 @@ ghost use Rattle.i9_ints.specs.After.{memory_after, frames_after};
 use crate::bits::byte_without_bit;
 use crate::requests::{BITS, VECTORS, byte_hazard, pending_place, priority_place};
 use arrayvec::ArrayVec;
-use i9_entry::WORD_SIZE;
+use i9_calls::WORD_SIZE;
 use i9_memory::Memory;
 use i9_model::layout::{FRAME_SIZE, RECORD_SIZE};
 use i9_model::{Cause, Chosen, Entry};

@@ -5,13 +5,13 @@ ghost use Rattle.i9_model.specs.Interrupts.{vector_place, base_for, interrupt_pc
 ghost use Rattle.i9_model.specs.Interrupts.{planned_interrupt};
 ghost use Rattle.i9_memory.specs.Memory.{memory_of};
 ghost use Rattle.i9_watch.specs.Watch.{frames_of};
-ghost use Rattle.i9_entry.specs.Callers.{caller_of};
+ghost use Rattle.i9_calls.specs.Callers.{caller_of};
 ghost use Rattle.i9_ints.specs.After.{memory_after, frames_after};
 
 use crate::after::cleared_hazard;
 use crate::requests::VECTORS;
 use crate::{IntEntry, Ints};
-use i9_entry::{enter_here, read_word, record_write_hazard};
+use i9_calls::{enter_here, read_word, record_write_hazard};
 use i9_memory::Memory;
 use i9_model::Chosen;
 use i9_model::interrupts::{INTERRUPTED_PLACE, PRIORITY_PLACE, VECTOR_WORDS};

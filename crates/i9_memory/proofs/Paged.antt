@@ -2,7 +2,7 @@
 use Rattle.std.proofs.Common.{◌≡◌, ℕ, zero, suc, ◌/◌, ◌%◌, Bool, true, false, List, get_or, replicate, refl, ap, ◌∙◌, arith}
 use Rattle.std.specs.Prelude.{◌==◌, if◌then◌else◌, Option, Some, None}
 use Rattle.std.proofs.lemmas.Bool.Decides.{nat_tests}
-use Rattle.i9_pages.specs.Table.{IsCopy, SamePages, Updates}
+use Rattle.i9_memory.specs.Table.{IsCopy, SamePages, Updates}
 use Rattle.i9_memory.specs.declared.pages.Page.{Page}
 use Rattle.i9_memory.specs.declared.pages.Pages.{Pages}
 use Rattle.i9_memory.specs.Pages.{byte_in, byte_of, page_of, HasPage}

@@ -1,7 +1,7 @@
 -- Pages: the bytes that they hold, and those for which they have room.
 use Rattle.std.specs.Prelude.{◌≢◌, ℕ, ◌+◌, ◌/◌, ◌%◌, ◌<◌, slice_index, Option, Some, None, IsSome}
 use Rattle.i9_model.specs.Writes.{wrapped}
-use Rattle.i9_pages.specs.Table.{page_at}
+use Rattle.i9_memory.specs.Table.{page_at}
 use Rattle.i9_memory.specs.declared.pages.Page.{Page}
 use Rattle.i9_memory.specs.declared.pages.Pages.{Pages}
 

@@ -4,9 +4,9 @@ ghost use Rattle.std.specs.Prelude.{IfSome, Some, length};
 ghost use Rattle.i9_model.specs.Writes.{wrapped, written, pairs_at, upwards};
 ghost use Rattle.i9_model.specs.Memory.{stored};
 
+use crate::PageTable;
 use i9_isa::NoMemory;
 use i9_model::in_port_page;
-use i9_pages::PageTable;
 use std::alloc::{AllocError, Global};
 
 /// How many bytes a page has.

@@ -12,8 +12,7 @@ ghost use Rattle.i9_plan.specs.Planned.{IsPlanFor, PlansEntry, PlansInterrupt, r
 
 use crate::sources::{following, value};
 use crate::transfers::bytes_of_words;
-use i9_calls::{CallsStop, Pop, Push};
-use i9_entry::aligned;
+use i9_calls::{CallsStop, Pop, Push, aligned};
 use i9_faults::{Entry, Fault, FaultStop};
 use i9_isa::Inst;
 use i9_model::Chosen;

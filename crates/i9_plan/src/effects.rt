@@ -14,7 +14,7 @@ ghost use Rattle.i9_plan.specs.Planned.{Passes, IsInRow};
 
 use crate::sources::following;
 use arrayvec::ArrayVec;
-use i9_entry::aligned;
+use i9_calls::aligned;
 use i9_isa::{Inst, Operand};
 use i9_processor::{DmaChange, Effect, MOST_BYTES, MOST_VALUES, Posting, Processor};
 

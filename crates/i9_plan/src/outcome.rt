@@ -26,7 +26,7 @@ use crate::names::{is_barrier, is_branch, is_fault_name};
 use crate::raised::{arithmetic_fault, mismatches, raised_by_transfer};
 use crate::sources::{address, answer, target, value};
 use crate::transfers::{Moving, plan_transfer};
-use i9_entry::aligned;
+use i9_calls::aligned;
 use i9_exec::{Done, Jump, branch, controls_by, results_by_name, word_by};
 use i9_isa::{Inst, Op, Operand};
 use i9_model::faults::{CONSTRAINT, MISMATCH, RANGE, TYPE};

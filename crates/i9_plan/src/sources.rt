@@ -8,7 +8,7 @@ ghost use Rattle.i9_processor.specs.State.{state_of};
 
 use crate::names::reads_more;
 use crate::words::modified;
-use i9_entry::aligned;
+use i9_calls::aligned;
 use i9_exec::{Done, address as effective_address, compute};
 use i9_isa::{Ea, Inst, Operand, word_count};
 use i9_model::layout::PC_MASK;

@@ -22,8 +22,8 @@ use Rattle.i9_model.specs.Faults.{planned_fault_by}
 use Rattle.i9_model.specs.Interrupts.{vector_place, interrupt_push, interrupt_record, cleared_hazard, interrupt_hazard, interrupt_entry, planned_interrupt, planned_interrupt_by}
 use Rattle.i9_model.specs.Before.{interrupt_in}
 use Rattle.i9_model.specs.Run.{entry_in}
-use Rattle.i9_entry.specs.Switches.{system_switch}
-use Rattle.i9_entry.proofs.Switching.{system-goes_on}
+use Rattle.i9_calls.specs.Switches.{system_switch}
+use Rattle.i9_calls.proofs.Switching.{system-goes_on}
 use Rattle.i9_faults.specs.Switches.{fault_switch}
 use Rattle.i9_faults.proofs.Switching.{fault-stops, fault-alike, fault-refused}
 use Rattle.i9_processor.specs.Entries.{call_in, calls_in}

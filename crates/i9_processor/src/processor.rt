@@ -18,8 +18,8 @@ use crate::start::{
     start_breaks, start_interrupts, start_registers, start_trace_controls, tables_of,
 };
 use i9_boot::{REGISTER_CACHE, boot, sets_asked};
+use i9_calls::aligned;
 use i9_dma::Channels;
-use i9_entry::aligned;
 use i9_hex::Segments;
 use i9_ints::Ints;
 use i9_isa::NoMemory;

@@ -1,2 +1,7 @@
-pub mod WholeText
+pub mod Forms
+pub mod Limits
+pub mod LineCases
 pub mod OneAnswer
+pub mod OneScript
+pub mod RelationLoop
+pub mod WholeText

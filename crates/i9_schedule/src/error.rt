@@ -27,7 +27,7 @@ pub(crate) const TOO_MANY_EVENTS: u8 = 6;
 /// | 5 | has a count or turn below that of the event before |
 /// | 6 | comes to more than 1,000,000 events |
 ///
-/// and those of a script of the debugger are listed by `read_script` of `i9_script`.
+/// and those of a script of the debugger are listed by `read_script` of `i9_schedule`.
 #[derive(Clone, Copy, Debug, PartialEq, Eq)]
 pub struct LineFault {
     pub line: u64,

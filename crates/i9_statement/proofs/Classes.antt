@@ -18,15 +18,15 @@ use Rattle.i9_isa.specs.Valid.{IsValid, FitsAddress}
 use Rattle.i9_isa.specs.Table.{row_of}
 use Rattle.i9_text.specs.Text.{is_blank}
 use Rattle.std.specs.Fmt.{decimal}
-use Rattle.i9_value.specs.Cut.{is_byte}
-use Rattle.i9_value.specs.Registers.{register_text}
-use Rattle.i9_value.specs.Values.{is_name_byte}
+use Rattle.i9_statement.specs.Cut.{is_byte}
+use Rattle.i9_statement.specs.Registers.{register_text}
+use Rattle.i9_statement.specs.Values.{is_name_byte}
 use Rattle.i9_statement.specs.Addresses.{scale_names}
-use Rattle.i9_value.specs.NumberText.{hex_text, hex_byte_text}
+use Rattle.i9_statement.specs.NumberText.{hex_text, hex_byte_text}
 use Rattle.i9_statement.specs.Printed.{HasText, needs_bang, operand_text, front_text, base_text, index_text, bang_text, address_text, target, target_text}
 use Rattle.i9_statement.specs.Instructions.{Fields, comes_first, first_use, last_use, operand_field, address_field, target_field, operand_fields}
-use Rattle.i9_value.proofs.Cutting.{is_free, free_by, all_by, all_append}
-use Rattle.i9_value.proofs.ReadValues.{has_byte, has_byte-some, register_bytes, register_some, decimal_bytes, decimal_some, hex_bytes, hex_byte_bytes}
+use Rattle.i9_statement.proofs.Cutting.{is_free, free_by, all_by, all_append}
+use Rattle.i9_statement.proofs.ReadValues.{has_byte, has_byte-some, register_bytes, register_some, decimal_bytes, decimal_some, hex_bytes, hex_byte_bytes}
 use Rattle.i9_statement.proofs.ReadOperands.{taken_in_range}
 use Rattle.i9_statement.proofs.ReadAddresses.{scale_name_bytes, Parts, parts, ea}
 

@@ -12,24 +12,24 @@ use Rattle.i9_isa.specs.declared.inst.Mode.{Mode}
 use Rattle.i9_isa.specs.declared.inst.Mode.TheVariants.{Offset, BaseOffset, BaseIndex, Disp, BaseDisp, IndexDisp, BaseIndexDisp}
 use Rattle.i9_isa.specs.declared.inst.Ea.{Ea}
 use Rattle.i9_isa.specs.Operands.{is_address}
-use Rattle.i9_value.specs.declared.values.Value.{Value}
-use Rattle.i9_value.specs.declared.values.Value.TheVariants.{Number}
+use Rattle.i9_statement.specs.declared.values.Value.{Value}
+use Rattle.i9_statement.specs.declared.values.Value.TheVariants.{Number}
 use Rattle.i9_statement.specs.declared.parts.Front.{Front}
 use Rattle.i9_statement.specs.declared.parts.Front.TheVariants.{Absent, Valued}
 use Rattle.i9_statement.specs.declared.parts.Base.{Base}
 use Rattle.i9_statement.specs.declared.parts.Base.TheVariants as base
 use Rattle.i9_statement.specs.declared.parts.Index.{Index}
 use Rattle.i9_statement.specs.declared.parts.Index.TheVariants as index
-use Rattle.i9_value.specs.Cut.{before, from, behind, is_byte, closed}
-use Rattle.i9_value.specs.Noted.{fine}
-use Rattle.i9_value.specs.Registers.{register_place, register_text}
-use Rattle.i9_value.specs.Values.{Names, value_of, is_name_byte}
+use Rattle.i9_statement.specs.Cut.{before, from, behind, is_byte, closed}
+use Rattle.i9_statement.specs.Noted.{fine}
+use Rattle.i9_statement.specs.Registers.{register_place, register_text}
+use Rattle.i9_statement.specs.Values.{Names, value_of, is_name_byte}
 use Rattle.i9_statement.specs.Addresses.{bang, star, open_round, close_round, open_square, if_last, close_square, opens, base_of, with_rest, base_named, scale_names, scale_of, scaled, index_of, valued, front_of, mode_of, address_by, with_base, with_index, address_behind, address_of}
-use Rattle.i9_value.specs.NumberText.{hex_text}
+use Rattle.i9_statement.specs.NumberText.{hex_text}
 use Rattle.i9_statement.specs.Printed.{base_text, index_text, address_text}
-use Rattle.i9_value.proofs.Cutting.{is_free, stops, before-cut, from-cut, closed-cut, free_by}
+use Rattle.i9_statement.proofs.Cutting.{is_free, stops, before-cut, from-cut, closed-cut, free_by}
 use Rattle.i9_text.proofs.Below.{test_below, passes_below}
-use Rattle.i9_value.proofs.ReadValues.{register_place-text, register_bytes, value_of-decimal, value_of-hex, decimal_bytes, decimal_some, hex_bytes, found_at, found_true}
+use Rattle.i9_statement.proofs.ReadValues.{register_place-text, register_bytes, value_of-decimal, value_of-hex, decimal_bytes, decimal_some, hex_bytes, found_at, found_true}
 
 -- ---- bytes of names and numbers are none of the signs
 

@@ -7,11 +7,11 @@ use Rattle.std.proofs.lemmas.List.Elements.{All-from_recursion}
 use Rattle.std.proofs.lemmas.List.Splits.{slice_split_at, slice_split_none}
 use Rattle.i9_text.specs.Text.{space, is_blank, words_of}
 use Rattle.i9_text.proofs.WordCuts.{words_of-blank, words_of-first}
-use Rattle.i9_value.specs.Cut.{from}
+use Rattle.i9_statement.specs.Cut.{from}
 use Rattle.i9_statement.specs.Fields.{comma, is_comma, one_word, field_of, fields_by, fields_of, join_fields}
 use Rattle.i9_statement.specs.Statements.{fields_text}
-use Rattle.i9_value.proofs.Cutting.{is_free, stops, before-cut, from-cut, all_append}
-use Rattle.i9_value.proofs.ReadValues.{has_byte}
+use Rattle.i9_statement.proofs.Cutting.{is_free, stops, before-cut, from-cut, all_append}
+use Rattle.i9_statement.proofs.ReadValues.{has_byte}
 use Rattle.i9_statement.proofs.Classes.{is_operand_byte, free_in, free_of_blanks, IsField}
 
 -- nothing, or a space

@@ -18,13 +18,13 @@ use Rattle.i9_isa.specs.declared.format.Use.TheVariants.{Unused, Source, Left, R
 use Rattle.i9_isa.specs.Operands.{takes}
 use Rattle.i9_isa.specs.Valid.{is_within, FitsDisp, FitsAddress, IsValid}
 use Rattle.i9_isa.specs.Table.{row_of}
-use Rattle.i9_value.specs.Noted.{fine}
-use Rattle.i9_value.specs.Cut.{from, is_byte}
-use Rattle.i9_value.specs.Values.{Names, is_name_byte}
+use Rattle.i9_statement.specs.Noted.{fine}
+use Rattle.i9_statement.specs.Cut.{from, is_byte}
+use Rattle.i9_statement.specs.Values.{Names, is_name_byte}
 use Rattle.i9_statement.specs.Targets.{reach}
 use Rattle.i9_statement.specs.Mnemonics.{mnemonic, op_named, dot, hint_by, with_hint, named_by, mnemonic_text}
 use Rattle.i9_statement.specs.Instructions.{Fields, take_operand, take_address, take_target, comes_first, last_use, chosen, instruction_of, operand_field, address_field, target_field, operand_fields}
-use Rattle.i9_value.proofs.Cutting.{stops, before-cut, from-cut}
+use Rattle.i9_statement.proofs.Cutting.{stops, before-cut, from-cut}
 use Rattle.i9_statement.proofs.ReadOperands.{operand_of-text}
 use Rattle.i9_statement.proofs.ReadAddresses.{address_of-text, free_of_byte}
 use Rattle.i9_statement.proofs.ReadTargets.{target_of-text}

@@ -11,12 +11,12 @@ use Rattle.i9_isa.specs.declared.inst.Operand.TheVariants.{Reg, Lit, Sfr}
 use Rattle.i9_isa.specs.declared.format.Use.{Use}
 use Rattle.i9_isa.specs.declared.format.Use.TheVariants.{Unused, Source, Left, Right, Destination, Load, Store, Change}
 use Rattle.i9_isa.specs.Operands.{takes, starts_group, is_special}
-use Rattle.i9_value.specs.Noted.{fine}
-use Rattle.i9_value.specs.Registers.{register_place, register_text, register_of, register_at}
-use Rattle.i9_value.specs.Values.{Names, value_of}
+use Rattle.i9_statement.specs.Noted.{fine}
+use Rattle.i9_statement.specs.Registers.{register_place, register_text, register_of, register_at}
+use Rattle.i9_statement.specs.Values.{Names, value_of}
 use Rattle.i9_statement.specs.Operands.{takes_literals, operand_as, operand_of}
 use Rattle.i9_statement.specs.Printed.{operand_text, HasText}
-use Rattle.i9_value.proofs.ReadValues.{register_place-text, value_of-decimal}
+use Rattle.i9_statement.proofs.ReadValues.{register_place-text, value_of-decimal}
 
 -- ---- what a use takes is in range
 

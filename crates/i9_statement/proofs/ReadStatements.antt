@@ -15,15 +15,15 @@ use Rattle.i9_isa.specs.Valid.{IsValid}
 use Rattle.i9_decode.specs.Ignored.{ignored_bits}
 use Rattle.i9_text.specs.Text.{space, is_blank}
 use Rattle.i9_text.proofs.Digits.{number_of-digits}
-use Rattle.i9_value.specs.Noted.{fine}
-use Rattle.i9_value.specs.Cut.{from, is_byte}
-use Rattle.i9_value.specs.Values.{Names, is_name_byte}
+use Rattle.i9_statement.specs.Noted.{fine}
+use Rattle.i9_statement.specs.Cut.{from, is_byte}
+use Rattle.i9_statement.specs.Values.{Names, is_name_byte}
 use Rattle.i9_statement.specs.Mnemonics.{mnemonic, named_by, mnemonic_text}
 use Rattle.i9_statement.specs.Fields.{fields_of, join_fields, comma}
 use Rattle.i9_statement.specs.Instructions.{Fields, instruction_of, operand_fields}
 use Rattle.i9_statement.specs.Statements.{said, open_brace, close_brace, if_nothing_left, spare_in, spare_of, with_spare, statement_by, statement_of, fields_text, statement_text}
-use Rattle.i9_value.proofs.Cutting.{is_free, stops, before-cut, from-cut, closed-cut, all_append}
-use Rattle.i9_value.proofs.NameBytes.{name_bytes}
+use Rattle.i9_statement.proofs.Cutting.{is_free, stops, before-cut, from-cut, closed-cut, all_append}
+use Rattle.i9_statement.proofs.NameBytes.{name_bytes}
 use Rattle.i9_statement.proofs.ReadAddresses.{free_of_byte}
 use Rattle.i9_statement.proofs.ReadInstructions.{mnemonic_bytes, named_by-text, instruction_of-fields}
 use Rattle.i9_statement.proofs.Classes.{is_operand_byte, free_in, free_of_blanks, IsField, operand_fields-fields}

@@ -7,11 +7,11 @@ use Rattle.i9_isa.specs.declared.format.Format.{Format}
 use Rattle.i9_isa.specs.declared.format.Format.TheVariants.{Reg, Cobr, Ctrl, Mem}
 use Rattle.i9_isa.specs.Valid.{is_within}
 use Rattle.i9_isa.specs.Words.{signed_of}
-use Rattle.i9_value.specs.Noted.{fine}
-use Rattle.i9_value.specs.Values.{Names}
+use Rattle.i9_statement.specs.Noted.{fine}
+use Rattle.i9_statement.specs.Values.{Names}
 use Rattle.i9_statement.specs.Targets.{distance, reach, if_reached, target_by, target_of}
 use Rattle.i9_statement.specs.Printed.{target, target_text}
-use Rattle.i9_value.proofs.ReadValues.{value_of-hex}
+use Rattle.i9_statement.proofs.ReadValues.{value_of-hex}
 
 -- a signed number of 32 bits from its residue
 signed_low : (n : ℕ) → n < 2 ^ 31 → signed_of 32 n ≡ pos n

@@ -16,11 +16,11 @@ use Rattle.i9_isa.specs.Words.{words_of_mode}
 use Rattle.i9_decode.specs.Ignored.{ignored_bits}
 use Rattle.i9_text.specs.Text.{is_blank, number_of}
 use Rattle.i9_text.specs.Text as text
-use Rattle.i9_value.specs.declared.fault.Noted.{Noted}
-use Rattle.i9_value.specs.Noted.{fine}
-use Rattle.i9_value.specs.Cut.{before, from, behind, is_byte, closed}
-use Rattle.i9_value.specs.Values.{Names}
-use Rattle.i9_value.proofs.Decimals.{hex_below}
+use Rattle.i9_statement.specs.declared.fault.Noted.{Noted}
+use Rattle.i9_statement.specs.Noted.{fine}
+use Rattle.i9_statement.specs.Cut.{before, from, behind, is_byte, closed}
+use Rattle.i9_statement.specs.Values.{Names}
+use Rattle.i9_statement.proofs.Decimals.{hex_below}
 use Rattle.i9_statement.specs.declared.statements.Statement.{Statement}
 use Rattle.i9_statement.specs.Mnemonics.{op_named, hint_by, with_hint, named_by}
 use Rattle.i9_statement.specs.Fields.{fields_of}

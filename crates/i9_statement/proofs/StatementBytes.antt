@@ -8,14 +8,14 @@ use Rattle.i9_isa.specs.declared.op.Op.{Op}
 use Rattle.i9_isa.specs.declared.inst.Inst.{Inst}
 use Rattle.i9_isa.specs.Valid.{IsValid}
 use Rattle.i9_text.specs.Text.{space}
-use Rattle.i9_value.specs.Cut.{is_byte}
-use Rattle.i9_value.specs.Values.{is_name_byte}
+use Rattle.i9_statement.specs.Cut.{is_byte}
+use Rattle.i9_statement.specs.Values.{is_name_byte}
 use Rattle.i9_statement.specs.Mnemonics.{mnemonic, mnemonic_text}
 use Rattle.i9_statement.specs.Fields.{join_fields, comma}
 use Rattle.i9_statement.specs.Instructions.{Fields, operand_fields}
 use Rattle.i9_statement.specs.Statements.{open_brace, close_brace, fields_text, spare_text, statement_text}
-use Rattle.i9_value.proofs.Cutting.{all_by, all_append}
-use Rattle.i9_value.proofs.NameBytes.{name_bytes, low_or, low_byte, low_name}
+use Rattle.i9_statement.proofs.Cutting.{all_by, all_append}
+use Rattle.i9_statement.proofs.NameBytes.{name_bytes, low_or, low_byte, low_name}
 use Rattle.i9_statement.proofs.ReadInstructions.{mnemonic_bytes}
 use Rattle.i9_statement.proofs.Classes.{is_operand_byte, IsField, operand_fields-fields}
 use Rattle.i9_statement.proofs.ReadStatements.{wide_digits}

@@ -19,10 +19,10 @@ use Rattle.i9_isa.proofs.Decoding.{decoded_encodes, encodes_decoded, second_free
 use Rattle.i9_decode.specs.Ignored.{ignored_bits}
 use Rattle.i9_decode.proofs.ValidWords.{encodes_valid}
 use Rattle.i9_decode.proofs.IgnoredBits.{ignored_only}
-use Rattle.i9_value.specs.declared.fault.Noted.{Noted}
+use Rattle.i9_statement.specs.declared.fault.Noted.{Noted}
 use Rattle.i9_statement.specs.declared.statements.Statement.{Statement}
-use Rattle.i9_value.specs.Noted.{fine}
-use Rattle.i9_value.specs.Values.{Names}
+use Rattle.i9_statement.specs.Noted.{fine}
+use Rattle.i9_statement.specs.Values.{Names}
 use Rattle.i9_statement.specs.Statements.{said, statement_of, statement_text}
 use Rattle.i9_statement.specs.Codes.{IsCode, Stands, stands_one, stands_two, taken}
 use Rattle.i9_statement.proofs.ReadFields.{pad}

@@ -16,17 +16,17 @@ use Rattle.i9_isa.specs.Operands.{takes, is_address}
 use Rattle.i9_isa.specs.declared.op.Op.{Op}
 use Rattle.i9_isa.specs.Table.{row_of}
 use Rattle.i9_isa.specs.Valid.{is_within, FitsDisp, FitsAddress, IsValid}
-use Rattle.i9_value.specs.declared.values.Value.{Value}
-use Rattle.i9_value.specs.declared.values.Value.TheVariants.{Number, Named, Beyond, Unknown}
+use Rattle.i9_statement.specs.declared.values.Value.{Value}
+use Rattle.i9_statement.specs.declared.values.Value.TheVariants.{Number, Named, Beyond, Unknown}
 use Rattle.i9_statement.specs.declared.parts.Front.{Front}
 use Rattle.i9_statement.specs.declared.parts.Front.TheVariants.{Absent, Valued}
 use Rattle.i9_statement.specs.declared.parts.Base.{Base}
 use Rattle.i9_statement.specs.declared.parts.Base.TheVariants as base
 use Rattle.i9_statement.specs.declared.parts.Index.{Index}
 use Rattle.i9_statement.specs.declared.parts.Index.TheVariants as index
-use Rattle.i9_value.specs.Cut.{before, from, behind, is_byte, closed}
-use Rattle.i9_value.specs.Registers.{register_of, register_place}
-use Rattle.i9_value.specs.Values.{Names, is_name, magnitude, in_range, is_sign, number_text, named, tail_number, name_text, has_name_start, value_of, value_noted}
+use Rattle.i9_statement.specs.Cut.{before, from, behind, is_byte, closed}
+use Rattle.i9_statement.specs.Registers.{register_of, register_place}
+use Rattle.i9_statement.specs.Values.{Names, is_name, magnitude, in_range, is_sign, number_text, named, tail_number, name_text, has_name_start, value_of, value_noted}
 use Rattle.i9_statement.specs.Operands.{small_literal, literal, takes_literals, operand_as, operand_of}
 use Rattle.i9_statement.specs.Addresses.{star, close_square, opens, base_of, scale_names, scale_of, scaled, scaled_register, if_last, index_of, valued, front_of, with_index, with_base, address_behind, address_of, is_short, mode_of, plain_register, address_by}
 use Rattle.i9_statement.specs.Targets.{reach, if_reached, target_by, target_of, distance}

@@ -11,20 +11,20 @@ use Rattle.i9_isa.specs.declared.inst.Ea.{Ea}
 use Rattle.i9_isa.specs.declared.inst.Operand.{Operand}
 use Rattle.i9_isa.specs.declared.inst.Operand.TheVariants.{Reg}
 use Rattle.i9_isa.specs.Operands.{no_address}
-use Rattle.i9_value.specs.declared.fault.Noted.{Noted}
-use Rattle.i9_value.specs.declared.fault.Fault.TheVariants as fault
-use Rattle.i9_value.specs.declared.values.Value.{Value}
-use Rattle.i9_value.specs.declared.values.Value.TheVariants.{Number}
+use Rattle.i9_statement.specs.declared.fault.Noted.{Noted}
+use Rattle.i9_statement.specs.declared.fault.Fault.TheVariants as fault
+use Rattle.i9_statement.specs.declared.values.Value.{Value}
+use Rattle.i9_statement.specs.declared.values.Value.TheVariants.{Number}
 use Rattle.i9_statement.specs.declared.parts.Front.{Front}
 use Rattle.i9_statement.specs.declared.parts.Front.TheVariants.{Absent, Malformed, Valued}
 use Rattle.i9_statement.specs.declared.parts.Base.{Base}
 use Rattle.i9_statement.specs.declared.parts.Base.TheVariants as base
 use Rattle.i9_statement.specs.declared.parts.Index.{Index}
 use Rattle.i9_statement.specs.declared.parts.Index.TheVariants as index
-use Rattle.i9_value.specs.Cut.{before, from, behind, is_byte, closed}
-use Rattle.i9_value.specs.Noted.{fine, wrong, least}
-use Rattle.i9_value.specs.Registers.{register_place, register_at}
-use Rattle.i9_value.specs.Values.{Names, value_of, value_noted}
+use Rattle.i9_statement.specs.Cut.{before, from, behind, is_byte, closed}
+use Rattle.i9_statement.specs.Noted.{fine, wrong, least}
+use Rattle.i9_statement.specs.Registers.{register_place, register_at}
+use Rattle.i9_statement.specs.Values.{Names, value_of, value_noted}
 
 -- `!`, `(`, `)`, `*`, `[` and `]`
 abbrev pub bang : ℕ

@@ -4,8 +4,8 @@ use Rattle.std.specs.Int.Bits.{bit_and}
 use Rattle.i9_isa.specs.declared.inst.Inst.{Inst}
 use Rattle.i9_isa.specs.Words.{words_of, Encodes}
 use Rattle.i9_decode.specs.Ignored.{ignored_bits}
-use Rattle.i9_value.specs.Noted.{fine}
-use Rattle.i9_value.specs.Values.{Names}
+use Rattle.i9_statement.specs.Noted.{fine}
+use Rattle.i9_statement.specs.Values.{Names}
 use Rattle.i9_statement.specs.Statements.{said, statement_of}
 
 -- the words are those of the instruction, with exactly these of its ignored bits set

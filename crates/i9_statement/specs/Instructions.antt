@@ -12,11 +12,11 @@ use Rattle.i9_isa.specs.declared.format.Use.{Use}
 use Rattle.i9_isa.specs.declared.format.Use.TheVariants.{Unused, Store}
 use Rattle.i9_isa.specs.Operands.{no_address}
 use Rattle.i9_isa.specs.Table.{row_of}
-use Rattle.i9_value.specs.declared.fault.Noted.{Noted}
-use Rattle.i9_value.specs.declared.fault.Fault.{Fault}
-use Rattle.i9_value.specs.declared.fault.Fault.TheVariants as fault
-use Rattle.i9_value.specs.Noted.{fine, wrong, least}
-use Rattle.i9_value.specs.Values.{Names}
+use Rattle.i9_statement.specs.declared.fault.Noted.{Noted}
+use Rattle.i9_statement.specs.declared.fault.Fault.{Fault}
+use Rattle.i9_statement.specs.declared.fault.Fault.TheVariants as fault
+use Rattle.i9_statement.specs.Noted.{fine, wrong, least}
+use Rattle.i9_statement.specs.Values.{Names}
 use Rattle.i9_statement.specs.Operands.{operand_of}
 use Rattle.i9_statement.specs.Addresses.{address_of}
 use Rattle.i9_statement.specs.Targets.{target_of}

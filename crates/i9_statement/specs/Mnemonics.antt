@@ -19,7 +19,7 @@ use Rattle.i9_isa.specs.declared.op.Op.TheVariants.{Faulte, Faultge, Faultl, Fau
 use Rattle.i9_isa.specs.declared.op.Op.TheVariants.{Balx, Callx, Ldos, Stos, Lda, Ld, St, Ldl, Stl, Ldt, Stt, Ldq, Stq}
 use Rattle.i9_isa.specs.declared.op.Op.TheVariants.{Ldib, Stib, Ldis, Stis}
 use Rattle.i9_isa.specs.Table.{row_of, names}
-use Rattle.i9_value.specs.Cut.{before, from, is_byte}
+use Rattle.i9_statement.specs.Cut.{before, from, is_byte}
 
 -- the mnemonic of each name
 unfoldable pub mnemonic : Op → List ℕ

@@ -5,13 +5,13 @@ use Rattle.i9_isa.specs.declared.inst.Operand.TheVariants.{Reg, Lit}
 use Rattle.i9_isa.specs.declared.format.Use.{Use}
 use Rattle.i9_isa.specs.declared.format.Use.TheVariants.{Source, Left}
 use Rattle.i9_isa.specs.Operands.{takes}
-use Rattle.i9_value.specs.declared.fault.Noted.{Noted}
-use Rattle.i9_value.specs.declared.fault.Fault.TheVariants as fault
-use Rattle.i9_value.specs.declared.values.Value.{Value}
-use Rattle.i9_value.specs.declared.values.Value.TheVariants.{Number, Named, Beyond, Unknown}
-use Rattle.i9_value.specs.Noted.{fine, wrong}
-use Rattle.i9_value.specs.Registers.{register_of}
-use Rattle.i9_value.specs.Values.{Names, value_of}
+use Rattle.i9_statement.specs.declared.fault.Noted.{Noted}
+use Rattle.i9_statement.specs.declared.fault.Fault.TheVariants as fault
+use Rattle.i9_statement.specs.declared.values.Value.{Value}
+use Rattle.i9_statement.specs.declared.values.Value.TheVariants.{Number, Named, Beyond, Unknown}
+use Rattle.i9_statement.specs.Noted.{fine, wrong}
+use Rattle.i9_statement.specs.Registers.{register_of}
+use Rattle.i9_statement.specs.Values.{Names, value_of}
 
 -- a literal is a value from 0 to 31
 abbrev pub small_literal : ℕ → Noted Operand

@@ -8,8 +8,8 @@ use Rattle.i9_isa.specs.declared.inst.Mode.{Mode}
 use Rattle.i9_isa.specs.declared.inst.Mode.TheVariants.{Offset, BaseOffset, BaseIndex, Disp, BaseDisp}
 use Rattle.i9_isa.specs.declared.inst.Ea.{Ea}
 use Rattle.i9_isa.specs.Operands.{has_base, has_index}
-use Rattle.i9_value.specs.NumberText.{hex_text}
-use Rattle.i9_value.specs.Registers.{register_text}
+use Rattle.i9_statement.specs.NumberText.{hex_text}
+use Rattle.i9_statement.specs.Registers.{register_text}
 use Rattle.i9_statement.specs.Addresses.{bang, open_round, close_round, star, open_square, close_square, scale_names}
 
 -- a literal in decimal, or a register

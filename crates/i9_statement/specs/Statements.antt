@@ -12,12 +12,12 @@ use Rattle.i9_isa.specs.Operands.{no_address}
 use Rattle.i9_decode.specs.Ignored.{ignored_bits}
 use Rattle.i9_text.specs.Text.{space, is_blank, is_in_word, number_of}
 use Rattle.i9_text.specs.Text as text
-use Rattle.i9_value.specs.declared.fault.Noted.{Noted}
+use Rattle.i9_statement.specs.declared.fault.Noted.{Noted}
 use Rattle.i9_statement.specs.declared.statements.Statement.{Statement}
-use Rattle.i9_value.specs.declared.fault.Fault.TheVariants as fault
-use Rattle.i9_value.specs.Noted.{fine, wrong, least}
-use Rattle.i9_value.specs.Cut.{before, from, behind, is_byte, closed}
-use Rattle.i9_value.specs.Values.{Names}
+use Rattle.i9_statement.specs.declared.fault.Fault.TheVariants as fault
+use Rattle.i9_statement.specs.Noted.{fine, wrong, least}
+use Rattle.i9_statement.specs.Cut.{before, from, behind, is_byte, closed}
+use Rattle.i9_statement.specs.Values.{Names}
 use Rattle.i9_statement.specs.Mnemonics.{named_by, mnemonic_text}
 use Rattle.i9_statement.specs.Fields.{fields_of, join_fields}
 use Rattle.i9_statement.specs.Instructions.{Fields, instruction_of, operand_fields}

@@ -4,12 +4,12 @@ use Rattle.i9_isa.specs.declared.format.Format.{Format}
 use Rattle.i9_isa.specs.declared.format.Format.TheVariants.{Cobr}
 use Rattle.i9_isa.specs.Valid.{is_within}
 use Rattle.i9_isa.specs.Words.{signed_of}
-use Rattle.i9_value.specs.declared.fault.Noted.{Noted}
-use Rattle.i9_value.specs.declared.fault.Fault.TheVariants as fault
-use Rattle.i9_value.specs.declared.values.Value.{Value}
-use Rattle.i9_value.specs.declared.values.Value.TheVariants.{Number, Named, Beyond, Unknown}
-use Rattle.i9_value.specs.Noted.{fine, wrong}
-use Rattle.i9_value.specs.Values.{Names, value_of}
+use Rattle.i9_statement.specs.declared.fault.Noted.{Noted}
+use Rattle.i9_statement.specs.declared.fault.Fault.TheVariants as fault
+use Rattle.i9_statement.specs.declared.values.Value.{Value}
+use Rattle.i9_statement.specs.declared.values.Value.TheVariants.{Number, Named, Beyond, Unknown}
+use Rattle.i9_statement.specs.Noted.{fine, wrong}
+use Rattle.i9_statement.specs.Values.{Names, value_of}
 
 -- how far a target is from an address, modulo 2^32 as a signed number
 abbrev pub distance : ℕ → ℕ → ℤ

@@ -1,18 +1,18 @@
 //! Addresses of the memory format.
 ghost use Rattle.std.specs.Prelude.{◌≡◌, ◌<◌, IfSome, MatchOption, None, Some};
-ghost use Rattle.i9_value.specs.Known.{known_in};
-ghost use Rattle.i9_value.specs.Cut.{before, from};
+ghost use Rattle.i9_statement.specs.Known.{known_in};
+ghost use Rattle.i9_statement.specs.Cut.{before, from};
 ghost use Rattle.i9_statement.specs.Addresses.{opens, base_named, base_of, scale_of, scaled_register, if_last};
 ghost use Rattle.i9_statement.specs.Addresses.{index_of, front_of, is_short, mode_of, disp_part, plain_register};
 ghost use Rattle.i9_statement.specs.Addresses.{base_part, index_part, scale_part, address_by, with_index, with_base};
 ghost use Rattle.i9_statement.specs.Addresses.{address_behind, address_of};
 
 use crate::parts::{Base, Front, Index};
-use i9_isa::{Ea, Mode, NO_ADDRESS, Operand};
-use i9_value::{
+use crate::{
     Fault, Known, Noted, Value, behind, closed, cut_byte, cut_where, fine, least, register_at,
     register_place, value_noted, value_of, wrong,
 };
+use i9_isa::{Ea, Mode, NO_ADDRESS, Operand};
 
 /// `ip` or a register.
 fn base_named(text: &[u8]) -> Option<Base>

@@ -2,7 +2,7 @@
 ghost use Rattle.std.specs.Prelude.{◌≡◌, true};
 ghost use Rattle.i9_isa.specs.Table.{row_of};
 ghost use Rattle.i9_isa.specs.Valid.{IsValid};
-ghost use Rattle.i9_value.specs.Known.{known_in};
+ghost use Rattle.i9_statement.specs.Known.{known_in};
 ghost use Rattle.i9_statement.specs.Fields.{fields_of, fields_left};
 ghost use Rattle.i9_statement.specs.Instructions.{take_operand, take_address, take_target, left_over, chosen};
 ghost use Rattle.i9_statement.specs.Instructions.{instruction_of};
@@ -12,8 +12,8 @@ use crate::fields::{fields_of, split_field};
 use crate::operands::{NO_OPERAND, operand_of};
 use crate::order::{comes_first, first_use, last_use};
 use crate::targets::target_of;
+use crate::{Fault, Known, Noted, fine, least, wrong};
 use i9_isa::{Ea, Format, Inst, NO_ADDRESS, Op, Operand, Row, Use, row};
-use i9_value::{Fault, Known, Noted, fine, least, wrong};
 
 /// The operand of a use, where the use has one, and the operands that are left.
 #[inline(always)]

@@ -5,8 +5,8 @@ ghost use Rattle.i9_isa.specs.declared.inst.Inst.{Inst};
 ghost use Rattle.i9_isa.specs.Valid.{IsValid};
 ghost use Rattle.i9_isa.specs.Words.{decoded};
 ghost use Rattle.i9_decode.specs.Ignored.{ignored_bits};
-ghost use Rattle.i9_value.specs.Noted.{fine};
-ghost use Rattle.i9_value.specs.Values.{Names};
+ghost use Rattle.i9_statement.specs.Noted.{fine};
+ghost use Rattle.i9_statement.specs.Values.{Names};
 ghost use Rattle.i9_statement.specs.Statements.{said, statement_of, statement_text};
 ghost use Rattle.i9_statement.specs.Codes.{Stands, taken};
 

@@ -4,9 +4,9 @@ ghost use Rattle.std.specs.Str.{bytes_eq};
 ghost use Rattle.i9_isa.specs.Table.{row_of, names};
 ghost use Rattle.i9_statement.specs.Mnemonics.{mnemonic, begins_with, op_named, hint_by, named_by};
 
+use crate::cut_byte;
 use crate::names::mnemonic;
 use i9_isa::{Op, row};
-use i9_value::cut_byte;
 
 /// The names whose mnemonics begin with this letter, in the order of the table.
 #[tactic(auto, unfolding(crate::specs::Mnemonics::mnemonic))]

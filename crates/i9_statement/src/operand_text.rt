@@ -5,8 +5,8 @@ ghost use Rattle.i9_statement.specs.Addresses.{scale_names};
 ghost use Rattle.i9_statement.specs.Printed.{HasText, operand_text, needs_bang, bang_text, front_text, base_text};
 ghost use Rattle.i9_statement.specs.Printed.{index_text, address_text, target, target_text};
 
+use crate::{add_decimal, add_hex, register_name};
 use i9_isa::{Ea, Mode, Operand};
-use i9_value::{add_decimal, add_hex, register_name};
 use std::alloc::{AllocError, Global};
 
 /// Appends a literal or the name of a register.

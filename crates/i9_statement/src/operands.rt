@@ -1,10 +1,10 @@
 //! Operands of the register and the compare-and-branch format.
 ghost use Rattle.std.specs.Prelude.{◌≡◌};
-ghost use Rattle.i9_value.specs.Known.{known_in};
+ghost use Rattle.i9_statement.specs.Known.{known_in};
 ghost use Rattle.i9_statement.specs.Operands.{small_literal, literal, takes_literals, operand_as, operand_of};
 
+use crate::{Fault, Known, Noted, Value, fine, register_of, value_of, wrong};
 use i9_isa::{Operand, Use};
-use i9_value::{Fault, Known, Noted, Value, fine, register_of, value_of, wrong};
 
 /// What stands for an operand that is missing or at fault.
 pub(crate) const NO_OPERAND: Operand = Operand::Reg(0);

@@ -1,6 +1,6 @@
 //! The parts of addresses.
 
-use i9_value::Value;
+use crate::Value;
 
 /// What stands before the brackets of an address.
 #[derive(Clone, Copy)]

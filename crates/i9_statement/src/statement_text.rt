@@ -8,12 +8,12 @@ ghost use Rattle.i9_statement.specs.Instructions.{operand_field, address_field, 
 ghost use Rattle.i9_statement.specs.Statements.{fields_text, spare_text, statement_text};
 ghost use Rattle.i9_statement.specs.Pieces.{separator, pieces, started_by, Added};
 
+use crate::add_digits;
 use crate::names::mnemonic;
 use crate::operand_text::{add_address, add_operand, add_target};
 use crate::order::{first_use, last_use};
 use crate::statements::Statement;
 use i9_isa::{Ea, Format, Inst, Op, Operand, Use, row};
-use i9_value::add_digits;
 use std::alloc::{AllocError, Global};
 
 /// What stands before an operand.

@@ -1,7 +1,7 @@
 //! Statements: a mnemonic, operands, and ignored bits in braces.
 ghost use Rattle.std.specs.Prelude.{◌≡◌};
 ghost use Rattle.std.specs.Int.Bits.{bit_and};
-ghost use Rattle.i9_value.specs.Known.{known_in};
+ghost use Rattle.i9_statement.specs.Known.{known_in};
 ghost use Rattle.i9_decode.specs.Ignored.{ignored_bits};
 ghost use Rattle.i9_statement.specs.Statements.{if_nothing_left, braced, spare_of, spare_noted, with_spare};
 ghost use Rattle.i9_statement.specs.Statements.{statement_by, statement_of};
@@ -10,10 +10,10 @@ ghost use Rattle.i9_isa.specs.Valid.{IsValid};
 use crate::instructions::instruction_of;
 use crate::mnemonics::named_by;
 use crate::operands::NO_OPERAND;
+use crate::{Fault, Known, Noted, behind, closed, cut_blank, cut_byte, fine, least, wrong};
 use i9_decode::spare_bits;
 use i9_isa::{Inst, NO_ADDRESS, Op};
 use i9_text::{number, split_word};
-use i9_value::{Fault, Known, Noted, behind, closed, cut_blank, cut_byte, fine, least, wrong};
 
 /// Digits between braces.
 fn braced(word: &[u8]) -> Option<u32>

@@ -1,11 +1,11 @@
 //! Branch targets.
 ghost use Rattle.std.specs.Prelude.{◌≡◌};
-ghost use Rattle.i9_value.specs.Known.{known_in};
+ghost use Rattle.i9_statement.specs.Known.{known_in};
 ghost use Rattle.i9_isa.specs.Valid.{is_within};
 ghost use Rattle.i9_statement.specs.Targets.{distance, reach, if_reached, target_by, target_of};
 
+use crate::{Fault, Known, Noted, Value, fine, value_of, wrong};
 use i9_isa::Format;
-use i9_value::{Fault, Known, Noted, Value, fine, value_of, wrong};
 
 /// How far a target is from an address, modulo 2^32 as a signed number.
 fn distance(ip: u32, target: u32) -> i32

@@ -13,12 +13,12 @@ use Rattle.i9_model.specs.Dma.{is_idle, unit_hazard, unit_bytes}
 use Rattle.i9_model.specs.Hazards.{or_else, unless, read_hazard, save_hazard, record_write_hazard}
 use Rattle.i9_model.specs.Requests.{request_hazard, request_writes}
 use Rattle.i9_model.specs.Interrupts.{chosen_soft, clearing_writes, vector_place, interrupt_push, interrupt_record, record_writes, cleared_hazard, interrupt_hazard, interrupt_entry, planned_interrupt, planned_interrupt_by}
-use Rattle.i9_entry.specs.Callers.{caller_of}
+use Rattle.i9_calls.specs.Callers.{caller_of}
 use Rattle.i9_model.specs.Calls.{Caller, entry_address, is_switch, stack_hazard, system_hazard_by, planned_calls, planned_ret}
 use Rattle.i9_model.specs.Faults.{or_stop, table_entry, planned_fault}
 use Rattle.i9_model.specs.declared.faults.Handler.{Handler}
 use Rattle.i9_model.specs.declared.faults.Handler.TheVariants.{Local, System}
-use Rattle.i9_entry.specs.Switches.{system_switch}
+use Rattle.i9_calls.specs.Switches.{system_switch}
 use Rattle.i9_faults.specs.Switches.{handler_switch, fault_switch}
 use Rattle.i9_model.specs.Alike.{is_beyond, is_hard, AgreeWhere, with_other}
 use Rattle.i9_model.specs.HeldFrames.{Cache, overlaid}

@@ -7,7 +7,7 @@ use Rattle.i9_model.specs.Frames.{wrote, softened}
 use Rattle.i9_model.specs.HeldFrames.{Cache, overlaid, cache_stored}
 use Rattle.i9_model.specs.Late.{Wait}
 use Rattle.i9_model.specs.Calls.{Caller}
-use Rattle.i9_entry.specs.Callers.{caller_of}
+use Rattle.i9_calls.specs.Callers.{caller_of}
 use Rattle.i9_memory.specs.declared.memory.Memory.{Memory as Kept}
 use Rattle.i9_memory.specs.Memory.{KeepsRoom}
 use Rattle.i9_queue.specs.Behind.{acted, waiting_of, HasRoomIn, KeepsRoomIn, AddsRoomOnlyIn}

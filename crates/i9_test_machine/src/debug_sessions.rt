@@ -10,8 +10,7 @@ use i9_hex::Segments;
 use i9_machine::{End, Machine};
 use i9_model::layout::MAX_LENGTH;
 use i9_outside::{MemSink, Sink};
-use i9_schedule::{Schedule, read};
-use i9_script::{Script, read_script};
+use i9_schedule::{Schedule, Script, read, read_script};
 use std::alloc::Global;
 use std::test::*;
 

@@ -2,7 +2,7 @@
 use crate::check::{same, same_at};
 use crate::rows::{hex_words, pair};
 use crate::storage::{left, live};
-use i9_entry::{
+use i9_calls::{
     Push, Sys, enter_here, enter_system, in_supervisor_mode, read_word, record_write_hazard,
     system_switches, trace_enable, without_supervisor,
 };

@@ -1,6 +1,6 @@
 //! Pages, put and found by hand.
 use crate::check::must_at;
-use i9_pages::PageTable;
+use i9_memory::PageTable;
 use std::test::Fail;
 
 /// How many numbers can have a page.

@@ -4,7 +4,7 @@ use i9_asm::{
     AsmError, AsmFault, Said, Width, lines_give_what_they_count, listings_assemble, one_answer,
     read_line,
 };
-use i9_value::Fault;
+use i9_statement::Fault;
 use std::test::Fail;
 
 // A line, its label, and what it says behind it.

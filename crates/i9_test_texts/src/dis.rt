@@ -1,8 +1,9 @@
 //! Statements against words that were worked out by hand from the instruction formats.
 use crate::check::must_at;
 use i9_dis::text;
-use i9_statement::{code_of, statement_of, statements_read_back, words_are_one};
-use i9_value::{Definition, Known, Table, is_name};
+use i9_statement::{
+    Definition, Known, Table, code_of, is_name, statement_of, statements_read_back, words_are_one,
+};
 use std::alloc::Global;
 use std::test::Fail;
 

@@ -5,9 +5,8 @@ ghost use Rattle.i9_model.specs.HexText.{most_bytes};
 
 use crate::check::{must, must_at, same};
 use i9_elf::{ElfError, WriteError, has_magic, one_answer, read, write};
-use i9_hex::{Segment, Segments};
+use i9_hex::{Segment, Segments, runs_of};
 use i9_isa::NoMemory;
-use i9_runs::runs_of;
 use std::alloc::Global;
 use std::test::Fail;
 

@@ -1,7 +1,7 @@
 //! Files in either format, worked out by hand.
 use crate::check::{must, same};
+use i9_elf::{ImageError, ImageFault, one_image, read_image};
 use i9_hex::HexFault;
-use i9_image::{ImageError, ImageFault, one_answer, read};
 use std::alloc::Global;
 use std::test::Fail;
 
@@ -17,20 +17,20 @@ const ELF: &[u8] = b"\x7FELF\x01\x01\x01\0\0\0\0\0\0\0\0\0\
 #[test]
 fn reads_either_format(rt: HostRuntime) -> Result<(), Fail> {
     for file in [TEXT, ELF] {
-        let image = read(rt.alloc(), file)?;
+        let image = read_image(rt.alloc(), file)?;
         same(&rt, image.as_slice().len(), 1);
         for segment in image.as_slice() {
             same(&rt, segment.address, 0x1000);
             must(&rt, segment.bytes.as_slice() == b"A".as_slice());
         }
     }
-    one_answer();
+    one_image();
     Ok(())
 }
 
 /// The fault of a file.
 fn fault(alloc: Global, file: &[u8]) -> Option<ImageFault> {
-    match read(alloc, file) {
+    match read_image(alloc, file) {
         Err(ImageError::Bad(fault)) => Some(fault),
         _ => None,
     }

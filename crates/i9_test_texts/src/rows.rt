@@ -4,8 +4,7 @@ ghost use Rattle.i9_isa.specs.Valid.{IsValid};
 
 use crate::check::same_at;
 use i9_isa::Inst;
-use i9_statement::statement_of;
-use i9_value::Known;
+use i9_statement::{Known, statement_of};
 use std::alloc::Global;
 use std::process::Abort;
 use std::test::Fail;

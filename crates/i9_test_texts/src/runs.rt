@@ -1,6 +1,5 @@
 use crate::check::{must, same};
-use i9_hex::Segments;
-use i9_runs::{one_list, runs_of};
+use i9_hex::{Segments, one_list, runs_of};
 use std::alloc::Global;
 use std::test::Fail;
 

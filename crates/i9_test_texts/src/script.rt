@@ -1,5 +1,5 @@
 use crate::check::same;
-use i9_script::{Command, LineError, LineFault, one_answer, read_script};
+use i9_schedule::{Command, LineError, LineFault, one_script, read_script};
 use std::alloc::{AllocError, Global};
 use std::test::Fail;
 
@@ -144,7 +144,7 @@ fn reads_commands_in_order(rt: HostRuntime) -> Result<(), Fail> {
         assert_eq!(rt; commands.get(place).copied(), Some(command));
         place += 1;
     }
-    one_answer();
+    one_script();
     Ok(())
 }
 

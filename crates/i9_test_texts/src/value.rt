@@ -1,7 +1,7 @@
 //! Names, values, registers and cuts, worked out by hand.
 use crate::check::same;
 use i9_isa::Operand;
-use i9_value::{
+use i9_statement::{
     Definition, Fault, Known, Noted, Table, Value, add_decimal, add_digits, add_hex, behind,
     closed, cut_blank, cut_byte, cut_where, fine, is_name, least, lookup, register_at,
     register_name, register_of, register_place, settled, value_noted, value_of, wrong,

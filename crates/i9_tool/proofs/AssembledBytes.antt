@@ -9,10 +9,10 @@ use Rattle.std.proofs.lemmas.Bool.{and_parts, ltb-true}
 use Rattle.i9_text.specs.FirstFault.{SaysAll}
 use Rattle.i9_text.specs.Text.{is_blank, is_in_word}
 use Rattle.i9_model.specs.Image.{Part, upwards, pairs_of}
-use Rattle.i9_runs.specs.Runs.{IsLow}
-use Rattle.i9_value.specs.declared.fault.Fault.TheVariants as fault
-use Rattle.i9_value.specs.Cut.{before, from}
-use Rattle.i9_value.specs.Values.{Names, value_of}
+use Rattle.i9_hex.specs.Runs.{IsLow}
+use Rattle.i9_statement.specs.declared.fault.Fault.TheVariants as fault
+use Rattle.i9_statement.specs.Cut.{before, from}
+use Rattle.i9_statement.specs.Values.{Names, value_of}
 use Rattle.i9_statement.specs.Fields.{fields_of}
 use Rattle.i9_asm.specs.Lines.{Item, Bad, Org, Space, Align, Set, Ascii, Instruction, quote, backslash, colon, dot, ends_head, one_value, two_values, some_values, directive_of, item_by, labelled, labelled_by, without_comment, code_len, code_of, item_of, label_of}
 use Rattle.i9_asm.specs.declared.comments.Quote.TheVariants.{Outside}

@@ -1,12 +1,12 @@
 -- A file of each kind is accepted or refused, not both, for one value or one fault.
 use Rattle.std.proofs.Common.{◌≡◌, ℕ, suc, ◌%◌, ◌<◌, ◌⊎◌, List, [], ◌∷◌, get_or, refl, sym, ap, ◌∙◌, subst, arith}
 use Rattle.i9_text.specs.Text.{lines_of}
-use Rattle.i9_image.specs.Images.{Fault, IsImage, IsRefused}
-use Rattle.i9_image.proofs.Answers.{some_answer as some_image, image_apart, one_image, one_fault as one_image_fault}
+use Rattle.i9_elf.specs.Images.{Fault, IsImage, IsRefused}
+use Rattle.i9_elf.proofs.ImageAnswers.{some_answer as some_image, image_apart, one_image, one_fault as one_image_fault}
 use Rattle.i9_schedule.proofs.OneAnswer.{some_answer as some_schedule, answers_apart, one_schedule, one_fault as one_schedule_fault}
 use Rattle.i9_asm.proofs.SomeAnswer.{some_answer as some_assembly}
 use Rattle.i9_asm.proofs.Once.{assembly_once, refusal_once, never_both_answers as assembly_apart}
-use Rattle.i9_script.proofs.OneAnswer.{some_answer as some_script, one_script, one_fault as one_script_fault, never_both_answers as script_apart}
+use Rattle.i9_schedule.proofs.OneScript.{some_answer as some_script, one_script, one_fault as one_script_fault, never_both_answers as script_apart}
 use Rattle.i9_tool.specs.declared.refusal.FileKind.{FileKind}
 use Rattle.i9_tool.specs.declared.refusal.FileKind.TheVariants.{Image, Schedule, Source, Script}
 use Rattle.i9_tool.specs.FileKinds.{Value, octets, Says, FaultOf, IsFaulty}

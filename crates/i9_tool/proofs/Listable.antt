@@ -9,9 +9,9 @@ use Rattle.i9_model.specs.HexText as hex
 use Rattle.i9_model.specs.HexText.{Origin, Upper, Base, address_in, HexState, start, record_bytes, IsRecord, Says, says_nothing, says_bytes, says_end, says_base, says_start_segment, says_upper, says_start_address}
 use Rattle.i9_model.specs.Image.{Part, pairs_of, address_count, pairs_at, upwards}
 use Rattle.i9_elf.specs.Files.{Header, loads_of, loaded_bytes, loaded_pairs}
-use Rattle.i9_image.specs.Images.{IsImage, says_elf, says_hex}
-use Rattle.i9_runs.specs.Runs.{IsLow}
-use Rattle.i9_runs.proofs.Rising.{ArePlaced}
+use Rattle.i9_elf.specs.Images.{IsImage, says_elf, says_hex}
+use Rattle.i9_hex.specs.Runs.{IsLow}
+use Rattle.i9_hex.proofs.Rising.{ArePlaced}
 use Rattle.i9_dis.proofs.Listed.{some_listing}
 use Rattle.i9_tool.specs.declared.refusal.FileKind.TheVariants.{Image}
 use Rattle.i9_tool.specs.FileKinds.{AreBytes, octets, IsAccepted}

@@ -19,9 +19,9 @@ use Rattle.i9_course.specs.PipelinedRun.{IsPipelinedRun}
 use Rattle.i9_course.proofs.PipelinedRuns.{pipelined_records, late_end}
 use Rattle.i9_course.proofs.PipelinedSame.{run_sets}
 use Rattle.i9_elf.specs.Written.{file_of}
-use Rattle.i9_runs.proofs.Joining.{runs_once}
+use Rattle.i9_hex.proofs.Joining.{runs_once}
 use Rattle.i9_dis.proofs.Listed.{one_text as one_listing, by_pairs}
-use Rattle.i9_script.specs.declared.command.Command.{Command as ScriptCommand}
+use Rattle.i9_schedule.specs.declared.command.Command.{Command as ScriptCommand}
 use Rattle.i9_lines.specs.Lines.{generated_line}
 use Rattle.i9_debug.specs.Session.{Place, at, end_at}
 use Rattle.i9_generator.specs.Generator.{generated_source, generated_schedule}
@@ -29,7 +29,7 @@ use Rattle.i9_tool.specs.declared.refusal.FileKind.TheVariants.{Schedule, Source
 use Rattle.i9_tool.specs.declared.words.Format.{Format}
 use Rattle.i9_tool.specs.declared.words.Format.TheVariants.{Hex, Elf}
 use Rattle.i9_tool.specs.declared.words.Range.{Range}
-use Rattle.i9_job.proofs.MadeSchedule.{schedule_counted}
+use Rattle.i9_generator.proofs.MadeSchedule.{schedule_counted}
 use Rattle.i9_tool.specs.FileKinds.{File, Value, AreBytes, IsRead, names}
 use Rattle.i9_outside.specs.Traits.{IsFile}
 use Rattle.i9_tool.specs.Fetches.{AllTold}

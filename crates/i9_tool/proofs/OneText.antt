@@ -9,8 +9,8 @@ use Rattle.i9_course.specs.Course.{Item, course, ahead, IsCourse}
 use Rattle.i9_course.specs.PipelinedRun.{end_ahead, finish_by, ended_by}
 use Rattle.i9_course.proofs.Ahead.{ahead_later}
 use Rattle.i9_machine.specs.Turned.{steps_on}
-use Rattle.i9_script.specs.declared.command.Command.{Command}
-use Rattle.i9_script.specs.declared.command.Command.TheVariants as commands
+use Rattle.i9_schedule.specs.declared.command.Command.{Command}
+use Rattle.i9_schedule.specs.declared.command.Command.TheVariants as commands
 use Rattle.i9_debug.proofs.Returning.{one_back}
 use Rattle.i9_debug.specs.Session.{Place, at, ended, turn_ahead, comes_to, NoneComesTo, IssueBelow, EndsBehind, ending_lines, TurnsTo, turns_pass, turns_end, ComesTo, comes, none_comes, Stays, UnlessOver, Runs, told, Answers, IsText, no_command, next_command}
 use Rattle.i9_debug.proofs.Places.{record_issues}

@@ -21,10 +21,10 @@ use Rattle.i9_model.specs.PrintedText.{end_code}
 use Rattle.i9_course.proofs.PipelinedRuns.{pipelined_goes_on}
 use Rattle.i9_hex.specs.Writing.{hex_text}
 use Rattle.i9_elf.specs.Written.{most_headers, file_of}
-use Rattle.i9_runs.proofs.Placed.{some_runs}
-use Rattle.i9_script.specs.declared.command.Command.{Command as ScriptCommand}
-use Rattle.i9_script.specs.ScriptText.{IsCommandInRange, IsInLimits}
-use Rattle.i9_script.proofs.Limits.{script_in_limits}
+use Rattle.i9_hex.proofs.Placed.{some_runs}
+use Rattle.i9_schedule.specs.declared.command.Command.{Command as ScriptCommand}
+use Rattle.i9_schedule.specs.ScriptText.{IsCommandInRange, IsInLimits}
+use Rattle.i9_schedule.proofs.Limits.{script_in_limits}
 use Rattle.i9_outside.specs.declared.traits.TheConstants.{FILE_LIMIT}
 use Rattle.i9_outside.specs.Traits.{IsFile}
 use Rattle.i9_lines.specs.declared.print.Printed.{Printed}
@@ -51,8 +51,8 @@ use Rattle.i9_tool.specs.declared.made.Made.{Made}
 use Rattle.i9_tool.specs.Values.{made_code, made_text, IsMade, PrintsMade}
 use Rattle.i9_tool.specs.Traced.{headed_text}
 use Rattle.i9_tool.specs.Run.{RunsHeaded, Counts, printed_of}
-use Rattle.i9_job.proofs.MadeSource.{made_source}
-use Rattle.i9_job.proofs.MadeSchedule.{made_schedule}
+use Rattle.i9_generator.proofs.MadeSource.{made_source}
+use Rattle.i9_generator.proofs.MadeSchedule.{made_schedule}
 use Rattle.i9_tool.specs.Outcome.{RunGives, runs, driven_code, ScriptGives, drives, AsmGives, as_hex, as_elf, too_many_runs, TuneGives, no_block, tuned, GenGives, job_runs, job_line, TaskGives, CommandGives, refused, done, Gives, in_no_form, in_form, Answers, code_for, Only, SomeFor, AnswersSome}
 use Rattle.i9_tool.proofs.Refusals.{known_refusal}
 use Rattle.i9_tool.proofs.Answering.{answers_printed, answers_nothing, answers_wider}

@@ -2,13 +2,13 @@
 use Rattle.std.specs.Prelude.{ℕ, ◌%◌, ◌<◌, ◌≤◌, List, length, map, codes, Option}
 use Rattle.std.specs.List.{AllByRecursion}
 use Rattle.i9_text.specs.Text.{lines_of}
-use Rattle.i9_image.specs.Images.{Fault, AtLine, OfElf, IsImage, IsRefused}
+use Rattle.i9_elf.specs.Images.{Fault, AtLine, OfElf, IsImage, IsRefused}
 use Rattle.i9_lines.specs.Lines.{refused_line, elf_line}
 use Rattle.i9_model.specs.ScheduleText.{Contents, IsSchedule, IsRefused as IsRefusedSchedule}
 use Rattle.i9_model.specs.Image.{Part}
 use Rattle.i9_asm.specs.Laws.{IsAssembly, IsRefusedSource}
-use Rattle.i9_script.specs.ScriptText.{IsScript, IsRefused as IsRefusedScript}
-use Rattle.i9_script.specs.declared.command.Command.{Command}
+use Rattle.i9_schedule.specs.ScriptText.{IsScript, IsRefused as IsRefusedScript}
+use Rattle.i9_schedule.specs.declared.command.Command.{Command}
 use Rattle.i9_outside.specs.declared.traits.TheConstants.{FILE_LIMIT}
 use Rattle.i9_outside.specs.Traits.{IsFile}
 use Rattle.i9_tool.specs.declared.refusal.FileKind.{FileKind}

@@ -2,7 +2,7 @@
 use Rattle.std.specs.Prelude.{◌≡◌, ℕ, List, [], ◌∷◌, ◌++◌, Option, Some, None}
 use Rattle.i9_model.specs.Image.{Part}
 use Rattle.i9_model.specs.ScheduleText.{first_version, Contents}
-use Rattle.i9_script.specs.declared.command.Command.{Command as ScriptCommand}
+use Rattle.i9_schedule.specs.declared.command.Command.{Command as ScriptCommand}
 use Rattle.i9_tool.specs.declared.words.Format.{Format}
 use Rattle.i9_tool.specs.declared.words.Range.{Range}
 use Rattle.i9_tool.specs.FileKinds.{File, Value, IsRead}

@@ -17,12 +17,12 @@ use Rattle.i9_tune.specs.Tuning.{fault_line as block_fault_line, IsTuning}
 use Rattle.i9_model.specs.declared.layout.TheConstants.{MAX_LENGTH}
 use Rattle.i9_course.specs.PipelinedRun.{IsPipelinedRun}
 use Rattle.i9_hex.specs.Writing.{hex_text}
-use Rattle.i9_runs.specs.Runs.{AreRuns}
+use Rattle.i9_hex.specs.Runs.{AreRuns}
 use Rattle.i9_elf.specs.Written.{most_headers, file_of}
 use Rattle.i9_asm.specs.Laws.{IsAssembly}
 use Rattle.i9_asm.specs.Listing.{IsListing}
 use Rattle.i9_model.specs.ScheduleText.{Contents, IsSchedule, IsByCounts}
-use Rattle.i9_script.specs.declared.command.Command.{Command as ScriptCommand}
+use Rattle.i9_schedule.specs.declared.command.Command.{Command as ScriptCommand}
 use Rattle.i9_tool.specs.FileKinds.{File, names}
 use Rattle.i9_tool.specs.CommandLine.{Command, files_of, command_of, words_line, segments_line}
 use Rattle.i9_tool.specs.Refusals.{Refusal, refusal_line, refusal_code, FirstRefusal}

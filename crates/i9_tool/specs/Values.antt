@@ -4,7 +4,7 @@ use Rattle.i9_model.specs.declared.layout.TheConstants.{MAX_LENGTH}
 use Rattle.i9_model.specs.HexText.{most_bytes}
 use Rattle.i9_model.specs.Image.{Part, pairs_of}
 use Rattle.i9_model.specs.ScheduleText.{Contents}
-use Rattle.i9_image.specs.Reading.{fault_in}
+use Rattle.i9_elf.specs.ImageReading.{fault_in}
 use Rattle.i9_schedule.specs.Plan.{Plan, contents}
 use Rattle.i9_tool.specs.declared.status.Ending.{Ending}
 use Rattle.i9_tool.specs.declared.status.Ending.TheVariants as endings

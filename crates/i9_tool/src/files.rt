@@ -10,11 +10,10 @@ ghost use Rattle.i9_tool.specs.Values.{Parses, stop_of};
 
 use crate::refusal::{FileKind, InputError, Refusal};
 use i9_asm::{AsmError, assemble};
+use i9_elf::ImageError;
 use i9_hex::Segments;
-use i9_image::ImageError;
 use i9_outside::{Fetch, Files};
-use i9_schedule::{LineError, Schedule};
-use i9_script::{Script, read_script};
+use i9_schedule::{LineError, Schedule, Script, read_script};
 use std::alloc::Global;
 
 /// Fetches the file of this name, which is to be of a kind.
@@ -43,7 +42,7 @@ fn fetch_file<F: Files>(
 fn image_in(alloc: Global, file: &[u8]) -> Result<Segments, InputError>
     ensures { Parses kinds.Image (λ image. pairs_of image) file.now result }
 {
-    match i9_image::read(alloc, file) {
+    match i9_elf::read_image(alloc, file) {
         Ok(image) => Ok(image),
         Err(ImageError::Bad(fault)) => Err(InputError::Refused(Refusal::Image(fault))),
         Err(ImageError::Memory) => Err(InputError::Memory),

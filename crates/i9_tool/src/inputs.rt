@@ -13,8 +13,7 @@ use crate::refusal::InputError;
 use crate::words::{Asked, Block, Driver, Format, JobWords, Range, RunWords};
 use i9_hex::Segments;
 use i9_outside::Files;
-use i9_schedule::Schedule;
-use i9_script::Script;
+use i9_schedule::{Schedule, Script};
 use std::alloc::Global;
 
 /// What drives a run: a length with what is traced, or the commands of a script.

@@ -15,8 +15,7 @@ use i9_hex::Segments;
 use i9_machine::Machine;
 use i9_model::layout::MAX_LENGTH;
 use i9_outside::Sink;
-use i9_schedule::Schedule;
-use i9_script::Script;
+use i9_schedule::{Schedule, Script};
 use std::alloc::Global;
 
 /// How the command ends behind a session that ended so.

@@ -14,7 +14,7 @@ use Rattle.i9_isa.proofs.Decoding.{encodes_decoded}
 use Rattle.i9_decode.specs.Ignored.{ignored_bits}
 use Rattle.i9_text.specs.Text.{space}
 use Rattle.i9_text.specs.Written.{word_text}
-use Rattle.i9_value.specs.NumberText.{hex_text, hex_byte_text}
+use Rattle.i9_statement.specs.NumberText.{hex_text, hex_byte_text}
 use Rattle.i9_model.specs.Writes.{wrapped}
 use Rattle.i9_hex.specs.Writing.{with_line_feed}
 use Rattle.i9_statement.specs.Statements.{statement_text}

@@ -14,9 +14,9 @@ use Rattle.i9_decode.specs.Ignored.{ignored_bits}
 use Rattle.i9_decode.proofs.ValidWords.{encodes_valid}
 use Rattle.i9_model.specs.Writes.{wrapped, or_earlier, last_put}
 use Rattle.i9_hex.specs.Writing.{with_line_feed}
-use Rattle.i9_value.specs.declared.fault.Noted.{Noted}
-use Rattle.i9_value.specs.Noted.{fine}
-use Rattle.i9_value.specs.Values.{Names}
+use Rattle.i9_statement.specs.declared.fault.Noted.{Noted}
+use Rattle.i9_statement.specs.Noted.{fine}
+use Rattle.i9_statement.specs.Values.{Names}
 use Rattle.i9_statement.specs.declared.statements.Statement.{Statement}
 use Rattle.i9_statement.specs.Statements.{said, statement_of, statement_text}
 use Rattle.i9_statement.specs.Codes.{IsCode, Stands, stands_one, stands_two}

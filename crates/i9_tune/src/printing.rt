@@ -13,8 +13,7 @@ use crate::greedy::tune;
 use crate::turns::span;
 use i9_decode::Code;
 use i9_isa::{Inst, NoMemory, word_count};
-use i9_statement::{Statement, add_statement, code_of};
-use i9_value::add_hex;
+use i9_statement::{Statement, add_hex, add_statement, code_of};
 use std::alloc::{AllocError, Global};
 
 /// Appends a space and a word in eight upper-case hexadecimal digits.

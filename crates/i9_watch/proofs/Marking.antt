@@ -10,7 +10,7 @@ use Rattle.i9_model.proofs.Readings.{next_place}
 use Rattle.i9_model.specs.Writes.{wrapped}
 use Rattle.i9_model.specs.Frames.{in_bytes}
 use Rattle.i9_model.proofs.Places.{in_bytes-none, in_bytes-more}
-use Rattle.i9_pages.specs.Table.{page_at, IsCopy}
+use Rattle.i9_memory.specs.Table.{page_at, IsCopy}
 use Rattle.i9_watch.specs.declared.page.Mark.{Mark}
 use Rattle.i9_watch.specs.declared.page.Mark.TheVariants.{Soft, Live, Lost}
 use Rattle.i9_watch.specs.declared.page.Change.{Change}

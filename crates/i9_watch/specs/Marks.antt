@@ -2,7 +2,7 @@
 use Rattle.std.specs.Prelude.{◌≢◌, ℕ, ◌+◌, ◌/◌, ◌<◌, ◌%◌, Bool, false, if◌then◌else◌, Option, Some, None, IsSome}
 use Rattle.i9_model.specs.Writes.{wrapped}
 use Rattle.i9_model.specs.Frames.{in_bytes}
-use Rattle.i9_pages.specs.Table.{page_at}
+use Rattle.i9_memory.specs.Table.{page_at}
 use Rattle.i9_watch.specs.declared.page.Mark.{Mark}
 use Rattle.i9_watch.specs.declared.page.Change.{Change}
 use Rattle.i9_watch.specs.declared.page.Page.{Page}

@@ -6,8 +6,8 @@ ghost use Rattle.i9_model.specs.Frames.{in_bytes, in_frames};
 
 use crate::page::{Change, Mark, PAGE_SIZE, Page};
 use i9_isa::NoMemory;
+use i9_memory::PageTable;
 use i9_model::layout::FRAME_SIZE;
-use i9_pages::PageTable;
 use std::alloc::Global;
 use std::collections::VecDeque;
 

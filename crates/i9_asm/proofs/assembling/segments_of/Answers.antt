@@ -1,9 +1,9 @@
 use Rattle.std.proofs.Common.{◌≡◌, ℕ, ◌+◌, ◌*◌, Some, None, sym, subst, arith}
-use Rattle.i9_value.specs.Known.{definitions, values_of, values_before}
+use Rattle.i9_statement.specs.Known.{definitions, values_of, values_before}
 use Rattle.i9_text.specs.Text.{lines_of}
 use Rattle.i9_text.specs.FirstFault.{IsRefused, SaysAll}
 use Rattle.i9_text.proofs.Loop.{left_len-split}
-use Rattle.i9_value.specs.Values.{Names}
+use Rattle.i9_statement.specs.Values.{Names}
 use Rattle.i9_asm.specs.Source.{start_source, line_fault, fault_of, Assembles}
 use Rattle.i9_asm.specs.Reading.{source_at}
 use Rattle.i9_asm.proofs.TakenLines.{refused_at}

@@ -1,5 +1,5 @@
 use Rattle.std.proofs.Common.{◌+◌, ◌≤◌, length}
-use Rattle.i9_value.specs.Known.{definitions}
+use Rattle.i9_statement.specs.Known.{definitions}
 use Rattle.i9_text.specs.Text.{lines_of, left_len}
 use Rattle.i9_asm.proofs.ReadNames.{StandsAt}
 use Rattle.i9_asm.proofs.assembling.segments_of.Given as goal

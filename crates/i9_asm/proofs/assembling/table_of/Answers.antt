@@ -1,5 +1,5 @@
 use Rattle.std.proofs.Common.{◌*◌, List, ℕ, refl, sym, ap, ◌∙◌, arith}
-use Rattle.i9_value.specs.Known.{definitions}
+use Rattle.i9_statement.specs.Known.{definitions}
 use Rattle.i9_text.specs.Text.{lines_left}
 use Rattle.i9_text.proofs.Loop.{lines_left-split, left_len-split}
 use Rattle.i9_asm.specs.Numbered.{lines_entered}

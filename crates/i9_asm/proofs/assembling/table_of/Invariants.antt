@@ -1,5 +1,5 @@
 use Rattle.std.proofs.Common.{◌≡◌, ◌+◌, ◌*◌, ◌≤◌, length}
-use Rattle.i9_value.specs.Known.{definitions}
+use Rattle.i9_statement.specs.Known.{definitions}
 use Rattle.i9_text.specs.Text.{lines_of, lines_left, left_len}
 use Rattle.i9_asm.specs.Places.{start_place}
 use Rattle.i9_asm.specs.Numbered.{no_definitions, lines_entered}

@@ -1,6 +1,6 @@
 use Rattle.std.proofs.Common.{refl, sym, ap, ◌∙◌}
-use Rattle.i9_value.specs.Known.{known_in}
-use Rattle.i9_value.specs.Noted.{least}
+use Rattle.i9_statement.specs.Known.{known_in}
+use Rattle.i9_statement.specs.Noted.{least}
 use Rattle.i9_statement.specs.Fields.{fields_left}
 use Rattle.i9_asm.specs.Said.{bytes_of}
 use Rattle.i9_asm.specs.Source.{data_fault}

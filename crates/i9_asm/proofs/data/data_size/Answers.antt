@@ -1,8 +1,8 @@
 use Rattle.std.proofs.Common.{◌≡◌, true, false, sym, ap, ◌∙◌, arith}
 use Rattle.std.specs.Prelude.{is_some}
 use Rattle.i9_text.proofs.Loop.{left_len-split}
-use Rattle.i9_value.specs.Values.{value_of}
-use Rattle.i9_value.proofs.KnownNames.{known-nothing}
+use Rattle.i9_statement.specs.Values.{value_of}
+use Rattle.i9_statement.proofs.KnownNames.{known-nothing}
 use Rattle.i9_statement.specs.Fields.{fields_left}
 use Rattle.i9_asm.specs.Said.{bytes_of}
 use Rattle.i9_asm.proofs.FieldLoops.{fields_in, split_fields, has_form, sized, sized-on, sized-off, sized-end, sized-all, bytes_of-small}

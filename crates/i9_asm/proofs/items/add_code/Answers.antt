@@ -1,5 +1,5 @@
 use Rattle.std.proofs.Common.{◌++◌, refl, ap, ◌∙◌}
-use Rattle.i9_value.specs.Known.{known_in}
+use Rattle.i9_statement.specs.Known.{known_in}
 use Rattle.i9_asm.proofs.GivenBytes.{is_one_word, one_word, two_words}
 use Rattle.i9_asm.proofs.items.add_code.Goals as goal
 

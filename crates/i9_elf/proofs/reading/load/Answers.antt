@@ -1,7 +1,7 @@
 use Rattle.std.proofs.Common.{◌++◌, ℕ, List, ap, ◌∙◌}
 use Rattle.std.proofs.lemmas.Result.{on_ok_weaker}
 use Rattle.i9_model.specs.Image.{upwards, pairs_of}
-use Rattle.i9_runs.proofs.PairCounts.{pairs_of-with_part}
+use Rattle.i9_hex.proofs.PairCounts.{pairs_of-with_part}
 use Rattle.i9_elf.proofs.reading.load.Goals as goal
 
 pub returns-in-Ok : goal.returns-in-Ok

@@ -1,6 +1,6 @@
 use Rattle.std.proofs.Common.{◌≡◌, ◌+◌, ◌++◌, drop, map}
 use Rattle.i9_hex.specs.Shown.{part_of}
-use Rattle.i9_runs.specs.Runs.{bytes_in}
+use Rattle.i9_hex.specs.Runs.{bytes_in}
 use Rattle.i9_elf.specs.Written.{program_headers}
 use Rattle.i9_elf.proofs.writing.add_headers.Given as goal
 

@@ -3,8 +3,8 @@ use Rattle.i9_model.specs.Image.{Part, pairs_of}
 use Rattle.i9_model.specs.HexText.{most_bytes}
 use Rattle.i9_hex.specs.Shown.{part_of}
 use Rattle.i9_hex.specs.declared.segments.Segment.{Segment}
-use Rattle.i9_runs.specs.Runs.{bytes_in, AreRuns}
-use Rattle.i9_runs.proofs.Joining.{runs_once}
+use Rattle.i9_hex.specs.Runs.{bytes_in, AreRuns}
+use Rattle.i9_hex.proofs.Joining.{runs_once}
 use Rattle.i9_elf.specs.Written.{file_of}
 use Rattle.i9_elf.proofs.RoundTrip.{few_bytes, file-again, length-map_part}
 use Rattle.i9_elf.proofs.writing.write.Goals as goal

@@ -1,4 +1,4 @@
-use Rattle.i9_value.specs.Known.{known_in}
+use Rattle.i9_statement.specs.Known.{known_in}
 use Rattle.i9_statement.specs.Fields.{fields_of}
 use Rattle.i9_statement.proofs.ValidRead.{instruction_valid}
 use Rattle.i9_statement.proofs.instructions.instruction_of.Goals as goal

@@ -2,7 +2,7 @@ use Rattle.std.proofs.Common.{◌≡◌, ℕ, ◌<◌, List, [], ◌∷◌, leng
 use Rattle.std.specs.List.{slice_split}
 use Rattle.std.proofs.lemmas.List.Splits.{length-slice_split}
 use Rattle.i9_statement.specs.Fields.{is_comma, field_of}
-use Rattle.i9_value.specs.declared.fault.Fault.TheVariants.{Form}
+use Rattle.i9_statement.specs.declared.fault.Fault.TheVariants.{Form}
 use Rattle.i9_statement.specs.Instructions.{left_over}
 use Rattle.i9_statement.proofs.instructions.left_over.Goals as goal
 

@@ -1,5 +1,5 @@
 use Rattle.std.proofs.Common.{sym, rules}
-use Rattle.i9_value.proofs.Decimals.{hex_below}
+use Rattle.i9_statement.proofs.Decimals.{hex_below}
 use Rattle.i9_statement.proofs.statements.braced.Goals as goal
 
 pub overflow_cast-result : goal.overflow_cast-result

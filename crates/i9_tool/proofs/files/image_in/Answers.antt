@@ -1,5 +1,5 @@
 use Rattle.std.proofs.Common.{refl, arith}
-use Rattle.i9_image.specs.Reading.{fault_in}
+use Rattle.i9_elf.specs.ImageReading.{fault_in}
 use Rattle.i9_tool.proofs.FileAnswers.{image_said, image_faulty}
 use Rattle.i9_tool.proofs.files.image_in.Goals as goal
 

@@ -1,4 +1,4 @@
-use Rattle.i9_job.proofs.MadeSource.{source_not_refused}
+use Rattle.i9_generator.proofs.MadeSource.{source_not_refused}
 use Rattle.i9_tool.proofs.Outcomes.{answers_unprinted}
 use Rattle.i9_tool.proofs.job.assemble_job.Goals as goal
 

@@ -1,5 +1,5 @@
 use Rattle.i9_replay.proofs.Plans.{schedule_is_plan}
-use Rattle.i9_job.proofs.MadeSchedule.{schedule_not_refused}
+use Rattle.i9_generator.proofs.MadeSchedule.{schedule_not_refused}
 use Rattle.i9_tool.proofs.Outcomes.{answers_unprinted}
 use Rattle.i9_tool.proofs.job.schedule_job.Goals as goal
 

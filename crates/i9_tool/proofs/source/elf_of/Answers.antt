@@ -1,5 +1,5 @@
 use Rattle.std.proofs.Common.{Err, ap}
-use Rattle.i9_runs.proofs.Placed.{some_runs}
+use Rattle.i9_hex.proofs.Placed.{some_runs}
 use Rattle.i9_tool.specs.Outcome.{as_elf, too_many_runs}
 use Rattle.i9_tool.proofs.source.elf_of.Goals as goal
 

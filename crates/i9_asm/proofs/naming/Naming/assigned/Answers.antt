@@ -1,9 +1,9 @@
 use Rattle.std.proofs.Common.{◌≡◌, ℕ, Bool, true, false, ◌&&◌, refl, sym, ap, ◌∙◌}
 use Rattle.std.specs.Prelude.{is_some}
-use Rattle.i9_value.specs.Known.{definitions, enter}
-use Rattle.i9_value.specs.declared.fault.Noted.{Noted}
-use Rattle.i9_value.specs.Values.{is_name, value_of, settled}
-use Rattle.i9_value.proofs.KnownNames.{known-all}
+use Rattle.i9_statement.specs.Known.{definitions, enter}
+use Rattle.i9_statement.specs.declared.fault.Noted.{Noted}
+use Rattle.i9_statement.specs.Values.{is_name, value_of, settled}
+use Rattle.i9_statement.proofs.KnownNames.{known-all}
 use Rattle.i9_asm.specs.Said.{item_as}
 use Rattle.i9_asm.specs.Numbered.{item_entered}
 use Rattle.i9_asm.specs.Reading.{naming_place}

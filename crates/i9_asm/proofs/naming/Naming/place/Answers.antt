@@ -1,5 +1,5 @@
 use Rattle.std.proofs.Common.{ap}
-use Rattle.i9_value.proofs.KnownNames.{known-all}
+use Rattle.i9_statement.proofs.KnownNames.{known-all}
 use Rattle.i9_asm.proofs.naming.Naming.place.Goals as goal
 
 pub returns : goal.returns

@@ -1,5 +1,5 @@
 use Rattle.std.proofs.Common.{◌≡◌, ℕ, ◌*◌, List, Option, refl, ap, ◌∙◌}
-use Rattle.i9_value.specs.Known.{definitions}
+use Rattle.i9_statement.specs.Known.{definitions}
 use Rattle.i9_asm.specs.Said.{item_as}
 use Rattle.i9_asm.specs.Lines.{Item, label_of}
 use Rattle.i9_asm.specs.Places.{Place, address_at, past_label, past_item, past_line}

@@ -1,5 +1,5 @@
 use Rattle.std.proofs.Common.{ap, ◌∙◌}
-use Rattle.i9_value.specs.Known.{known_in}
+use Rattle.i9_statement.specs.Known.{known_in}
 use Rattle.i9_asm.specs.Lines.{Empty, Org, Align, Set}
 use Rattle.i9_asm.specs.Said.{item_as, bytes_of}
 use Rattle.i9_asm.specs.Places.{space_of}

@@ -1,7 +1,7 @@
 use Rattle.std.proofs.Common.{sym, ap, ◌∙◌}
-use Rattle.i9_value.specs.declared.known.Known.TheVariants.{Nothing}
-use Rattle.i9_value.specs.Known.{known_in}
-use Rattle.i9_value.proofs.KnownNames.{known-nothing}
+use Rattle.i9_statement.specs.declared.known.Known.TheVariants.{Nothing}
+use Rattle.i9_statement.specs.Known.{known_in}
+use Rattle.i9_statement.proofs.KnownNames.{known-nothing}
 use Rattle.i9_statement.specs.Statements.{statement_of}
 use Rattle.i9_asm.specs.Said.{item_as}
 use Rattle.i9_asm.specs.Places.{address_at, statement_size, size_of}

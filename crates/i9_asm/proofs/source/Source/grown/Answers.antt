@@ -1,9 +1,9 @@
 use Rattle.std.proofs.Common.{◌≡◌, ◌+◌, false, length, length-append, Option, Some, None, refl, sym, ap, subst, ◌∙◌, arith}
 use Rattle.std.specs.Prelude.{is_some}
-use Rattle.i9_value.specs.declared.fault.Fault.{Fault}
+use Rattle.i9_statement.specs.declared.fault.Fault.{Fault}
 use Rattle.i9_asm.specs.declared.lines.Said as code
 use Rattle.i9_asm.specs.declared.lines.Said.TheVariants as said
-use Rattle.i9_value.specs.Known.{known_in}
+use Rattle.i9_statement.specs.Known.{known_in}
 use Rattle.i9_asm.specs.Said.{item_as}
 use Rattle.i9_asm.specs.Places.{Place, size_of, moved_to}
 use Rattle.i9_asm.specs.Source.{Source, begun, item_fault}

@@ -1,11 +1,11 @@
 use Rattle.std.proofs.Common.{ℕ, ◌+◌, ◌*◌, not, ap, subst, ◌∙◌}
 use Rattle.std.specs.List.{list_all}
-use Rattle.i9_value.specs.Known.{definitions, values_of, values_before, known_in}
-use Rattle.i9_value.specs.declared.fault.Fault.TheVariants.{Form}
-use Rattle.i9_value.specs.Noted.{least}
-use Rattle.i9_value.specs.Values.{Names}
-use Rattle.i9_value.specs.declared.known.Known.TheVariants.{All}
-use Rattle.i9_value.proofs.KnownNames.{known-all, known-before}
+use Rattle.i9_statement.specs.Known.{definitions, values_of, values_before, known_in}
+use Rattle.i9_statement.specs.declared.fault.Fault.TheVariants.{Form}
+use Rattle.i9_statement.specs.Noted.{least}
+use Rattle.i9_statement.specs.Values.{Names}
+use Rattle.i9_statement.specs.declared.known.Known.TheVariants.{All}
+use Rattle.i9_statement.proofs.KnownNames.{known-all, known-before}
 use Rattle.i9_asm.specs.Lines.{label_of}
 use Rattle.i9_asm.specs.Said.{item_as}
 use Rattle.i9_asm.specs.Places.{Place, is_ascii}

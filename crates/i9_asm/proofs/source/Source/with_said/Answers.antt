@@ -1,6 +1,6 @@
 use Rattle.std.proofs.Common.{◌≡◌, ◌+◌, ◌%◌, None, sym, ap, subst, ◌∙◌}
-use Rattle.i9_value.specs.Noted.{least}
-use Rattle.i9_value.specs.Known.{known_in}
+use Rattle.i9_statement.specs.Noted.{least}
+use Rattle.i9_statement.specs.Known.{known_in}
 use Rattle.i9_asm.specs.Said.{item_as}
 use Rattle.i9_asm.specs.Places.{Place, location_count, next_location, size_of, moved_to}
 use Rattle.i9_asm.specs.Source.{item_fault, room_fault, rest_fault}

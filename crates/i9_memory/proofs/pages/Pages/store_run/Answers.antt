@@ -1,7 +1,7 @@
 use Rattle.std.proofs.Common.{◌≡◌, ℕ, ◌/◌, sym, ap, ◌∙◌, arith}
 use Rattle.std.specs.Prelude.{Some}
-use Rattle.i9_pages.specs.Table.{Updates}
-use Rattle.i9_pages.proofs.Updated.{at_some, updated_keeps, updated_adds_none}
+use Rattle.i9_memory.specs.Table.{Updates}
+use Rattle.i9_memory.proofs.Updated.{at_some, updated_keeps, updated_adds_none}
 use Rattle.i9_memory.specs.declared.pages.Pages.{Pages}
 use Rattle.i9_model.specs.Writes.{upwards}
 use Rattle.i9_model.specs.Memory.{stored}

@@ -1,7 +1,7 @@
 use Rattle.std.proofs.Common.{◌≡◌, ℕ, Option, Err, sym, ap, ◌∙◌}
 use Rattle.std.specs.Prelude.{unwrap_or}
 use Rattle.i9_model.specs.Hazards.{read_hazard}
-use Rattle.i9_entry.specs.Callers.{caller_of}
+use Rattle.i9_calls.specs.Callers.{caller_of}
 use Rattle.i9_model.specs.Interrupts.{planned_interrupt}
 use Rattle.i9_processor.specs.State.{state_of}
 use Rattle.i9_processor.proofs.Pushing.{interrupt_plain, interrupt_marked}

@@ -1,8 +1,8 @@
 use Rattle.std.proofs.Common.{◌≡◌, ◌≢◌, ◌/◌, ◌%◌, Some, refl, sym, subst, ap, ◌∙◌, arith}
 use Rattle.std.specs.Prelude.{IsSome}
 use Rattle.std.proofs.lemmas.Grind.{common_steps}
-use Rattle.i9_pages.specs.Table.{page_at, Updates}
-use Rattle.i9_pages.proofs.Updated.{at_some, updated_here, updated_elsewhere, updated_keeps, updated_adds_none}
+use Rattle.i9_memory.specs.Table.{page_at, Updates}
+use Rattle.i9_memory.proofs.Updated.{at_some, updated_here, updated_elsewhere, updated_keeps, updated_adds_none}
 use Rattle.i9_watch.specs.declared.marks.Marks.{Marks}
 use Rattle.i9_watch.specs.Page.{changed}
 use Rattle.i9_watch.specs.Marks.{is_marked, HasPage}

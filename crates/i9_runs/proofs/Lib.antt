@@ -1,4 +1,0 @@
-pub mod Rising
-pub mod Joining
-pub mod Placed
-pub mod PairCounts

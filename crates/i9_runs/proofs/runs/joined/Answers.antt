@@ -1,5 +1,0 @@
-use Rattle.i9_runs.proofs.Joining.{joined_end}
-use Rattle.i9_runs.proofs.runs.joined.Goals as goal
-
-pub returns : goal.returns
-returns c = joined_end c.args.pairs.now c.loop-rest.rest.now c.loop-rest.runs c.requires.placed c.requires.order c.in_default.len_below c.loop-rest.invariant

@@ -1,3 +1,0 @@
-pub mod ScriptText
-pub mod Lines
-pub mod Reading

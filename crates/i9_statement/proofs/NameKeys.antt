@@ -1,0 +1,193 @@
+-- Each name has a key of its own, so a table keeps the definitions of names by their keys.
+use Rattle.std.proofs.Common.{◌≡◌, ℕ, zero, suc, ◌<◌, ◌≤◌, Bool, true, false, leb, cond, ◌&&◌, List, [], ◌∷◌, length, take, drop, Option, Some, None, refl, sym, ap, ◌∙◌, inl, inr, arith}
+use Rattle.std.specs.Prelude.{is_some}
+use Rattle.std.specs.declared.cmp.Ordering.{Ordering}
+use Rattle.std.specs.Ordering.{is_eq, nat_cmp, ordering_then}
+use Rattle.std.specs.Cmp.{tied_then, Equal-is}
+use Rattle.std.specs.List.{list_all}
+use Rattle.std.specs.Map.{update}
+use Rattle.std.specs.Str.{bytes_eq}
+use Rattle.std.proofs.Math.Path.{fun_ext}
+use Rattle.std.proofs.lemmas.Bool.{cases_Bool, and_parts, leb-true}
+use Rattle.std.proofs.lemmas.List.{take-append-drop}
+use Rattle.std.proofs.lemmas.List.Folds.{list_all-append}
+use Rattle.std.proofs.lemmas.Map.Lookups.{exact_unsigned}
+use Rattle.std.proofs.lemmas.Slice.Eq.{bytes_eq-Decides}
+use Rattle.i9_statement.specs.declared.known.Definition.{Definition}
+use Rattle.i9_statement.specs.Known.{Key, word_of, key_of, key_cmp, enter}
+use Rattle.i9_statement.specs.Values.{is_name, is_name_byte, has_name_start}
+use Rattle.i9_statement.proofs.NameBytes.{low_name}
+
+-- ---- words
+
+some_byte : (n : ℕ) → is_name_byte n ≡ true → 0 < n
+some_byte zero h = absurd (cc h)
+some_byte (suc n) h = omega arith
+
+abbrev AreNameBytes : List ℕ → Type 0
+AreNameBytes s = list_all is_name_byte s ≡ true
+
+word_once : (s t : List ℕ) → AreNameBytes s → AreNameBytes t → word_of s ≡ word_of t → s ≡ t
+unfolding word_of
+word_once [] [] g h e = refl
+word_once [] (c ∷ t) g h e =
+    let high = some_byte c (and_parts (is_name_byte c) (list_all is_name_byte t) h).0 in
+    absurd (omega (arith, e, high))
+word_once (b ∷ s) [] g h e =
+    let high = some_byte b (and_parts (is_name_byte b) (list_all is_name_byte s) g).0 in
+    absurd (omega (arith, e, high))
+word_once (b ∷ s) (c ∷ t) g h e =
+    let gs = and_parts (is_name_byte b) (list_all is_name_byte s) g in
+    let hs = and_parts (is_name_byte c) (list_all is_name_byte t) h in
+    let low_b = low_name b gs.0 in
+    let low_c = low_name c hs.0 in
+    let first : b ≡ c = omega (arith, e, low_b, low_c) in
+    let rest : word_of s ≡ word_of t = omega (arith, e, low_b, low_c) in
+    rw (first, word_once s t gs.1 hs.1 rest) refl
+
+-- ---- keys
+
+parts : (n : ℕ) (s : List ℕ) → AreNameBytes s → AreNameBytes (take n s) × AreNameBytes (drop n s)
+parts n s h =
+    let joint = sym (list_all-append is_name_byte (take n s) (drop n s)) in
+    and_parts (list_all is_name_byte (take n s)) (list_all is_name_byte (drop n s))
+    (joint ∙ ap (list_all is_name_byte) (take-append-drop n s) ∙ h)
+
+joined : (n : ℕ) (s t : List ℕ) → take n s ≡ take n t → drop n s ≡ drop n t → s ≡ t
+joined n s t front back = sym (take-append-drop n s) ∙ rw (front, back) (take-append-drop n t)
+
+name_bytes : (s : List ℕ) → is_name s ≡ true → AreNameBytes s
+unfolding is_name
+name_bytes s h =
+    (and_parts (has_name_start s && leb (length s) 63) (list_all is_name_byte s) (and_parts _ _ (and_parts _ _ h).0).0).1
+
+pub short_name : (s : List ℕ) → is_name s ≡ true → length s ≤ 63
+unfolding is_name
+short_name s h =
+    let front = (and_parts _ _ (and_parts _ _ (and_parts _ _ h).0).0).0 in
+    leb-true (length s) 63 (and_parts (has_name_start s) (leb (length s) 63) front).1
+
+-- the mark and the words are those of another key
+abbrev pub SameWords : Key → Key → Type 0
+SameWords x y = (x.0 ≡ y.0) × (x.1 ≡ y.1) × (x.2 ≡ y.2) × (x.3 ≡ y.3) × (x.4 ≡ y.4)
+
+key_once : (s t : List ℕ) → is_name s ≡ true → is_name t ≡ true → SameWords (key_of s) (key_of t) → s ≡ t
+unfolding key_of
+key_once s t g h e =
+    let s2 = drop 16 s in
+    let t2 = drop 16 t in
+    let s3 = drop 16 s2 in
+    let t3 = drop 16 t2 in
+    let g1 = parts 16 s (name_bytes s g) in
+    let h1 = parts 16 t (name_bytes t h) in
+    let g2 = parts 16 s2 g1.1 in
+    let h2 = parts 16 t2 h1.1 in
+    let g3 = parts 16 s3 g2.1 in
+    let h3 = parts 16 t3 h2.1 in
+    let last = word_once (drop 16 s3) (drop 16 t3) g3.1 h3.1 e.4 in
+    let third = joined 16 s3 t3 (word_once (take 16 s3) (take 16 t3) g3.0 h3.0 e.3) last in
+    let second = joined 16 s2 t2 (word_once (take 16 s2) (take 16 t2) g2.0 h2.0 e.2) third in
+    joined 16 s t (word_once (take 16 s) (take 16 t) g1.0 h1.0 e.1) second
+
+-- ---- the order of keys
+
+same_word : (x y : ℕ) → is_eq (nat_cmp x y) ≡ true → x ≡ y
+same_word x y h = exact_unsigned x y ((Equal-is (nat_cmp x y)).0 h)
+
+word_itself : (x : ℕ) → is_eq (nat_cmp x x) ≡ true
+word_itself x = grind arith
+
+both : (a b : Ordering) → is_eq (ordering_then a b) ≡ true → (is_eq a ≡ true) × (is_eq b ≡ true)
+both a b h = and_parts (is_eq a) (is_eq b) (tied_then a b ∙ h)
+
+both_so : (a b : Ordering) → is_eq a ≡ true → is_eq b ≡ true → is_eq (ordering_then a b) ≡ true
+both_so a b g h = sym (tied_then a b) ∙ rw (g, h) refl
+
+-- of the mark and the first word, and of the first two and three words with it
+abbrev one_cmp : Key → Key → Ordering
+one_cmp x y = ordering_then (nat_cmp x.0 y.0) (nat_cmp x.1 y.1)
+
+abbrev two_cmp : Key → Key → Ordering
+two_cmp x y = ordering_then (one_cmp x y) (nat_cmp x.2 y.2)
+
+abbrev three_cmp : Key → Key → Ordering
+three_cmp x y = ordering_then (two_cmp x y) (nat_cmp x.3 y.3)
+
+same_words : (x y : Key) → is_eq (key_cmp x y) ≡ true → SameWords x y
+same_words x y h =
+    let four = both (three_cmp x y) (nat_cmp x.4 y.4) h in
+    let three = both (two_cmp x y) (nat_cmp x.3 y.3) four.0 in
+    let two = both (one_cmp x y) (nat_cmp x.2 y.2) three.0 in
+    let one = both (nat_cmp x.0 y.0) (nat_cmp x.1 y.1) two.0 in (
+      same_word x.0 y.0 one.0,
+      same_word x.1 y.1 one.1,
+      same_word x.2 y.2 two.1,
+      same_word x.3 y.3 three.1,
+      same_word x.4 y.4 four.1,
+    )
+
+key_itself : (x : Key) → is_eq (key_cmp x x) ≡ true
+key_itself x =
+    let one = both_so (nat_cmp x.0 x.0) (nat_cmp x.1 x.1) (word_itself x.0) (word_itself x.1) in
+    let two = both_so (one_cmp x x) (nat_cmp x.2 x.2) one (word_itself x.2) in
+    let three = both_so (two_cmp x x) (nat_cmp x.3 x.3) two (word_itself x.3) in
+    both_so (three_cmp x x) (nat_cmp x.4 x.4) three (word_itself x.4)
+
+same_key : (x y : Key) → is_eq (key_cmp x y) ≡ true → x ≡ y
+same_key x y h = let e = same_words x y h in rw (e.0, e.1, e.2, e.3, e.4) refl
+
+-- whether the keys of two texts are equal
+abbrev same_keys : List ℕ → List ℕ → Bool
+same_keys s t = is_eq (key_cmp (key_of s) (key_of t))
+
+same_names : (s t : List ℕ) → is_name s ≡ true → is_name t ≡ true → same_keys s t ≡ bytes_eq s t
+same_names s t g h = elim (cases_Bool (same_keys s t)) [
+  | inl same ↦ same ∙ sym ((bytes_eq-Decides s t).1 (key_once s t g h (same_words (key_of s) (key_of t) same)))
+  | inr other ↦ elim (cases_Bool (bytes_eq s t)) [
+    | inl equal ↦ absurd (cc (other, sym (ap (same_keys s) ((bytes_eq-Decides s t).0 equal)) ∙ key_itself (key_of s)))
+    | inr unequal ↦ other ∙ sym unequal
+  ]
+]
+
+-- ---- definitions by key
+
+-- what a name has by its key
+abbrev pub by_key : (Key → Option Definition) → List ℕ → Option Definition
+by_key f name = cond (is_name name) (f (key_of name)) None
+
+-- one key has this definition now, and each other one that which it had
+abbrev pub Puts : (Key → Option Definition) → Key → Definition → (Key → Option Definition) → Type 0
+Puts f key d g = (q : Key) → g q ≡ cond (is_eq (key_cmp key q)) (Some d) (f q)
+
+put_name : (f g : Key → Option Definition) (name : List ℕ) (d : Definition) → is_name name ≡ true → Puts f (key_of name) d g
+    → (q : List ℕ) → by_key g q ≡ update bytes_eq (by_key f) name (Some d) q
+put_name f g name d good put q = elim (cases_Bool (is_name q)) [
+  | inl named ↦ rw named (put (key_of q) ∙ ap (λ b. cond b (Some d) (f (key_of q))) (same_names name q good named))
+  | inr unnamed ↦ elim (cases_Bool (bytes_eq name q)) [
+    | inl equal ↦ absurd (cc (unnamed, sym (ap is_name ((bytes_eq-Decides name q).0 equal)) ∙ good))
+    | inr unequal ↦ rw (unnamed, unequal) refl
+  ]
+]
+
+found : (f : Key → Option Definition) (name : List ℕ) → is_name name ≡ true → by_key f name ≡ f (key_of name)
+found f name good = rw good refl
+
+-- a definition of a new name
+pub entered : (f g : Key → Option Definition) (name : List ℕ) (d : Definition) → is_name name ≡ true
+    → f (key_of name) ≡ None → Puts f (key_of name) d g → by_key g ≡ enter name d (by_key f)
+entered f g name d good none put =
+    let new : is_some (by_key f name) ≡ false = ap is_some (found f name good ∙ none) in
+    rw new (fun_ext (put_name f g name d good put))
+
+-- one that gives way to the first
+pub stays : (f g h : Key → Option Definition) (name : List ℕ) (d first : Definition) → is_name name ≡ true
+    → f (key_of name) ≡ Some first → Puts f (key_of name) d g → Puts g (key_of name) first h → by_key h ≡ enter name d (by_key f)
+stays f g h name d first good was put back =
+    let old : is_some (by_key f name) ≡ true = ap is_some (found f name good ∙ was) in
+    rw old (ap by_key (fun_ext same))
+  where
+    same : (q : Key) → h q ≡ f q
+    same q = elim (cases_Bool (is_eq (key_cmp (key_of name) q))) [
+      | inl at ↦ back q ∙ rw at (sym (ap f (sym (same_key (key_of name) q at)) ∙ was))
+      | inr other ↦ back q ∙ rw other (put q ∙ rw other refl)
+    ]
