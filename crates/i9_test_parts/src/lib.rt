@@ -1,5 +1,5 @@
-//! The tests of i9_memory, i9_memory, i9_watch, i9_frames, i9_queue, i9_regs, i9_shade, i9_calls and i9_boot, and of
-//! i9_calls, i9_faults, i9_ints and i9_dma, whose public calls they make.
+//! The tests of i9_memory, i9_watch, i9_frames, i9_queue, i9_regs, i9_shade and i9_boot, and of i9_calls, i9_faults,
+//! i9_ints and i9_dma, whose public calls they make.
 #![tactic(auto)]
 
 #[cfg(test)]

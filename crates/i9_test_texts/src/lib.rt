@@ -1,6 +1,5 @@
-//! The tests of i9_text, i9_isa, i9_decode, i9_exec, i9_events, i9_issue and i9_need; of i9_statement, i9_statement, i9_asm,
-//! i9_dis and i9_tune; and of i9_hex, i9_schedule, i9_schedule, i9_hex, i9_elf and i9_elf, whose public calls they
-//! make.
+//! The tests of i9_text, i9_isa, i9_decode, i9_exec, i9_events, i9_issue and i9_need; of i9_statement, i9_asm, i9_dis
+//! and i9_tune; and of i9_hex, i9_schedule and i9_elf, whose public calls they make.
 #![tactic(auto)]
 
 #[cfg(test)]
