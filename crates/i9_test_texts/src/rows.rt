@@ -21,12 +21,47 @@ pub(crate) fn columns(row: &str) -> Result<(&str, &str, &str), Fail> {
     }
 }
 
-/// The columns of a row where nothing else is given.
+/// The columns of a row where nothing else is given. Another one behind these is for the reader.
 pub(crate) fn pair(row: &str) -> Result<(&str, &str), Fail> {
     match row.split_once("|") {
-        Some((statement, wanted)) => Ok((statement.trim(), wanted.trim())),
+        Some((statement, rest)) => {
+            let (wanted, _) = rest.split_once("|").unwrap_or((rest, ""));
+            Ok((statement.trim(), wanted.trim()))
+        }
         None => Err("a row has two columns".into()),
     }
+}
+
+/// The byte that begins a piece behind a backslash, and the rest of the piece.
+fn escape(piece: &str) -> Result<(u8, &str), Fail> {
+    let (first, rest) = piece.split_at_checked(1).ok_or("nothing is escaped")?;
+    match first {
+        "n" => Ok((b'\n', rest)),
+        "r" => Ok((b'\r', rest)),
+        "t" => Ok((b'\t', rest)),
+        "s" => Ok((b' ', rest)),
+        "x" => {
+            let (digits, rest) = rest.split_at_checked(2).ok_or("a byte has two digits")?;
+            Ok((u8::from_str_radix(digits, 16)?, rest))
+        }
+        _ => Err("no such escape".into()),
+    }
+}
+
+/// The bytes that a column says, in which `\n`, `\r`, `\t`, `\s` and `\x` with two digits stand for a line feed, a
+/// carriage return, a tab, a space and a byte.
+pub(crate) fn escaped(alloc: Global, column: &str) -> Result<Vec<u8>, Fail> {
+    let mut bytes = Vec::new(alloc);
+    let (start, rest) = column.split_once("\\").unwrap_or((column, ""));
+    bytes.extend_from_slice(start.as_bytes())?;
+    if start.len() < column.len() {
+        for piece in rest.split('\\') {
+            let (byte, rest) = escape(piece)?;
+            bytes.push(byte)?;
+            bytes.extend_from_slice(rest.as_bytes())?;
+        }
+    }
+    Ok(bytes)
 }
 
 /// The instruction that a statement at 0 says.

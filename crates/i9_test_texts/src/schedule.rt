@@ -1,4 +1,5 @@
 use crate::check::{must, same};
+use crate::rows::{escaped, pairs_hold};
 use i9_schedule::{
     Event, LEVELS_VERSION, LineError, LineFault, Schedule, When, copied, event_text, is_ascii,
     is_skipped, journal_line, number_in, one_word, read, two_words,
@@ -6,172 +7,144 @@ use i9_schedule::{
 use std::alloc::{AllocError, Global};
 use std::test::Fail;
 
-/// The line and kind that a text is refused for.
-fn refusal(alloc: Global, text: &[u8]) -> Option<(u64, u8)> {
+/// What is told of a text: its version, or its first line at fault and the kind of that.
+fn answer(alloc: Global, text: &[u8]) -> Result<String, Fail> {
     match read(alloc, text) {
-        Err(LineError::Bad(LineFault { line, kind })) => Some((line, kind)),
-        _ => None,
-    }
-}
-
-// Each text is worked by hand: the first line at fault, with the least kind that applies to it.
-#[test]
-fn refuses_the_first_line_at_fault(rt: HostRuntime) -> Result<(), Fail> {
-    let rows: [(&[u8], Option<(u64, u8)>); 70] = [
-        // Lines without words and comments say nothing; one carriage return is dropped.
-        (b"", None),
-        (b"#\n# at x\r\n \t\n\n\r\nat 5 nmi\r\n\tat\t5  nmi ", None),
-        // Kind 1: a byte past ASCII, in a comment too, or another first word than `at` and `turn`.
-        (b"#\xff", Some((1, 1))),
-        (b"at 5 nmi\x80", Some((1, 1))),
-        (b"\n\n# a\nbogus", Some((4, 1))),
-        (b" # a", Some((1, 1))),
-        (b"AT 5 nmi", Some((1, 1))),
-        (b"TURN 5 nmi", Some((1, 1))),
-        (b"turns 5 nmi", Some((1, 1))),
-        (b"turn5 nmi", Some((1, 1))),
-        (b"\r\r", Some((1, 1))),
-        (b"bogus x pin 8", Some((1, 1))),
-        // Kind 2: another event word, or none, whatever the count is.
-        (b"at", Some((1, 2))),
-        (b"at nmi", Some((1, 2))),
-        (b"at x bogus 1", Some((1, 2))),
-        (b"at 5 NMI", Some((1, 2))),
-        (b"at 5 nmi\r\r", Some((1, 2))),
-        (b"turn", Some((1, 2))),
-        (b"turn 5", Some((1, 2))),
-        (b"turn nmi", Some((1, 2))),
-        (b"turn x bogus", Some((1, 2))),
-        // Kind 3: the count, in one to thirteen digits up to 10,000,000.
-        (b"at 0 nmi\nat 0000010000000 nmi", None),
-        (b"at 10000001 nmi", Some((1, 3))),
-        (b"at 00000000000005 nmi", Some((1, 3))),
-        (b"at -1 nmi", Some((1, 3))),
-        (b"at 5f nmi", Some((1, 3))),
-        // The turn, in as many digits up to 1,000,000,000,000.
-        (b"turn 0 nmi\nturn 1000000000000 nmi", None),
-        (b"turn 0000000000007 nmi", None),
-        (b"turn 1000000000001 nmi", Some((1, 3))),
-        (b"turn 00000000000007 nmi", Some((1, 3))),
-        (b"turn 10000000000000 nmi", Some((1, 3))),
-        (b"turn -1 nmi", Some((1, 3))),
-        (b"turn 5f nmi", Some((1, 3))),
-        // Operands out of range or form, missing, or one too many.
-        (b"at 5 pin 0000000007", None),
-        (b"at 5 pin 00000000007", Some((1, 3))),
-        (b"at 5 pin 8", Some((1, 3))),
-        (b"at 5 pin", Some((1, 3))),
-        (b"at 5 pin 1 2", Some((1, 3))),
-        (b"at 5 nmi 1", Some((1, 3))),
-        (b"at 5 dma 4", Some((1, 3))),
-        (b"at 5 dma", Some((1, 3))),
-        (b"at 5 feed 4 00", Some((1, 3))),
-        (b"at 5 feed 0", Some((1, 3))),
-        (b"at 5 feed 0 0", Some((1, 3))),
-        (b"at 5 feed 0 012", Some((1, 3))),
-        (b"at 5 feed 0 012345", Some((1, 3))),
-        (b"at 5 feed 0 0123456789abcdef", Some((1, 3))),
-        (b"at 5 feed 0 0g", Some((1, 3))),
-        (b"at 5 feed 0 00 1", Some((1, 3))),
-        (b"at 5 show 100000000 1", Some((1, 3))),
-        (b"at 5 show 0g 1", Some((1, 3))),
-        (b"at 5 show 0 0", Some((1, 3))),
-        (b"at 5 show 0 65", Some((1, 3))),
-        (b"at 5 show 0", Some((1, 3))),
-        (b"at 5 show 0 1 1", Some((1, 3))),
-        (b"turn 5 pin", Some((1, 3))),
-        (b"turn 5 nmi 1", Some((1, 3))),
-        (b"turn 5 show 0 65", Some((1, 3))),
-        // Kind 4: `at` and `turn` in one text, before kind 5 and behind kinds 1 to 3.
-        (b"at 5 nmi\nturn 5 nmi", Some((2, 4))),
-        (b"turn 5 nmi\nat 5 nmi", Some((2, 4))),
-        (b"at 5 nmi\nturn 4 nmi", Some((2, 4))),
-        (b"turn 5 nmi\nat 4 nmi", Some((2, 4))),
-        (b"turn 5 nmi\n# a\n\nturn 6 nmi\nat 6 nmi", Some((5, 4))),
-        (b"at 5 nmi\nturn 4 pin 8", Some((2, 3))),
-        (b"at 5 nmi\nturn 4 bogus", Some((2, 2))),
-        // Kind 5: an earlier count or turn, behind kinds 1 to 3 of the same line.
-        (b"at 5 nmi\nat 4 nmi\nbogus", Some((2, 5))),
-        (b"at 5 nmi\nat 4 pin 8", Some((2, 3))),
-        (b"at 5 nmi\nat 4 bogus", Some((2, 2))),
-        (b"at 5 nmi\n# a\nat 6 nmi\nat 5 nmi", Some((4, 5))),
-        (b"turn 5 nmi\n# a\nturn 5 nmi\nturn 4 nmi", Some((4, 5))),
-    ];
-    for (text, fault) in rows {
-        same(&rt, refusal(rt.alloc(), text), fault);
-    }
-    Ok(())
-}
-
-/// The version of a text, or the line and kind that it is refused for.
-fn version_of(alloc: Global, text: &[u8]) -> Result<Result<u8, (u64, u8)>, Fail> {
-    match read(alloc, text) {
-        Ok(schedule) => Ok(Ok(schedule.version())),
-        Err(LineError::Bad(LineFault { line, kind })) => Ok(Err((line, kind))),
+        Ok(schedule) => Ok(format!(in alloc; "version {}", schedule.version())?),
+        Err(LineError::Bad(LineFault { line, kind })) => {
+            Ok(format!(in alloc; "line {line} kind {kind}")?)
+        }
         Err(LineError::Memory) => Err("no memory".into()),
     }
 }
 
-// The first line that says anything may tell version 2, in which `low` and `high` are known; any other text has
-// version 1.
+/// The same of the text that a column says.
+fn told(alloc: Global, text: &str) -> Result<String, Fail> {
+    answer(alloc, &escaped(alloc, text)?)
+}
+
+/// Texts of version 1, each worked by hand: the first line at fault, with the least kind that applies to it.
+const FAULTS: &str = "\
+| version 1 | Lines without words and comments say nothing; one carriage return is dropped
+#\\n# at x\\r\\n \\t\\n\\n\\r\\nat 5 nmi\\r\\n\\tat\\t5  nmi\\s | version 1
+#\\xFF | line 1 kind 1 | Kind 1: a byte past ASCII, in a comment too, or another first word than `at` and `turn`
+at 5 nmi\\x80 | line 1 kind 1
+\\n\\n# a\\nbogus | line 4 kind 1
+\\s# a | line 1 kind 1
+AT 5 nmi | line 1 kind 1
+TURN 5 nmi | line 1 kind 1
+turns 5 nmi | line 1 kind 1
+turn5 nmi | line 1 kind 1
+\\r\\r | line 1 kind 1
+bogus x pin 8 | line 1 kind 1
+at | line 1 kind 2 | Kind 2: another event word, or none, whatever the count is
+at nmi | line 1 kind 2
+at x bogus 1 | line 1 kind 2
+at 5 NMI | line 1 kind 2
+at 5 nmi\\r\\r | line 1 kind 2
+turn | line 1 kind 2
+turn 5 | line 1 kind 2
+turn nmi | line 1 kind 2
+turn x bogus | line 1 kind 2
+at 0 nmi\\nat 0000010000000 nmi | version 1 | Kind 3: the count, in one to thirteen digits up to 10,000,000
+at 10000001 nmi | line 1 kind 3
+at 00000000000005 nmi | line 1 kind 3
+at -1 nmi | line 1 kind 3
+at 5f nmi | line 1 kind 3
+turn 0 nmi\\nturn 1000000000000 nmi | version 1 | The turn, in as many digits up to 1,000,000,000,000
+turn 0000000000007 nmi | version 1
+turn 1000000000001 nmi | line 1 kind 3
+turn 00000000000007 nmi | line 1 kind 3
+turn 10000000000000 nmi | line 1 kind 3
+turn -1 nmi | line 1 kind 3
+turn 5f nmi | line 1 kind 3
+at 5 pin 0000000007 | version 1 | Operands out of range or form, missing, or one too many
+at 5 pin 00000000007 | line 1 kind 3
+at 5 pin 8 | line 1 kind 3
+at 5 pin | line 1 kind 3
+at 5 pin 1 2 | line 1 kind 3
+at 5 nmi 1 | line 1 kind 3
+at 5 dma 4 | line 1 kind 3
+at 5 dma | line 1 kind 3
+at 5 feed 4 00 | line 1 kind 3
+at 5 feed 0 | line 1 kind 3
+at 5 feed 0 0 | line 1 kind 3
+at 5 feed 0 012 | line 1 kind 3
+at 5 feed 0 012345 | line 1 kind 3
+at 5 feed 0 0123456789abcdef | line 1 kind 3
+at 5 feed 0 0g | line 1 kind 3
+at 5 feed 0 00 1 | line 1 kind 3
+at 5 show 100000000 1 | line 1 kind 3
+at 5 show 0g 1 | line 1 kind 3
+at 5 show 0 0 | line 1 kind 3
+at 5 show 0 65 | line 1 kind 3
+at 5 show 0 | line 1 kind 3
+at 5 show 0 1 1 | line 1 kind 3
+turn 5 pin | line 1 kind 3
+turn 5 nmi 1 | line 1 kind 3
+turn 5 show 0 65 | line 1 kind 3
+at 5 nmi\\nturn 5 nmi | line 2 kind 4 | Kind 4: `at` and `turn` in one text, before kind 5 and behind kinds 1 to 3
+turn 5 nmi\\nat 5 nmi | line 2 kind 4
+at 5 nmi\\nturn 4 nmi | line 2 kind 4
+turn 5 nmi\\nat 4 nmi | line 2 kind 4
+turn 5 nmi\\n# a\\n\\nturn 6 nmi\\nat 6 nmi | line 5 kind 4
+at 5 nmi\\nturn 4 pin 8 | line 2 kind 3
+at 5 nmi\\nturn 4 bogus | line 2 kind 2
+at 5 nmi\\nat 4 nmi\\nbogus | line 2 kind 5 | Kind 5: an earlier count or turn, behind kinds 1 to 3 of the same line
+at 5 nmi\\nat 4 pin 8 | line 2 kind 3
+at 5 nmi\\nat 4 bogus | line 2 kind 2
+at 5 nmi\\n# a\\nat 6 nmi\\nat 5 nmi | line 4 kind 5
+turn 5 nmi\\n# a\\nturn 5 nmi\\nturn 4 nmi | line 4 kind 5
+";
+
+/// The first line that says anything may tell version 2, in which `low` and `high` are known; any other text has
+/// version 1.
+const VERSIONS: &str = "\
+| version 1
+# schedule 2\\nat 1 pin 0 | version 1
+schedule 2 | version 2
+# a\\n\\n \\t\\n schedule\\t2 \\r\\nat 1 low 0\\nat 1 high 7 | version 2
+schedule 2\\nturn 4 low 007\\n# a\\nturn 4 high 0 | version 2
+schedule 2\\nat 1 pin 0\\nat 1 nmi\\nat 1 dma 3\\nat 1 feed 0 00\\nat 1 show 0 1 | version 2 | \
+The words of version 1 stay in version 2
+at 1 low 0 | line 1 kind 2 | In version 1 both words are unknown, whatever stands before and behind them
+at 1 high 0 | line 1 kind 2
+at 1 low 8 | line 1 kind 2
+at x low | line 1 kind 2
+turn 1 high 7 | line 1 kind 2
+at 1 nmi\\nat 2 high 0 | line 2 kind 2
+schedule 2\\nat 1 low 8 | line 2 kind 3 | \
+Operands out of range or form, missing, or one too many; the count is out of form
+schedule 2\\nat 1 low | line 2 kind 3
+schedule 2\\nat 1 low 0 0 | line 2 kind 3
+schedule 2\\nat 1 low x | line 2 kind 3
+schedule 2\\nat 1 high 8 | line 2 kind 3
+schedule 2\\nat 1 high | line 2 kind 3
+schedule 2\\nat 1 high 0 0 | line 2 kind 3
+schedule 2\\nat x high 0 | line 2 kind 3
+schedule 2\\nat 1 Low 0 | line 2 kind 2
+schedule 2\\nat 1 lower 0 | line 2 kind 2
+at 0 nmi\\nschedule 2 | line 2 kind 1 | The version is told on the first line that says anything, and on no other one
+schedule 2\\nschedule 2 | line 2 kind 1
+schedule 2\\n# a\\nschedule | line 3 kind 1
+schedule | line 1 kind 3 | Its operand is the word `2` alone
+schedule 1 | line 1 kind 3
+schedule 02 | line 1 kind 3
+schedule 2.0 | line 1 kind 3
+schedule 2 2 | line 1 kind 3
+# a\\nschedule two\\nat 1 low 0 | line 2 kind 3
+schedule 2\\xFF | line 1 kind 1
+Schedule 2 | line 1 kind 1
+schedules 2 | line 1 kind 1
+schedule2 | line 1 kind 1
+at schedule 2 | line 1 kind 2
+schedule 2\\nat 5 low 0\\nat 4 high 0 | line 3 kind 5 | Times are ordered as in version 1
+schedule 2\\nat 5 low 0\\nturn 5 high 0 | line 3 kind 4
+";
+
 #[test]
-fn tells_versions(rt: HostRuntime) -> Result<(), Fail> {
-    let rows: [(&[u8], Result<u8, (u64, u8)>); 38] = [
-        (b"", Ok(1)),
-        (b"# schedule 2\nat 1 pin 0", Ok(1)),
-        (b"schedule 2", Ok(2)),
-        (
-            b"# a\n\n \t\n schedule\t2 \r\nat 1 low 0\nat 1 high 7",
-            Ok(2),
-        ),
-        (b"schedule 2\nturn 4 low 007\n# a\nturn 4 high 0", Ok(2)),
-        // The words of version 1 stay in version 2.
-        (
-            b"schedule 2\nat 1 pin 0\nat 1 nmi\nat 1 dma 3\nat 1 feed 0 00\nat 1 show 0 1",
-            Ok(2),
-        ),
-        // In version 1 both words are unknown, whatever stands before and behind them.
-        (b"at 1 low 0", Err((1, 2))),
-        (b"at 1 high 0", Err((1, 2))),
-        (b"at 1 low 8", Err((1, 2))),
-        (b"at x low", Err((1, 2))),
-        (b"turn 1 high 7", Err((1, 2))),
-        (b"at 1 nmi\nat 2 high 0", Err((2, 2))),
-        // Operands out of range or form, missing, or one too many; the count is out of form.
-        (b"schedule 2\nat 1 low 8", Err((2, 3))),
-        (b"schedule 2\nat 1 low", Err((2, 3))),
-        (b"schedule 2\nat 1 low 0 0", Err((2, 3))),
-        (b"schedule 2\nat 1 low x", Err((2, 3))),
-        (b"schedule 2\nat 1 high 8", Err((2, 3))),
-        (b"schedule 2\nat 1 high", Err((2, 3))),
-        (b"schedule 2\nat 1 high 0 0", Err((2, 3))),
-        (b"schedule 2\nat x high 0", Err((2, 3))),
-        (b"schedule 2\nat 1 Low 0", Err((2, 2))),
-        (b"schedule 2\nat 1 lower 0", Err((2, 2))),
-        // The version is told on the first line that says anything, and on no other one.
-        (b"at 0 nmi\nschedule 2", Err((2, 1))),
-        (b"schedule 2\nschedule 2", Err((2, 1))),
-        (b"schedule 2\n# a\nschedule", Err((3, 1))),
-        // Its operand is the word `2` alone.
-        (b"schedule", Err((1, 3))),
-        (b"schedule 1", Err((1, 3))),
-        (b"schedule 02", Err((1, 3))),
-        (b"schedule 2.0", Err((1, 3))),
-        (b"schedule 2 2", Err((1, 3))),
-        (b"# a\nschedule two\nat 1 low 0", Err((2, 3))),
-        (b"schedule 2\xff", Err((1, 1))),
-        (b"Schedule 2", Err((1, 1))),
-        (b"schedules 2", Err((1, 1))),
-        (b"schedule2", Err((1, 1))),
-        (b"at schedule 2", Err((1, 2))),
-        // Times are ordered as in version 1.
-        (b"schedule 2\nat 5 low 0\nat 4 high 0", Err((3, 5))),
-        (b"schedule 2\nat 5 low 0\nturn 5 high 0", Err((3, 4))),
-    ];
-    for (text, version) in rows {
-        same(&rt, version_of(rt.alloc(), text)?, version);
-    }
-    Ok(())
+fn tells_the_version_or_the_first_line_at_fault(rt: HostRuntime) -> Result<(), Fail> {
+    pairs_hold(&rt, rt.alloc(), &[FAULTS, VERSIONS], told)
 }
 
 // Levels come in order, each at its count, and print as the rules of the format say, and so do their copies.
@@ -212,19 +185,21 @@ fn large_text(alloc: Global, last: &[u8]) -> Result<Vec<u8>, AllocError> {
     Ok(text)
 }
 
-// A million events are read, and one more is kind 6, behind kind 5.
+/// The same of a last line behind a million events.
+fn told_behind_many(alloc: Global, last: &str) -> Result<String, Fail> {
+    answer(alloc, &large_text(alloc, last.as_bytes())?)
+}
+
+/// A million events are read, and one more is kind 6, behind kind 5.
+const MANY: &str = "\
+# a | version 1
+at 1 nmi | line 1000001 kind 6
+at 0 nmi | line 1000001 kind 5
+";
+
 #[test]
 fn reads_a_million_events(rt: HostRuntime) -> Result<(), Fail> {
-    let rows: [(&[u8], Option<(u64, u8)>); 3] = [
-        (b"# a", None),
-        (b"at 1 nmi", Some((1_000_001, 6))),
-        (b"at 0 nmi", Some((1_000_001, 5))),
-    ];
-    for (last, fault) in rows {
-        let text = large_text(rt.alloc(), last)?;
-        same(&rt, refusal(rt.alloc(), &text), fault);
-    }
-    Ok(())
+    pairs_hold(&rt, rt.alloc(), &[MANY], told_behind_many)
 }
 
 /// Goes to the event behind the next one, where there is one.

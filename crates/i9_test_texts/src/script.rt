@@ -1,113 +1,110 @@
 use crate::check::same;
+use crate::rows::{escaped, pairs_hold};
 use i9_schedule::{Command, LineError, LineFault, one_script, read_script};
 use std::alloc::{AllocError, Global};
 use std::test::Fail;
 
-/// The line and kind that a text is refused for, where it is refused.
-fn refusal(alloc: Global, text: &[u8]) -> Result<Option<(u64, u8)>, LineError> {
+/// What is told of a text: its first line at fault and the kind of that, if there is one.
+fn answer(alloc: Global, text: &[u8]) -> Result<String, Fail> {
     match read_script(alloc, text) {
-        Ok(_) => Ok(None),
-        Err(LineError::Bad(LineFault { line, kind })) => Ok(Some((line, kind))),
-        Err(LineError::Memory) => Err(LineError::Memory),
+        Ok(_) => Ok(format!(in alloc; "read")?),
+        Err(LineError::Bad(LineFault { line, kind })) => {
+            Ok(format!(in alloc; "line {line} kind {kind}")?)
+        }
+        Err(LineError::Memory) => Err("no memory".into()),
     }
 }
 
-// Each text is worked by hand: the first line at fault, with the least kind that applies to it.
+/// The same of the text that a column says.
+fn told(alloc: Global, text: &str) -> Result<String, Fail> {
+    answer(alloc, &escaped(alloc, text)?)
+}
+
+/// Texts, each worked by hand: the first line at fault, with the least kind that applies to it.
+const FAULTS: &str = "\
+| read | Lines without words and comments say nothing; one carriage return is dropped
+#\\n# frob\\r\\n \\t\\n\\n\\r\\nregs\\r\\n\\tturn\\t5\\s\\s | read
+#turn 0\\nheld | read
+#\\xFF | line 1 kind 1 | Kind 1: a byte past ASCII, in a comment too, or another first word than a command
+regs\\x80 | line 1 kind 1
+turn 0 \\xC3\\xA9 | line 1 kind 1
+\\n\\n# a\\nfrob | line 4 kind 1
+\\s# a | line 1 kind 1
+REGS | line 1 kind 1
+reg | line 1 kind 1
+regs1 | line 1 kind 1
+rawmem0 1 | line 1 kind 1
+at 5 nmi | line 1 kind 1
+frob 0 65 1 | line 1 kind 1
+\\r\\r | line 1 kind 1
+regs\\r\\r | line 1 kind 1
+turn 0 | line 1 kind 2 | Kind 2: turns, in one to ten digits from 1 to 1,000,000
+turn 1\\nturn 1000000\\nturn 0001000000 | read
+turn 1000001 | line 1 kind 2
+turn 00000000001 | line 1 kind 2
+turn | line 1 kind 2
+turn 1 2 | line 1 kind 2
+turn -1 | line 1 kind 2
+turn 1f | line 1 kind 2
+until 0\\nuntil FFFFFFFF\\nuntil 0000000a | read | An address, in one to eight digits
+until 100000000 | line 1 kind 2
+until 000000000 | line 1 kind 2
+until 0x10 | line 1 kind 2
+until g | line 1 kind 2
+until | line 1 kind 2
+until 0 1 | line 1 kind 2
+back 1\\nback 10000000\\nback 0010000000 | read | Instructions to go back by, in one to ten digits from 1 to 10,000,000
+back 0 | line 1 kind 2
+back 10000001 | line 1 kind 2
+back 00000000001 | line 1 kind 2
+back | line 1 kind 2
+back 1 2 | line 1 kind 2
+back a | line 1 kind 2
+back1 | line 1 kind 1
+last 0\\nlast FFFFFFFF\\nlast 0000000a | read | The address of a last arrival, and of a byte, as one to run to
+last 100000000 | line 1 kind 2
+last | line 1 kind 2
+last 0 1 | line 1 kind 2
+lasts 0 | line 1 kind 1
+who 0\\nwho FFFFFFFF\\nwho 0000000a | read
+who 000000000 | line 1 kind 2
+who g | line 1 kind 2
+who | line 1 kind 2
+who 0 1 | line 1 kind 2
+regs 1 | line 1 kind 2 | No operands
+raw 1 | line 1 kind 2
+held 1 | line 1 kind 2
+regs # a | line 1 kind 2
+raw\\r\\r | line 1 kind 1
+raw \\r\\r | line 1 kind 2
+mem 0 1\\nmem FFFFFFFF 64\\nmem a 0000000064 | read | An address and a length from 1 to 64
+mem 0 0 | line 1 kind 2
+mem 0 65 | line 1 kind 2
+mem 0 00000000001 | line 1 kind 2
+mem 0 a | line 1 kind 2
+mem 100000000 1 | line 1 kind 2
+mem g 1 | line 1 kind 2
+mem | line 1 kind 2
+mem 0 | line 1 kind 2
+mem 0 1 1 | line 1 kind 2
+rawmem 0 1\\nrawmem ffffffff 64 | read
+rawmem 0 0 | line 1 kind 2
+rawmem 0 65 | line 1 kind 2
+rawmem 100000000 1 | line 1 kind 2
+rawmem | line 1 kind 2
+rawmem 0 | line 1 kind 2
+rawmem 0 1 1 | line 1 kind 2
+regs\\nturn 2\\nmem 0 65 | line 3 kind 2 | The first line at fault, whatever stands behind it
+regs\\n# a\\n\\nfrob\\nheld | line 4 kind 1
+turn 0\\nfrob | line 1 kind 2
+frob\\nturn 0 | line 1 kind 1
+raw\\nturn 0\\n#\\xFF | line 2 kind 2
+raw\\n#\\xFF\\nturn 0 | line 2 kind 1
+";
+
 #[test]
 fn refuses_the_first_line_at_fault(rt: HostRuntime) -> Result<(), Fail> {
-    let rows: [(&[u8], Option<(u64, u8)>); 78] = [
-        // Lines without words and comments say nothing; one carriage return is dropped.
-        (b"", None),
-        (b"#\n# frob\r\n \t\n\n\r\nregs\r\n\tturn\t5  ", None),
-        (b"#turn 0\nheld", None),
-        // Kind 1: a byte past ASCII, in a comment too, or another first word than a command.
-        (b"#\xff", Some((1, 1))),
-        (b"regs\x80", Some((1, 1))),
-        (b"turn 0 \xc3\xa9", Some((1, 1))),
-        (b"\n\n# a\nfrob", Some((4, 1))),
-        (b" # a", Some((1, 1))),
-        (b"REGS", Some((1, 1))),
-        (b"reg", Some((1, 1))),
-        (b"regs1", Some((1, 1))),
-        (b"rawmem0 1", Some((1, 1))),
-        (b"at 5 nmi", Some((1, 1))),
-        (b"frob 0 65 1", Some((1, 1))),
-        (b"\r\r", Some((1, 1))),
-        (b"regs\r\r", Some((1, 1))),
-        // Kind 2: turns, in one to ten digits from 1 to 1,000,000.
-        (b"turn 0", Some((1, 2))),
-        (b"turn 1\nturn 1000000\nturn 0001000000", None),
-        (b"turn 1000001", Some((1, 2))),
-        (b"turn 00000000001", Some((1, 2))),
-        (b"turn", Some((1, 2))),
-        (b"turn 1 2", Some((1, 2))),
-        (b"turn -1", Some((1, 2))),
-        (b"turn 1f", Some((1, 2))),
-        // An address, in one to eight digits.
-        (b"until 0\nuntil FFFFFFFF\nuntil 0000000a", None),
-        (b"until 100000000", Some((1, 2))),
-        (b"until 000000000", Some((1, 2))),
-        (b"until 0x10", Some((1, 2))),
-        (b"until g", Some((1, 2))),
-        (b"until", Some((1, 2))),
-        (b"until 0 1", Some((1, 2))),
-        // Instructions to go back by, in one to ten digits from 1 to 10,000,000.
-        (b"back 1\nback 10000000\nback 0010000000", None),
-        (b"back 0", Some((1, 2))),
-        (b"back 10000001", Some((1, 2))),
-        (b"back 00000000001", Some((1, 2))),
-        (b"back", Some((1, 2))),
-        (b"back 1 2", Some((1, 2))),
-        (b"back a", Some((1, 2))),
-        (b"back1", Some((1, 1))),
-        // The address of a last arrival, and of a byte, as one to run to.
-        (b"last 0\nlast FFFFFFFF\nlast 0000000a", None),
-        (b"last 100000000", Some((1, 2))),
-        (b"last", Some((1, 2))),
-        (b"last 0 1", Some((1, 2))),
-        (b"lasts 0", Some((1, 1))),
-        (b"who 0\nwho FFFFFFFF\nwho 0000000a", None),
-        (b"who 000000000", Some((1, 2))),
-        (b"who g", Some((1, 2))),
-        (b"who", Some((1, 2))),
-        (b"who 0 1", Some((1, 2))),
-        // No operands.
-        (b"regs 1", Some((1, 2))),
-        (b"raw 1", Some((1, 2))),
-        (b"held 1", Some((1, 2))),
-        (b"regs # a", Some((1, 2))),
-        (b"raw\r\r", Some((1, 1))),
-        (b"raw \r\r", Some((1, 2))),
-        // An address and a length from 1 to 64.
-        (b"mem 0 1\nmem FFFFFFFF 64\nmem a 0000000064", None),
-        (b"mem 0 0", Some((1, 2))),
-        (b"mem 0 65", Some((1, 2))),
-        (b"mem 0 00000000001", Some((1, 2))),
-        (b"mem 0 a", Some((1, 2))),
-        (b"mem 100000000 1", Some((1, 2))),
-        (b"mem g 1", Some((1, 2))),
-        (b"mem", Some((1, 2))),
-        (b"mem 0", Some((1, 2))),
-        (b"mem 0 1 1", Some((1, 2))),
-        (b"rawmem 0 1\nrawmem ffffffff 64", None),
-        (b"rawmem 0 0", Some((1, 2))),
-        (b"rawmem 0 65", Some((1, 2))),
-        (b"rawmem 100000000 1", Some((1, 2))),
-        (b"rawmem", Some((1, 2))),
-        (b"rawmem 0", Some((1, 2))),
-        (b"rawmem 0 1 1", Some((1, 2))),
-        // The first line at fault, whatever stands behind it.
-        (b"regs\nturn 2\nmem 0 65", Some((3, 2))),
-        (b"regs\n# a\n\nfrob\nheld", Some((4, 1))),
-        (b"turn 0\nfrob", Some((1, 2))),
-        (b"frob\nturn 0", Some((1, 1))),
-        (b"raw\nturn 0\n#\xff", Some((2, 2))),
-        (b"raw\n#\xff\nturn 0", Some((2, 1))),
-    ];
-    for (text, fault) in rows {
-        same(&rt, refusal(rt.alloc(), text)?, fault);
-    }
-    Ok(())
+    pairs_hold(&rt, rt.alloc(), &[FAULTS], told)
 }
 
 // Each command once, and the operands at both ends of their ranges, in the order of the lines.
@@ -158,19 +155,21 @@ fn large_text(alloc: Global, last: &[u8]) -> Result<Vec<u8>, AllocError> {
     Ok(text)
 }
 
-// A hundred thousand commands are read, and one more is kind 3, behind kinds 1 and 2 of the same line.
+/// The same of last lines behind a hundred thousand commands.
+fn told_behind_many(alloc: Global, last: &str) -> Result<String, Fail> {
+    answer(alloc, &large_text(alloc, &escaped(alloc, last)?)?)
+}
+
+/// A hundred thousand commands are read, and one more is kind 3, behind kinds 1 and 2 of the same line.
+const MANY: &str = "\
+# a | read
+raw | line 100001 kind 3
+\\nraw\\nfrob | line 100002 kind 3
+raw 1 | line 100001 kind 2
+frob | line 100001 kind 1
+";
+
 #[test]
 fn reads_a_hundred_thousand_commands(rt: HostRuntime) -> Result<(), Fail> {
-    let rows: [(&[u8], Option<(u64, u8)>); 5] = [
-        (b"# a", None),
-        (b"raw", Some((100_001, 3))),
-        (b"\nraw\nfrob", Some((100_002, 3))),
-        (b"raw 1", Some((100_001, 2))),
-        (b"frob", Some((100_001, 1))),
-    ];
-    for (last, fault) in rows {
-        let text = large_text(rt.alloc(), last)?;
-        same(&rt, refusal(rt.alloc(), &text)?, fault);
-    }
-    Ok(())
+    pairs_hold(&rt, rt.alloc(), &[MANY], told_behind_many)
 }
