@@ -28,13 +28,13 @@ pub record GoingAt (g : Given) (records : List Record) (done to : ℕ) (m : Mach
   pub follows : Follows g (steps records) plan
   pub count : (state_after g records).count ≡ done
   pub within : done ≤ to
-  pub there : done ≡ to → EndsAt to records × (m.turn ≡ issue_of g records)
+  pub there : done ≡ to → EndsAt to records × (m.pipeline.turn ≡ issue_of g records)
 
 abbrev pub Going : Given → ℕ → ℕ → Machine → Plan → Type 0
 Going g done to m plan = (rs : List Record) × GoingAt g rs done to m plan
 
 -- a new machine stands for the start of its run
-abbrev pub new_stands : (g : Given) (m : Machine) (plan : Plan) → StandsFor g [] None m → m.turn ≡ 1 → plan.events ≡ g.plan → plan.place ≡ 0
+abbrev pub new_stands : (g : Given) (m : Machine) (plan : Plan) → StandsFor g [] None m → m.pipeline.turn ≡ 1 → plan.events ≡ g.plan → plan.place ≡ 0
     → StandsEarlier g 0 m plan
 new_stands g m plan stands turn events place = record {
   records = [];

@@ -48,7 +48,7 @@ kept_filtered R p g ks new is all = subst (AllByRecursion (IsKept g)) (sym is.4)
 
 -- a copy of a machine stands where that does, with a schedule at the same place
 pub copy_stands : (g : Given) (c : ℕ) (was m : Machine) (old plan : Plan) → StandsEarlier g c was old
-    → ((h : List Item) → StandsFor g h None was → StandsFor g h None m) → m.turn ≡ was.turn → plan.events ≡ g.plan → plan.place ≡ old.place
+    → ((h : List Item) → StandsFor g h None was → StandsFor g h None m) → m.pipeline.turn ≡ was.pipeline.turn → plan.events ≡ g.plan → plan.place ≡ old.place
     → StandsEarlier g c m plan
 copy_stands g c was m old plan s same turn events place = record {
   records = s.records;

@@ -14,7 +14,7 @@ use Rattle.i9_back.specs.Earlier.{IsEarlier, HasInstructions, issue_of}
 pub record StandsEarlier (g : Given) (c : ℕ) (m : Machine) (plan : Plan) : Type 0 where
   pub records : List Record
   pub earlier : IsEarlier g c records
-  pub turn : m.turn ≡ issue_of g records
+  pub turn : m.pipeline.turn ≡ issue_of g records
   pub stands : StandsFor g (steps records) None m
   pub follows : Follows g (steps records) plan
 
@@ -53,7 +53,7 @@ pub record Watched (g : Given) (older : List Record) (to a : ℕ) (found : Optio
   pub newer : List Record
   pub earlier : IsEarlier g to (newer ++ older)
   pub is : found ≡ last_change a newer
-  pub turn : m.turn ≡ issue_of g (newer ++ older)
+  pub turn : m.pipeline.turn ≡ issue_of g (newer ++ older)
   pub stands : StandsFor g (steps (newer ++ older)) None m
   pub follows : Follows g (steps (newer ++ older)) plan
 

@@ -126,11 +126,11 @@ module _ {K : Type 0} (k : Account K) (g : Given) where
   -- the place is told behind what was run
   pub then_tells : (c : Command) (p : Place) (answer : Printed) (a b d : K) (m : Machine) (plan now : Plan) → StaysAt plan now
       → (r : Drives (Runs g c p) (CutOnWay g p c) Done g (output k a b) (target m plan))
-      → Prints answer k b d (told g r.last.items m.turn c)
+      → Prints answer k b d (told g r.last.items m.pipeline.turn c)
       → Drives (Answers g c p) (CutInAnswer g c p) answer g (output k a d) (target m now)
   then_tells c p answer a b d m plan now same_plan r tells =
       let place : Place = r.place in
-      let turn : m.turn ≡ r.last.turn = r.stands.turn ∙ ap (λ (q : Place). q.turn) r.whole in
+      let turn : m.pipeline.turn ≡ r.last.turn = r.stands.turn ∙ ap (λ (q : Place). q.turn) r.whole in
       let said : Prints answer k b d (told g r.last.items r.last.turn c) =
       subst (λ (t : ℕ). Prints answer k b d (told g r.last.items t c)) turn tells in
       let same : told g place.items place.turn c ≡ told g r.last.items r.last.turn c = ap (λ (q : Place). told g q.items q.turn c) r.whole in

@@ -102,7 +102,7 @@ module _ {K : Type 0} (k : Account K) (g : Given) (h : List Item) (allows : View
         → StandsFor g (steps_on rs (steps_on inv.done h)) None next → Follows g (steps_on rs (steps_on inv.done h)) plan
         → Prints answer k b c (text_of (lines_of rs)) → Drives (StopsBy answer allows g h) (CutInRun g AtMostOne h) answer g (output k a c) (target next plan)
     cut_by answer rs cut few passed stands follows p =
-        let place = at (steps_on rs (steps_on inv.done h)) next.turn in
+        let place = at (steps_on rs (steps_on inv.done h)) next.pipeline.turn in
         record {
           text = text_of (lines_of (rs ++ inv.done));
           last = place;
@@ -114,7 +114,7 @@ module _ {K : Type 0} (k : Account K) (g : Given) (h : List Item) (allows : View
           stopped = on_cut answer _ (record {
             whole = front;
             rest = text_of (lines_of rs);
-            is_cut = behind_step inv.done rs next.turn few;
+            is_cut = behind_step inv.done rs next.pipeline.turn few;
             between = b;
             first = inv.prints;
             behind = p;

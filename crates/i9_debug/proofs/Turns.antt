@@ -34,10 +34,10 @@ module _ {K : Type 0} (k : Account K) (g : Given) (h : List Item) (u : ℕ) wher
     pub done : List Record
     pub stands : StandsFor g (steps_on done h) None m
     pub follows : Follows g (steps_on done h) plan
-    pub low : m.turn < u
+    pub low : m.pipeline.turn < u
     pub prints : Prints Done k a b (text_of (lines_of done))
 
-  pub none_turned : (a : K) (m : Machine) (plan : Plan) → m.turn < u → StandsFor g h None m → Follows g h plan → Turned a a m plan
+  pub none_turned : (a : K) (m : Machine) (plan : Plan) → m.pipeline.turn < u → StandsFor g h None m → Follows g h plan → Turned a a m plan
   none_turned a m plan low stands follows = record { done = []; stands = stands; follows = follows; low = low; prints = prints_none k a }
 
   -- nothing is left below the turn
@@ -45,9 +45,9 @@ module _ {K : Type 0} (k : Account K) (g : Given) (h : List Item) (u : ℕ) wher
       → PassesTo g (steps_on inv.done h) u (progress before was []) (progress m plan ls)
       → Drives (TurnsTo g h u) (CutInRun g AtMostOne h) Done g (output k a b) (target m plan)
   turned_whole a b before m was plan inv ls d =
-      let low : before.turn < u = inv.low in
-      let turn : m.turn ≡ max before.turn u = d.turn in
-      let begun : last_issue (late_turns (course g (steps_on inv.done h)).late) ≤ before.turn = inv.stands.lands.begun in
+      let low : before.pipeline.turn < u = inv.low in
+      let turn : m.pipeline.turn ≡ max before.pipeline.turn u = d.turn in
+      let begun : last_issue (late_turns (course g (steps_on inv.done h)).late) ≤ before.pipeline.turn = inv.stands.lands.begun in
       record {
         text = text_of (lines_of inv.done);
         last = at (steps_on inv.done h) u;
@@ -69,19 +69,19 @@ module _ {K : Type 0} (k : Account K) (g : Given) (h : List Item) (u : ℕ) wher
     pub is_cut : CutInRun g AtMostOne h front step place
 
   left_behind : (rs xs : List Record) (m : Machine) (plan : Plan) → StandsFor g (steps_on xs (steps_on rs h)) None m
-      → Follows g (steps_on xs (steps_on rs h)) plan → m.turn < u → length xs ≤ 1
+      → Follows g (steps_on xs (steps_on rs h)) plan → m.pipeline.turn < u → length xs ≤ 1
       → Left (text_of (lines_of rs)) (text_of (lines_of xs)) m plan
   left_behind rs xs m plan stands follows low few =
-      let begun : last_issue (late_turns (course g (steps_on xs (steps_on rs h))).late) ≤ m.turn = stands.lands.begun in
+      let begun : last_issue (late_turns (course g (steps_on xs (steps_on rs h))).late) ≤ m.pipeline.turn = stands.lands.begun in
       let on = turns_lead g (steps_on xs (steps_on rs h)) u (omega (arith, begun, low)) stands.past in
       let leads = turns_after g h rs u (text_of (lines_of xs) ++ on.0) on.1 (turns_after g (steps_on rs h) xs u on.0 on.1 on.2) in
       record {
         more = on.0;
         last = on.1;
         leads = subst (λ (x : List ℕ). TurnsTo g h u x on.1) (sym (append_assoc (text_of (lines_of rs)) (text_of (lines_of xs)) on.0)) leads;
-        place = at (steps_on xs (steps_on rs h)) m.turn;
+        place = at (steps_on xs (steps_on rs h)) m.pipeline.turn;
         stands = record { stands = stands; turn = refl; follows = follows; events = follows.events };
-        is_cut = behind_step rs xs m.turn few;
+        is_cut = behind_step rs xs m.pipeline.turn few;
       }
 
   left_cut : (answer : Printed) (front step : List ℕ) (a b c : K) (m : Machine) (plan : Plan) → IsCut answer
@@ -112,11 +112,11 @@ module _ {K : Type 0} (k : Account K) (g : Given) (h : List Item) (u : ℕ) wher
 
   -- a step from a machine at the turn of what lies ahead, which is below the turn
   module _ (a b c : K) (before mid m : Machine) (was plan : Plan) (inv : Turned a b before was) (ls : List Line)
-      (now : turn_ahead g (steps_on inv.done h) ≡ mid.turn) (below : turn_ahead g (steps_on inv.done h) < u) where
+      (now : turn_ahead g (steps_on inv.done h) ≡ mid.pipeline.turn) (below : turn_ahead g (steps_on inv.done h) < u) where
     abbrev front : List ℕ
     front = text_of (lines_of inv.done)
 
-    low_as : m.turn ≡ mid.turn → m.turn < u
+    low_as : m.pipeline.turn ≡ mid.pipeline.turn → m.pipeline.turn < u
     low_as same = omega (arith, same, now, below)
 
     -- one more was done

@@ -33,7 +33,7 @@ use Rattle.i9_debug.specs.Session.{told, IsText, end_at}
 -- answered
 pub record StandsAt (g : Given) (p : Place) (m : Machine) (plan : Plan) : Type 0 where
   pub stands : StandsFor g p.items p.end m
-  pub turn : m.turn ≡ p.turn
+  pub turn : m.pipeline.turn ≡ p.turn
   pub follows : FollowsUntil g p.items p.end plan
   pub events : plan.events ≡ g.plan
 

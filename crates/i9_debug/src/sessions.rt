@@ -53,7 +53,7 @@ fn run_turns<K: Sink>(
     requires some { 1 ≤ count }
     requires few { count ≤ most_turns }
     ensures { (g : Given) (h : List Item) → StandsFor g h None m.old → Follows g h plan.old
-        → Drives (TurnsTo g h (m.old.turn + count)) (CutInRun g AtMostOne h) result g
+        → Drives (TurnsTo g h (m.old.pipeline.turn + count)) (CutInRun g AtMostOne h) result g
         (output (account K.told K.faults K.writes K.sure K.pieces) out.old out.new) (target m.new plan.new) }
 {
     let until = m.at_turn() + count;
@@ -256,7 +256,7 @@ fn tell<K: Sink>(
     requires trail { IsTrail (given_of image.now sets plan.old) trail.old }
     ensures told { (g : Given) (p : Place) → IsOf image.now sets g → IsPlace g p → StandsAt g p m.now plan.old
         → Prints result (account K.told K.faults K.writes K.sure K.pieces) out.old out.new
-        (told g p.items m.now.turn c.now) }
+        (told g p.items m.now.pipeline.turn c.now) }
     ensures same { StaysAt plan.old plan.new }
     ensures trail { IsTrail (given_of image.now sets plan.old) trail.new }
 {

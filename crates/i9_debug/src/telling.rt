@@ -25,7 +25,8 @@ fn add_told(
     change: Option<(u64, u32)>,
 ) -> Result<(), AllocError>
     ensures { OnOk result ((g : Given) (h : List Item) (end : Option Finish) → StandsFor g h end m.now
-        → change ≡ change_for c.now (records_of h) → text.new.items ≡ text.old.items ++ told g h m.now.turn c.now) }
+        → change ≡ change_for c.now (records_of h)
+        → text.new.items ≡ text.old.items ++ told g h m.now.pipeline.turn c.now) }
 {
     match c {
         Command::Turn(_) | Command::Until(_) | Command::Back(_) | Command::Last(_) => {
@@ -54,7 +55,7 @@ pub(crate) fn told_text(
     change: Option<(u64, u32)>,
 ) -> Result<Vec<u8>, AllocError>
     ensures { IfOk result (λ t. (g : Given) (h : List Item) (end : Option Finish) → StandsFor g h end m.now
-        → change ≡ change_for c.now (records_of h) → t.items ≡ told g h m.now.turn c.now) }
+        → change ≡ change_for c.now (records_of h) → t.items ≡ told g h m.now.pipeline.turn c.now) }
 {
     let mut text = Vec::new(alloc);
     add_told(alloc, &mut text, m, c, change)?;

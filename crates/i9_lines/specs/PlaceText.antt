@@ -9,7 +9,7 @@ use Rattle.i9_model.specs.Run.{Given}
 use Rattle.i9_model.specs.State.{boot}
 use Rattle.i9_model.specs.Writes.{wrapped}
 use Rattle.i9_course.specs.Course.{Item, course}
-use Rattle.i9_raw.specs.Raw.{raw_memory}
+use Rattle.i9_pipeline.specs.Raw.{raw_memory}
 use Rattle.i9_machine.specs.declared.line.Raw.{Raw}
 
 -- the global and the local registers of a view, with dashes for those that are marked

@@ -100,7 +100,7 @@ pub fn standing_bytes(
     n: u8,
 ) -> Result<Vec<Option<u8>>, AllocError>
     ensures { IfOk result (λ list. (g : Given) (h : List Item) (end : Option Finish) → StandsFor g h end m.now
-        → list.items ≡ raw_bytes g h m.now.turn a n) }
+        → list.items ≡ raw_bytes g h m.now.pipeline.turn a n) }
 {
     let mut list = Vec::new(alloc);
     for k in 0..n {

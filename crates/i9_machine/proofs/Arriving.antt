@@ -23,8 +23,9 @@ use Rattle.i9_machine.specs.declared.machine.Machine.{Machine}
 use Rattle.i9_machine.specs.declared.step.Coming.{Coming}
 use Rattle.i9_machine.specs.declared.step.Coming.TheVariants.{Waiting, Overtaking}
 use Rattle.i9_machine.specs.Coming.{ArrivesAt, Arrives, HasArrived, IsAhead, IsNextInstruction, kind_of, overtaken_by}
-use Rattle.i9_machine.specs.Contents.{Situation, situation, outlook, Contents, contents_of, IsLike, moved_to, IsMovedTo, IsPassedTo}
-use Rattle.i9_machine.specs.Issuing.{most_turns, IsEndTurn}
+use Rattle.i9_machine.specs.Contents.{Situation, situation, situation_in, outlook, Contents, contents_of, IsLike, at_turn, IsMovedTo, IsPassedTo}
+use Rattle.i9_pipeline.specs.Flow.{IsEndTurn}
+use Rattle.i9_pipeline.specs.Issuing.{most_turns}
 use Rattle.i9_machine.specs.Opening.{NextWaits, HasKept, HasNeed}
 use Rattle.i9_machine.specs.Overtaking.{late_due, HasPace, IssuesAhead}
 use Rattle.i9_machine.specs.StandsFor.{Stand, StandsFor, Follows, IsUnderWay, HasCome}
@@ -51,9 +52,9 @@ pub kept_need : (at : Situation) (kind : Kind) (kept : Need) → HasNeed at kind
 kept_need at kind kept n = keeps_need at kind n.need kept n.fenced n.is_need n.cost
 
 pub like_kept : (m mid : Machine) (kind : Kind) → IsLike m mid → HasNeed (situation m) kind mid.need
-    → HasKept mid.floor mid.need
+    → HasKept mid.pipeline.floor mid.need
 like_kept m mid kind like n =
-    subst (λ (x : Machine). HasKept x.floor mid.need) (sym like) (kept_need (situation m) kind mid.need n)
+    subst (λ (x : Machine). HasKept x.pipeline.floor mid.need) (sym like) (kept_need (situation m) kind mid.need n)
 
 -- and that of a step
 pub kept_planned : (at : Situation) (plan : Plan) (step : Step) (m : Machine) → IsPlannedIn at plan step m
@@ -62,10 +63,10 @@ kept_planned at plan step m p = keeps_need at p.is.kind p.need m.need p.fenced p
 
 -- by it the instruction ahead issues
 pub need_issues : (m mid : Machine) (kind : Kind) (t : ℕ) → IsLike m mid → HasNeed (situation m) kind mid.need
-    → ((rs : List TimedNeed) → board.StandsFor mid.board rs → t ≡ issue_turn (last_issue rs) rs mid.need)
+    → ((rs : List TimedNeed) → board.StandsFor mid.pipeline.board rs → t ≡ issue_turn (last_issue rs) rs mid.need)
     → IssuesAhead (contents_of m) t
 need_issues m mid kind t like n turn =
-    let same = subst (λ (x : Machine). (rs : List TimedNeed) → board.StandsFor x.board rs → t ≡ issue_turn
+    let same = subst (λ (x : Machine). (rs : List TimedNeed) → board.StandsFor x.pipeline.board rs → t ≡ issue_turn
     (last_issue rs) rs mid.need) like turn in
     ahead_issues (contents_of m) n.need t n.ahead
     (λ rs stands. same rs stands ∙ ap (issue_turn (last_issue rs) rs) n.fenced)
@@ -73,7 +74,7 @@ need_issues m mid kind t like n turn =
 -- the event that a schedule has where the instruction ahead would issue
 pub open_event : (m : Machine) (plan : Plan) (coming : Coming) (t n : ℕ) (o : Option Event) → IsUnderWay m plan
     → (next : IsNextInstruction (outlook m) coming)
-    → ((rs : List TimedNeed) → board.StandsFor m.board rs → t ≡ issue_turn (last_issue rs) rs m.need)
+    → ((rs : List TimedNeed) → board.StandsFor m.pipeline.board rs → t ≡ issue_turn (last_issue rs) rs m.need)
     → n ≡ (situation m).state.count → o ≡ standing_by plan.events plan.place n t → event_for (situation m) plan ≡ o
 open_event m plan coming t n o u next turn count found =
     let rs = late.turns (course u.given u.items).late in
@@ -86,41 +87,44 @@ open_event m plan coming t n o u next turn count found =
 -- ---- when it comes
 
 -- what waits for all comes when all is done
-pub ends_arrive : (k : Contents) (plan : Plan) (until : ℕ) (read : Bool) → IsEndTurn k.at.board until → k.turn < until
-    → NextWaits k.at plan → (g : Given) (h : List Item) → Stand g h None k → Follows g h plan
-    → (ahead g h).imprecise ≡ None → ArrivesAt g h k.turn until (Waiting read)
+pub ends_arrive : (k : Contents) (plan : Plan) (until : ℕ) (read : Bool) → IsEndTurn k.pipeline.board until
+    → k.pipeline.turn < until
+    → NextWaits (situation_in k) plan → (g : Given) (h : List Item) → Stand g h None k → Follows g h plan
+    → (ahead g h).imprecise ≡ None → ArrivesAt g h k.pipeline.turn until (Waiting read)
 ends_arrive k plan until read end later waits g h stands follows precise =
     let bound = waits_until k plan until end waits g h stands follows precise in
     let is : until ≡ end_turn (late.turns (course g h).late) = end (late.turns (course g h).late) stands.lands.board in
     let by_end : (ahead g h).turn ≤ end_turn (late.turns (course g h).late) = ahead_by_end g h in
     record { turn = omega (arith, is, by_end, later, bound); imprecise = precise }
 
-pub waits_arrive : (k : Contents) (plan : Plan) (until : ℕ) (read : Bool) → IsEndTurn k.at.board until → k.turn < until
-    → late_due k.at ≡ None → NextWaits k.at plan → Arrives k plan until (Waiting read)
+pub waits_arrive : (k : Contents) (plan : Plan) (until : ℕ) (read : Bool) → IsEndTurn k.pipeline.board until
+    → k.pipeline.turn < until
+    → late_due (situation_in k) ≡ None → NextWaits (situation_in k) plan → Arrives k plan until (Waiting read)
 waits_arrive k plan until read end later none waits g h stands follows =
     ends_arrive k plan until read end later waits g h stands follows (calm_precise g h k stands none)
 
 -- and what comes when all is done already comes now
-pub drained_arrive : (k : Contents) (plan : Plan) (until : ℕ) → IsEndTurn k.at.board until → until ≤ k.turn
+pub drained_arrive : (k : Contents) (plan : Plan) (until : ℕ) → IsEndTurn k.pipeline.board until
+    → until ≤ k.pipeline.turn
     → Arrives k plan until (Waiting false)
 drained_arrive k plan until end le g h stands follows =
     let now = all_now g h k until end le stands in
-    let come : (ahead g h).turn ≤ k.turn = now.1 in
-    let in_time : k.turn ≤ (ahead g h).turn = stands.lands.in_time in
+    let come : (ahead g h).turn ≤ k.pipeline.turn = now.1 in
+    let in_time : k.pipeline.turn ≤ (ahead g h).turn = stands.lands.in_time in
     record { turn = omega (arith, le, come, in_time); imprecise = now.0 }
 
 -- an instruction comes at its turn
 pub instruction_arrives : (k : Contents) (plan : Plan) (kind : Kind) (need : Need) (t : ℕ) (coming : Coming)
-    → late_due k.at ≡ None → overtaken_by coming ≡ None
-    → next_for k.at plan ≡ Does (record_of kind k.at.state)
-    → need ≡ need_of k.at.size k.at.cache k.at.state kind
-    → ((rs : List TimedNeed) → board.StandsFor k.at.board rs
-    → t ≡ issue_turn (last_issue rs) rs (waiting_until k.at.floor need))
+    → late_due (situation_in k) ≡ None → overtaken_by coming ≡ None
+    → next_for (situation_in k) plan ≡ Does (record_of kind k.pipeline.state)
+    → need ≡ need_of k.pipeline.size k.pipeline.cache k.pipeline.state kind
+    → ((rs : List TimedNeed) → board.StandsFor k.pipeline.board rs
+    → t ≡ issue_turn (last_issue rs) rs (waiting_until k.pipeline.floor need))
     → Arrives k plan t coming
 instruction_arrives k plan kind need t coming none calm is_next is_need turn g h stands follows =
     let precise = calm_precise g h k stands none in
     let is : t ≡ (ahead g h).turn = comes_at k plan kind need t is_next is_need turn g h stands follows precise in
-    let in_time : k.turn ≤ (ahead g h).turn = stands.lands.in_time in
+    let in_time : k.pipeline.turn ≤ (ahead g h).turn = stands.lands.in_time in
     record { turn = omega (arith, is, in_time); imprecise = precise ∙ sym calm }
 
 -- an instruction is no fault that is overtaken
@@ -133,9 +137,10 @@ instruction_calm i s k _ is = refl
 
 -- what holds of contents that moved, and of those that stay, holds where the turn was passed to
 passed_by : (P : Contents → Type 0) (t : ℕ) (before m : Machine) → IsPassedTo t before m
-    → (before.turn < t → P (moved_to t (contents_of before))) → (t ≤ before.turn → P (contents_of before))
+    → (before.pipeline.turn < t → P (at_turn t (contents_of before)))
+    → (t ≤ before.pipeline.turn → P (contents_of before))
     → P (contents_of m)
-passed_by P t before m p moved stays = elim (cases_lt before.turn t) [
+passed_by P t before m p moved stays = elim (cases_lt before.pipeline.turn t) [
   | inl later ↦ subst P (sym (p.moved later)) (moved later)
   | inr come ↦ subst (λ (x : Machine). P (contents_of x)) (sym (p.stays come)) (stays come)
 ]
@@ -148,9 +153,10 @@ passed_stands g h t before m p bound stands =
     (λ come. stands)
 
 -- the turn has come
-pub passed_turn : (t : ℕ) (before m : Machine) → IsPassedTo t before m → m.turn ≡ max before.turn t
+pub passed_turn : (t : ℕ) (before m : Machine) → IsPassedTo t before m → m.pipeline.turn ≡ max before.pipeline.turn t
 passed_turn t before m p =
-    passed_by (λ (k : Contents). k.turn ≡ max before.turn t) t before m p (λ later. omega (arith, later))
+    passed_by (λ (k : Contents). k.pipeline.turn ≡ max before.pipeline.turn t) t before m p
+    (λ later. omega (arith, later))
     (λ come. omega (arith, come))
 
 pub passed_ended : (t : ℕ) (before m : Machine) → IsPassedTo t before m → m.ended ≡ before.ended
@@ -167,7 +173,8 @@ passed_left t before m plan p =
 
 -- a move by one leaves less
 pub moved_fewer : (before m : Machine) (plan : Plan) (wait : ℕ) → HasPace (contents_of before)
-    → IsMovedTo (before.turn + 1) (record before { wait = wait }) m → steps_left m plan < steps_left before plan
+    → IsMovedTo (before.pipeline.turn + 1) (record before { wait = wait }) m
+    → steps_left m plan < steps_left before plan
 unfolding left_from
 moved_fewer before m plan wait pace i =
     subst (λ (k : Contents). left_from k plan < steps_left before plan) (sym i)
@@ -204,8 +211,9 @@ pub same_planned : (m mid : Machine) (plan : Plan) (step : Step) → contents_of
     → mid.effect ≡ m.effect → mid.need ≡ m.need → IsPlanned m plan step → IsPlanned mid plan step
 same_planned m mid plan step same effect need p = record {
   need = p.need;
-  fenced = need ∙ p.fenced ∙ λ i. waiting_until (sym same i).at.floor p.need;
-  is = subst₂ (λ (at : Situation) (e : Effect). IsStep at plan step p.need e) (λ i. (sym same i).at) (sym effect) p.is;
+  fenced = need ∙ p.fenced ∙ λ i. waiting_until (sym same i).pipeline.floor p.need;
+  is = subst₂ (λ (at : Situation) (e : Effect). IsStep at plan step p.need e) (λ i. situation_in (sym same i))
+      (sym effect) p.is;
 }
 
 -- what comes next, and overtakes no fault, has come
@@ -222,17 +230,17 @@ arrived_come k plan coming calm a = record {
 
 -- it comes at the turn that was passed to
 pub come_passed : (g : Given) (h : List Item) (m mid next : Machine) (t : ℕ) (coming : Coming) → IsLike m mid
-    → ArrivesAt g h m.turn t coming → IsPassedTo t mid next → StandsFor g h None m
-    → StandsFor g h None next × ((ahead g h).turn ≡ next.turn)
+    → ArrivesAt g h m.pipeline.turn t coming → IsPassedTo t mid next → StandsFor g h None m
+    → StandsFor g h None next × ((ahead g h).turn ≡ next.pipeline.turn)
 come_passed g h m mid next t coming like at passed stands =
-    let turn : (ahead g h).turn ≡ max m.turn t = at.turn in
-    let same : mid.turn ≡ m.turn = λ i. (like i).turn in
-    let now : next.turn ≡ max mid.turn t = passed_turn t mid next passed in
+    let turn : (ahead g h).turn ≡ max m.pipeline.turn t = at.turn in
+    let same : mid.pipeline.turn ≡ m.pipeline.turn = λ i. (like i).pipeline.turn in
+    let now : next.pipeline.turn ≡ max mid.pipeline.turn t = passed_turn t mid next passed in
     (passed_stands g h t mid next passed (omega (arith, turn)) (rw like stands), omega (arith, turn, same, now))
 
 -- where it has come, it has arrived
 pub here_arrived : (g : Given) (h : List Item) (k j : Contents) (t : ℕ) (plan : Plan) (coming : Coming)
-    → ArrivesAt g h k.turn t coming → Stand g h None j → Follows g h plan → (ahead g h).turn ≤ j.turn
+    → ArrivesAt g h k.pipeline.turn t coming → Stand g h None j → Follows g h plan → (ahead g h).turn ≤ j.pipeline.turn
     → HasArrived j plan coming
 here_arrived g h k j t plan coming at stands follows now =
     record { given = g; items = h; stands = stands; follows = follows; imprecise = at.imprecise; now = now }

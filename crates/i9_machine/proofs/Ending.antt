@@ -20,7 +20,7 @@ use Rattle.i9_processor.specs.declared.processor.Processor.{Processor}
 use Rattle.i9_machine.specs.declared.line.Turn.{Turn}
 use Rattle.i9_machine.specs.declared.line.Turn.TheVariants as turns
 use Rattle.i9_machine.specs.Coming.{Overtakes}
-use Rattle.i9_machine.specs.Contents.{Situation}
+use Rattle.i9_machine.specs.Contents.{situation_in, Situation}
 use Rattle.i9_machine.specs.NewPages.{AddsNextOnly}
 use Rattle.i9_machine.specs.Overtaking.{late_entry, late_due}
 use Rattle.i9_machine.specs.Step.{NeedsRoom, HasRoom, event_for, Stage, next_of, Finished, Finishes, Refused, Steps, Costs}
@@ -66,7 +66,7 @@ still_costs before after same only lacks = record {
 -- what an end costs, where whatever has room for what comes next has room for its lines
 pub finish_costs : (before : Stage) (f : Finish) (answer : Turn) (after : Stage)
     → (HasRoom before.processor before.spare (next_of before)
-    → length (end_lines before.contents.at.state f) ≤ before.spare)
+    → length (end_lines before.contents.pipeline.state f) ≤ before.spare)
     → after.processor ≡ before.processor → Finishes before f answer after → Costs before answer after
 finish_costs before f (turns.End e) after fits same d = record {
   lacking = λ refused. absurd (cc refused);
@@ -76,19 +76,19 @@ finish_costs before f (turns.End e) after fits same d = record {
 }
 finish_costs before f turns.Memory after fits same d =
     still_costs before after d.same (same_next before.processor after.processor (next_of before) same) (λ room.
-    let some : length (end_lines before.contents.at.state f) ≤ before.spare = fits room in
-    let lacks : before.spare < length (end_lines before.contents.at.state f) = d.lacking in
+    let some : length (end_lines before.contents.pipeline.state f) ≤ before.spare = fits room in
+    let lacks : before.spare < length (end_lines before.contents.pipeline.state f) = d.lacking in
     omega (arith, some, lacks))
 finish_costs before f _ after fits same d = absurd d
 
 -- room for an end that comes next is room for its lines
 pub end_fits : (before : Stage) (f : Finish) → next_of before ≡ Ends f
     → HasRoom before.processor before.spare (next_of before)
-    → length (end_lines before.contents.at.state f) ≤ before.spare
+    → length (end_lines before.contents.pipeline.state f) ≤ before.spare
 end_fits before f is room =
     let some : length (journal_lines 0 f.event) + 2 ≤ before.spare = subst (HasRoom before.processor before.spare) is
     room in
-    let long = end_long before.contents.at.state f in
+    let long = end_long before.contents.pipeline.state f in
     omega (arith, some, long)
 
 -- ---- an imprecise fault
@@ -134,29 +134,30 @@ entry_room p spare s (Err (stops.Hazard a)) room = let two : 2 ≤ spare = room 
 entry_room p spare s (Err (stops.Dead code a)) room = let two : 2 ≤ spare = room in omega (arith, two)
 
 -- what comes next is the entry of the fault
-late_next : (before : Stage) (f : Fault) → before.contents.at.due ≡ dues.Entry f
-    → next_of before ≡ next_by_entry before.contents.at.state (entry_in before.contents.at.state f)
+late_next : (before : Stage) (f : Fault) → before.contents.due ≡ dues.Entry f
+    → next_of before ≡ next_by_entry before.contents.pipeline.state (entry_in before.contents.pipeline.state f)
 late_next before f is =
-    ap (λ (d : Due). next_in before.contents.at.length d
-    (event_for before.contents.at before.plan) before.contents.at.state) is
+    ap (λ (d : Due). next_in before.contents.length d
+    (event_for (situation_in before.contents) before.plan) before.contents.pipeline.state) is
 
-pub finish_overtakes : (before : Stage) (a : ℕ) (answer : Turn) (after : Stage) → late_due before.contents.at ≡ Some a
+pub finish_overtakes : (before : Stage) (a : ℕ) (answer : Turn) (after : Stage)
+    → late_due (situation_in before.contents) ≡ Some a
     → Finishes before (finish (Imprecise a)) answer after → Overtakes a before answer after
 finish_overtakes before a (turns.End e) after due d =
     (sym d.0, subst (λ (x : End). Finished before (finish x) after) d.0 d.1)
 finish_overtakes before a turns.Memory after due d =
-    let is = late_is_due before.contents.at a due in
+    let is = late_is_due (situation_in before.contents) a due in
     refused before after d.same
     (subst NeedsRoom (sym (late_next before is.0 is.1))
-    (entry_needs before.contents.at.state (entry_in before.contents.at.state is.0)))
+    (entry_needs before.contents.pipeline.state (entry_in before.contents.pipeline.state is.0)))
 finish_overtakes before a _ after due d = absurd d
 
 -- room for the entry is room for its line
-pub late_fits : (before : Stage) (a : ℕ) → late_due before.contents.at ≡ Some a
+pub late_fits : (before : Stage) (a : ℕ) → late_due (situation_in before.contents) ≡ Some a
     → HasRoom before.processor before.spare (next_of before)
-    → length (end_lines before.contents.at.state (finish (Imprecise a))) ≤ before.spare
+    → length (end_lines before.contents.pipeline.state (finish (Imprecise a))) ≤ before.spare
 late_fits before a due room =
-    let is = late_is_due before.contents.at a due in
-    let s = before.contents.at.state in
+    let is = late_is_due (situation_in before.contents) a due in
+    let s = before.contents.pipeline.state in
     entry_room before.processor before.spare s (entry_in s is.0)
     (subst (HasRoom before.processor before.spare) (late_next before is.0 is.1) room)

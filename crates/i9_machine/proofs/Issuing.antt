@@ -33,11 +33,13 @@ use Rattle.i9_regs.proofs.Shown.{issued_shows}
 use Rattle.i9_processor.specs.Effect.{IsStill, action_in, CanAct, CanWait}
 use Rattle.i9_processor.specs.State.{state_of, cache_of, IsDrained}
 use Rattle.i9_processor.proofs.Drained.{drained_bytes}
-use Rattle.i9_raw.specs.Raw.{Hides, shades, shades_need, IsShaded}
-use Rattle.i9_raw.proofs.Landed.{record_hides, record_leaves}
+use Rattle.i9_pipeline.specs.Raw.{Hides, shades, shades_need, IsShaded}
+use Rattle.i9_pipeline.proofs.Landed.{record_hides, record_leaves}
 use Rattle.i9_machine.specs.declared.machine.Machine.{Machine}
-use Rattle.i9_machine.specs.Contents.{Contents, contents_of, kernel_of, Situation, situation}
-use Rattle.i9_machine.specs.Issuing.{most_turns, IsPaced, IsPlaced, IsIssued, CanActPlaced}
+use Rattle.i9_pipeline.specs.Flow.{Flow, flow_of, kernel_of}
+use Rattle.i9_pipeline.specs.Issuing.{most_turns, IsPlaced, IsIssued, CanActPlaced}
+use Rattle.i9_machine.specs.Contents.{Contents, contents_of, Situation, situation, situation_in}
+use Rattle.i9_machine.specs.Issuing.{IsPaced}
 use Rattle.i9_machine.specs.StandsFor.{Stand, StandsFor, left_after, HasCome}
 use Rattle.std.specs.List.{AllByRecursion}
 use Rattle.i9_model.specs.PrintedText.{Drained, point_lines}
@@ -56,12 +58,13 @@ use Rattle.i9_machine.proofs.Overtaking.{beside}
 
 -- what is needed is what is needed in the run
 pub same_need : (g : Given) (h : List Item) (k : Contents) (r q : Record) (need : Need) → Stand g h None k
-    → AreRecordsAlike r q → r.before ≡ state_after g (records_of h) → q.before ≡ k.at.state
-    → need ≡ need_of k.at.size k.at.cache k.at.state q.kind → record_need g.sets (cache_after g (records_of h)) r ≡ need
+    → AreRecordsAlike r q → r.before ≡ state_after g (records_of h) → q.before ≡ k.pipeline.state
+    → need ≡ need_of k.pipeline.size k.pipeline.cache k.pipeline.state q.kind
+    → record_need g.sets (cache_after g (records_of h)) r ≡ need
 same_need g h k r q need stands same old own is =
     let c = cache_after g (records_of h) in
     let n = sets_in g.sets r.before in
-    let size : n ≡ k.at.size = sym (stands.size ∙ ap (sets_in g.sets) (sym old)) in
+    let size : n ≡ k.pipeline.size = sym (stands.size ∙ ap (sets_in g.sets) (sym old)) in
     let cache = sym stands.cache in
     sym (need_alike n c r.before q.before r.kind same.before)
     ∙ (λ i. need_of (size i) (cache i) (own i) (sym same.kind i))
@@ -82,17 +85,18 @@ still_puts n c a stays = ap (λ (v : Move). move_writes n c v ++ a.writes) stays
 
 -- before it does, there is room for it
 pub clear_need : (g : Given) (h : List Item) (k : Contents) (r : Record) (need : Need) → Stand g h None k
-    → comes_next g h ≡ Does r → (ahead g h).imprecise ≡ None → (ahead g h).turn ≤ k.turn
-    → record_need g.sets (cache_after g (records_of h)) r ≡ need → IsClear (kernel_of k).cells k.queue need
+    → comes_next g h ≡ Does r → (ahead g h).imprecise ≡ None → (ahead g h).turn ≤ k.pipeline.turn
+    → record_need g.sets (cache_after g (records_of h)) r ≡ need
+    → IsClear (kernel_of k.pipeline).cells k.pipeline.queue need
 clear_need g h k r need stands is_next precise now is_need =
-    subst (IsClear (kernel_of k).cells k.queue)
+    subst (IsClear (kernel_of k.pipeline).cells k.pipeline.queue)
     (ap (need_ahead g.sets (cache_after g (records_of h))) is_next ∙ is_need)
-    (lands_clear g h (kernel_of k) stands.lands precise now)
+    (lands_clear g h (kernel_of k.pipeline) stands.lands precise now)
 
 -- it is done when its need is, as it was placed
 pub placed_done : (g : Given) (h : List Item) (k : Contents) (r : Record) (need : Need) (p : Placed) (b : Pending)
     → Stand g h None k → record_need g.sets (cache_after g (records_of h)) r ≡ need
-    → IsPlaced k.at.board (waiting_until k.at.floor need) p b → (late_after g h r).timed.done ≡ p.done
+    → IsPlaced k.pipeline.board (waiting_until k.pipeline.floor need) p b → (late_after g h r).timed.done ≡ p.done
 placed_done g h k r need p b stands is_need placed =
     let rs = turns (course g h).late in
     (placed_turns g h r need p b is_need
@@ -101,11 +105,11 @@ placed_done g h k r need p b stands is_need placed =
 
 module _ (g : Given) (h : List Item) (old new : Machine) (r q : Record) (need : Need)
     (stands : StandsFor g h None old) (is_next : comes_next g h ≡ Does r) (same : AreRecordsAlike r q)
-    (precise : (ahead g h).imprecise ≡ None) (now : (ahead g h).turn ≤ old.turn)
+    (precise : (ahead g h).imprecise ≡ None) (now : (ahead g h).turn ≤ old.pipeline.turn)
     (is_need : record_need g.sets (cache_after g (records_of h)) r ≡ need)
-    (issued : IsIssued (contents_of old) need (action_done q) (contents_of new))
-    (alike : AreAlike r.after (state_of new.processor))
-    (cache : cache_of new.processor ≡ cache_after g (r ∷ records_of h)) where
+    (issued : IsIssued (flow_of old.pipeline) need (action_done q) (flow_of new.pipeline))
+    (alike : AreAlike r.after (state_of new.pipeline.processor))
+    (cache : cache_of new.pipeline.processor ≡ cache_after g (r ∷ records_of h)) where
   abbrev before : Contents
   before = contents_of old
 
@@ -118,40 +122,42 @@ module _ (g : Given) (h : List Item) (old new : Machine) (r q : Record) (need : 
   abbrev sets : ℕ
   sets = sets_in g.sets r.before
 
-  needs : (late_after g h r).timed.need ≡ waiting_until before.at.floor need
+  needs : (late_after g h r).timed.need ≡ waiting_until before.pipeline.floor need
   needs = λ i. waiting_until (sym stands.lands.fence i) (is_need i)
 
   done : (late_after g h r).timed.done ≡ issued.placed.done
-  done = placed_done g h before r need issued.placed after.at.board stands is_need issued.board
+  done = placed_done g h before r need issued.placed after.pipeline.board stands is_need issued.board
 
-  clear : IsClear (kernel_of before).cells before.queue need
+  clear : IsClear (kernel_of before.pipeline).cells before.pipeline.queue need
   clear = clear_need g h before r need stands is_next precise now is_need
 
   acted : action_done q ≡ action_done r
   acted = done_alike r q same
 
   -- the record is done later
-  later : before.turn < issued.placed.done
+  later : before.pipeline.turn < issued.placed.done
   later =
       let x = late_after g h r in
       let issue : (ahead g h).turn ≡ x.timed.issue = ahead_precise g h precise ∙ ap (issue_of_next g h) is_next in
-      let in_time : before.turn ≤ (ahead g h).turn = stands.lands.in_time in
+      let in_time : before.pipeline.turn ≤ (ahead g h).turn = stands.lands.in_time in
       let takes : x.timed.issue < x.timed.done =
       done-after (turns (course g h).late) x.timed.need x.timed.issue (course_costs g (Step r ∷ h)).0 in
       let is : x.timed.done ≡ issued.placed.done = done in
       omega (arith, issue, in_time, takes, is)
 
-  cells_issued : (c : ℕ) → c < resources → (kernel_of after).cells c
+  cells_issued : (c : ℕ) → c < resources → (kernel_of after.pipeline).cells c
       ≡ issued_cell (late_after g h r).timed.need.writes (late_after g h r).timed.done c (resource r.after c)
-      ((kernel_of before).cells c)
+      ((kernel_of before.pipeline).cells c)
   cells_issued c lt =
       (λ i. landed (issued.keeps i).turn (issued.acts.cells c lt i))
-      ∙ issued_shows before.turn need.writes issued.placed.done c (resource after.at.state c) (before.cells c) later
+      ∙ issued_shows before.pipeline.turn need.writes issued.placed.done c (resource after.pipeline.state c)
+      (before.pipeline.cells c) later
       (clear.plans c lt)
-      ∙ λ i. issued_cell (sym needs i).writes (sym done i) c (resource (alike.rest i) c) ((kernel_of before).cells c)
+      ∙ λ i. issued_cell (sym needs i).writes (sym done i) c (resource (alike.rest i) c)
+      ((kernel_of before.pipeline).cells c)
 
-  waiting : (late_after g h r).timed.need.request ≡ true → (after.bytes ≡ before.bytes)
-      × (after.queue ≡ before.queue ++ wait_of (late_after g h r) ∷ [])
+  waiting : (late_after g h r).timed.need.request ≡ true → (after.pipeline.bytes ≡ before.pipeline.bytes)
+      × (after.pipeline.queue ≡ before.pipeline.queue ++ wait_of (late_after g h r) ∷ [])
   waiting e =
       let is : need.request ≡ true = sym (ap (λ (n : Need). n.request) needs) ∙ e in
       let was : (record_need g.sets held r).request ≡ true = ap (λ (n : Need). n.request) is_need ∙ is in
@@ -159,74 +165,81 @@ module _ (g : Given) (h : List Item) (old new : Machine) (r q : Record) (need : 
       let puts : (late_after g h r).puts ≡ (action_done q).writes =
       still_puts sets held (action_done r) stays ∙ ap (λ (a : Action). a.writes) (sym acted) in
       let w = issued.acts.waits is in
-      (w.0, w.1 ∙ λ i. before.queue ++ record { puts = sym puts i; due = sym done i } ∷ [])
+      (w.0, w.1 ∙ λ i. before.pipeline.queue ++ record { puts = sym puts i; due = sym done i } ∷ [])
 
   acting : (late_after g h r).timed.need.request ≡ false
-      → (after.bytes ≡ stored before.bytes (late_after g h r).puts) × (after.queue ≡ before.queue)
+      → (after.pipeline.bytes ≡ stored before.pipeline.bytes (late_after g h r).puts)
+      × (after.pipeline.queue ≡ before.pipeline.queue)
   acting e = by_barrier need.barrier refl
     where
       is : need.request ≡ false
       is = sym (ap (λ (n : Need). n.request) needs) ∙ e
 
-      queue : after.queue ≡ before.queue
+      queue : after.pipeline.queue ≡ before.pipeline.queue
       queue = issued.acts.acts is
 
       by_barrier : (b : Bool) → need.barrier ≡ b
-          → (after.bytes ≡ stored before.bytes (late_after g h r).puts) × (after.queue ≡ before.queue)
+          → (after.pipeline.bytes ≡ stored before.pipeline.bytes (late_after g h r).puts)
+          × (after.pipeline.queue ≡ before.pipeline.queue)
       by_barrier true barrier =
           let none = clear.drained barrier in
-          let bytes = drained_bytes new.processor (queue ∙ none) ∙ ap (λ (c : Cache). c.behind.bytes) cache in
-          (acts_at_once g h r (kernel_of before) (kernel_of after) stands.lands none bytes, queue)
+          let bytes = drained_bytes new.pipeline.processor (queue ∙ none) ∙ ap (λ (c : Cache). c.behind.bytes) cache in
+          (acts_at_once g h r (kernel_of before.pipeline) (kernel_of after.pipeline) stands.lands none bytes, queue)
       by_barrier false barrier =
           let still = need_still sets held r.before r.kind (ap (λ (n : Need). n.request) is_need ∙ is)
           (ap (λ (n : Need). n.barrier) is_need ∙ barrier) in
           let quiet : IsStill (action_done q) = subst IsStill (sym acted)
           (record { writes = still.0; move = still.1; control = still.2 }) in
-          let puts : (late_after g h r).puts ≡ [] = still_puts sets held (action_done r) still.1 ∙ still.0 in
-          (issued.acts.still is quiet ∙ sym (stored-none before.bytes) ∙ ap (stored before.bytes) (sym puts), queue)
+          let puts : (late_after g h r).puts ≡ [] = still_puts sets held (action_done r) still.1 ∙ still.0 in (
+            issued.acts.still is quiet ∙ sym (stored-none before.pipeline.bytes) ∙ ap (stored before.pipeline.bytes)
+                (sym puts),
+            queue,
+          )
 
-  pub issued_lands : Lands g (Step r ∷ h) (kernel_of after)
-  issued_lands = issues_lands g h r (kernel_of before) (kernel_of after) stands.lands precise is_next now (record {
-    board = λ rs b. subst (λ (n : Need). board.StandsFor after.at.board (with_need rs n)) (sym needs)
-        (issued.timed rs b);
-    turn = λ i. (issued.keeps i).turn;
-    floor = λ i. (issued.keeps i).at.floor;
-    done = (λ i. (issued.keeps i).done) ∙ sym done;
-    cells = cells_issued;
-    waits = waiting;
-    acts = acting;
-  })
+  pub issued_lands : Lands g (Step r ∷ h) (kernel_of after.pipeline)
+  issued_lands = issues_lands g h r (kernel_of before.pipeline) (kernel_of after.pipeline) stands.lands precise
+      is_next now (record {
+        board = λ rs b. subst (λ (n : Need). board.StandsFor after.pipeline.board (with_need rs n)) (sym needs)
+            (issued.timed rs b);
+        turn = λ i. (issued.keeps i).turn;
+        floor = λ i. (issued.keeps i).floor;
+        done = (λ i. (issued.keeps i).done) ∙ sym done;
+        cells = cells_issued;
+        waits = waiting;
+        acts = acting;
+      })
 
   -- ---- what stands under its writes
 
   shades_same : shades (late_after g h r) ≡ shades_need need
   shades_same = ap shades_need needs
 
-  size_is : before.at.size ≡ sets
+  size_is : before.pipeline.size ≡ sets
   size_is =
       let was = (next_comes g.length (due_after (records_of h)) (event_ahead g h)
       (state_after g (records_of h)) r is_next).0 in
       stands.size ∙ ap (λ (x : Record). sets_in g.sets x.before) (sym was)
 
-  same_puts : puts_of before.at.size before.at.cache (action_done q) ≡ (late_after g h r).puts
+  same_puts : puts_of before.pipeline.size before.pipeline.cache (action_done q) ≡ (late_after g h r).puts
   same_puts = λ i. puts_of (size_is i) (stands.cache i) (acted i)
 
   -- nothing waits before a barrier
-  all_acted : shades_need need ≡ true → before.bytes ≡ settled_memory (boot g.image).memory.bytes (course g h).late
+  all_acted : shades_need need ≡ true → before.pipeline.bytes ≡ settled_memory (boot g.image).memory.bytes
+      (course g h).late
   all_acted is =
-      drained_bytes old.processor (clear.drained (and_parts _ _ is).0)
+      drained_bytes old.pipeline.processor (clear.drained (and_parts _ _ is).0)
       ∙ ap (λ (c : Cache). c.behind.bytes) stands.cache
       ∙ sym (course_settles g h)
 
-  pub issued_shaded : IsShaded (boot g.image).memory.bytes (late_after g h r ∷ (course g h).late) after.shade
+  pub issued_shaded : IsShaded (boot g.image).memory.bytes (late_after g h r ∷ (course g h).late) after.pipeline.shade
   issued_shaded = elim (cases_Bool (shades_need need)) [
     | inl is ↦
-        record_hides (boot g.image).memory.bytes (late_after g h r) (course g h).late after.shade
-        (subst₂ (λ (f : ℕ → ℕ) (ps : List (ℕ × ℕ)). Hides f ps after.shade.pieces) (all_acted is) same_puts
+        record_hides (boot g.image).memory.bytes (late_after g h r) (course g h).late after.pipeline.shade
+        (subst₂ (λ (f : ℕ → ℕ) (ps : List (ℕ × ℕ)). Hides f ps after.pipeline.shade.pieces) (all_acted is) same_puts
         (issued.hides.bytes is))
         (issued.hides.due is ∙ sym done) (shades_same ∙ is)
     | inr beside ↦
-        record_leaves (boot g.image).memory.bytes (late_after g h r) (course g h).late after.shade
+        record_leaves (boot g.image).memory.bytes (late_after g h r) (course g h).late after.pipeline.shade
         (shades_same ∙ beside)
         (subst (IsShaded (boot g.image).memory.bytes (course g h).late) (sym (issued.hides.keeps beside)) stands.shaded)
   ]
@@ -248,16 +261,16 @@ left_less g h r within is =
     (sym (length-append (reached_after rs) (reached_by r.kind r.before))) (leaves.less within)
 
 -- a record that issues comes no further than it may
-pub issued_paced : (before after : Contents) (need : Need) (a : Action) (left now : ℕ) → IsIssued before need a after
-    → need.not_before ≡ 0 → now < left → IsPaced before.at.board before.turn before.at.floor left
-    → IsPaced after.at.board after.turn after.at.floor now
+pub issued_paced : (before after : Flow) (need : Need) (a : Action) (left now : ℕ) → IsIssued before need a after
+    → need.not_before ≡ 0 → now < left → IsPaced before.board before.turn before.floor left
+    → IsPaced after.board after.turn after.floor now
 issued_paced before after need a left now i none less p =
     let cost : need.cost ≤ most_turns = i.cost in
     let far : p.bound + 2 ^ 8 * left < 2 ^ 62 = p.far in
     let turn : after.turn ≡ before.turn = λ j. (i.keeps j).turn in
-    let floor : after.at.floor ≡ before.at.floor = λ j. (i.keeps j).at.floor in
+    let floor : after.floor ≡ before.floor = λ j. (i.keeps j).floor in
     let turn_was : before.turn ≤ p.bound = p.now in
-    let floor_was : before.at.floor ≤ p.bound = p.fence in
+    let floor_was : before.floor ≤ p.bound = p.fence in
     record {
       bound = p.bound + need.cost;
       far = omega (arith, cost, far, less);
@@ -267,7 +280,8 @@ issued_paced before after need a left now i none less p =
     }
 
 -- a step's need covers what it changes
-pub step_covers : (at : Situation) (plan : Plan) (step : Performed) (need : Need) (e : Effect) → IsStep at plan step need e
+pub step_covers : (at : Situation) (plan : Plan) (step : Performed) (need : Need) (e : Effect)
+    → IsStep at plan step need e
     → IsCovered need.writes at.state (action_in at.state e)
 step_covers at plan step need e is =
     subst (λ (n : Need). IsCovered n.writes at.state (action_in at.state e)) (sym is.is_need)
@@ -282,30 +296,26 @@ still_step at plan step need e is request barrier =
     (ap (λ (n : Need). n.barrier) (sym is.is_need) ∙ barrier) in
     subst IsStill (sym is.effect.same) (record { writes = still.0; move = still.1; control = still.2 })
 
--- what can act with the turns of a need
-abbrev CanActBy : Machine → Effect → Need → Type 0
-CanActBy m e n =
-    (p : Placed) (b : Pending) → IsPlaced m.board n p b → CanAct m.processor
-    (record { writes = n.writes; done = p.done; request = n.request }) e
-
 -- a step can act with the turns that its need is placed with
 pub step_acts : (m : Machine) (plan : Plan) (step : Performed) (need : Need) (e : Effect)
-    → m.need ≡ waiting_until m.floor need → HasCome (contents_of m) plan → IsStep (situation m) plan step need e
-    → CanActPlaced m e
-step_acts m plan step need e fenced u is = subst (CanActBy m e) (sym fenced) by_need
+    → m.need ≡ waiting_until m.pipeline.floor need → HasCome (contents_of m) plan
+    → IsStep (situation m) plan step need e
+    → CanActPlaced m.pipeline m.need e
+step_acts m plan step need e fenced u is = subst (λ (n : Need). CanActPlaced m.pipeline n e) (sym fenced) by_need
   where
-    by_barrier : (c : Bool) → need.barrier ≡ c → (need.barrier ≡ true → IsDrained m.processor) → need.request ≡ false
-        → IsDrained m.processor ⊎ IsStill (action_in (situation m).state e)
+    by_barrier : (c : Bool) → need.barrier ≡ c → (need.barrier ≡ true → IsDrained m.pipeline.processor)
+        → need.request ≡ false
+        → IsDrained m.pipeline.processor ⊎ IsStill (action_in (situation m).state e)
     by_barrier true barrier drained request = inl (drained barrier)
     by_barrier false barrier drained request = inr (still_step (situation m) plan step need e is request barrier)
 
-    by_need : CanActBy m e (waiting_until m.floor need)
+    by_need : CanActPlaced m.pipeline (waiting_until m.pipeline.floor need) e
     by_need p b placed =
         let g = u.given in
         let h = u.items in
         let j = contents_of m in
-        let q = record_of is.kind j.at.state in
-        let found = does_alike (comes_next g h) (next_for j.at plan) q
+        let q = record_of is.kind j.pipeline.state in
+        let found = does_alike (comes_next g h) (next_for (situation_in j) plan) q
         (beside g h j plan u.stands u.follows) is.is_next in
         let r = found.0 in
         let run = next_free g.length (due_after (records_of h)) (event_ahead g h)
@@ -313,15 +323,16 @@ step_acts m plan step need e fenced u is = subst (CanActBy m e) (sym fenced) by_
         let own = same_need g h j r q need u.stands found.2 (ap (λ (x : Record). x.before) run.0) refl is.is_need in
         let clear = clear_need g h j r need u.stands found.1 u.precise u.now own in
         let done = placed_done g h j r need p b u.stands own placed in
-        let waits : need.request ≡ true → CanWait m.processor p.done e = λ request.
+        let waits : need.request ≡ true → CanWait m.pipeline.processor p.done e = λ request.
         let row = is.row request in
-        let order = request_last g h r (kernel_of j) u.stands.lands (ap (λ (n : Need). n.request) own ∙ request) in
+        let order = request_last g h r (kernel_of j.pipeline) u.stands.lands
+        (ap (λ (n : Need). n.request) own ∙ request) in
         record {
           row = row.requests;
           move = row.frames;
           control = row.control;
           few = clear.few request;
-          order = subst (λ (t : ℕ). AllByRecursion (λ w. w.due ≤ t) j.queue) done order;
+          order = subst (λ (t : ℕ). AllByRecursion (λ w. w.due ≤ t) j.pipeline.queue) done order;
         } in
         (waits, by_barrier need.barrier refl clear.drained)
 

@@ -8,7 +8,7 @@ use Rattle.i9_schedule.specs.Plan.{Plan}
 use Rattle.i9_course.specs.Course.{Item, comes_next}
 use Rattle.i9_processor.specs.Pages.{AddsActionOnly, AddsNoPage}
 use Rattle.i9_processor.specs.declared.processor.Processor.{Processor}
-use Rattle.i9_machine.specs.Contents.{Contents}
+use Rattle.i9_machine.specs.Contents.{situation_in, Contents}
 use Rattle.i9_machine.specs.NewPages.{AddsNextOnly, AddsRecordsOnly, with_next}
 use Rattle.i9_machine.specs.StandsFor.{Stand, Follows}
 use Rattle.i9_machine.specs.Step.{next_for}
@@ -46,9 +46,9 @@ same_next old new n same = none_next old new n (same_pages old new (sym same))
 
 -- what comes next in the run stores and saves as what comes next for contents
 pub run_only : (g : Given) (h : List Item) (k : Contents) (plan : Plan) (old new : Processor) → Stand g h None k
-    → Follows g h plan → AddsNextOnly old new (next_for k.at plan) → AddsNextOnly old new (comes_next g h)
+    → Follows g h plan → AddsNextOnly old new (next_for (situation_in k) plan) → AddsNextOnly old new (comes_next g h)
 run_only g h k plan old new stands follows only =
-    by_next (comes_next g h) (next_for k.at plan) (beside g h k plan stands follows) only
+    by_next (comes_next g h) (next_for (situation_in k) plan) (beside g h k plan stands follows) only
   where
     by_next : (o p : Next) → AreNextAlike o p → AddsNextOnly old new p → AddsNextOnly old new o
     by_next (Does r) (Does q) alike only = subst (AddsActionOnly old new) (done_alike r q alike) only

@@ -27,7 +27,7 @@ use Rattle.i9_course.proofs.Barriers.{next_barrier, last_reached}
 use Rattle.i9_course.proofs.NeedAlike.{need_alike}
 use Rattle.i9_course.proofs.Orderly.{course_events}
 use Rattle.i9_plan.specs.Open.{WaitsForAll, NeedsAhead}
-use Rattle.i9_machine.specs.Contents.{Situation, Contents}
+use Rattle.i9_machine.specs.Contents.{situation_in, Situation, Contents}
 use Rattle.i9_machine.specs.StandsFor.{Stand, Follows}
 use Rattle.i9_machine.specs.Overtaking.{late_entry, late_due, IssuesAhead}
 use Rattle.i9_model.specs.ScheduleText.{standing_by}
@@ -59,7 +59,8 @@ entry_fault (r ∷ rs) = kind_fault r.kind r.before
 
 -- the same for contents, within the length
 late_is : (g : Given) (h : List Item) (k : Contents) → Stand g h None k
-    → late_due k.at ≡ cond (nat_lt (state_after g (records_of h)).count g.length) (last_fault (records_of h)) None
+    → late_due (situation_in k) ≡ cond (nat_lt (state_after g (records_of h)).count g.length)
+    (last_fault (records_of h)) None
 late_is g h k stands =
     (λ i. cond (nat_lt (stands.state.rest i).count (stands.length i)) (late_entry (stands.due i)) None)
     ∙ ap (λ (o : Option ℕ). cond (nat_lt (state_after g (records_of h)).count g.length) o None)
@@ -71,7 +72,7 @@ none_by true false o h = refl
 none_by false c o h = refl
 
 -- where none is due, none is imprecise
-pub calm_precise : (g : Given) (h : List Item) (k : Contents) → Stand g h None k → late_due k.at ≡ None
+pub calm_precise : (g : Given) (h : List Item) (k : Contents) → Stand g h None k → late_due (situation_in k) ≡ None
     → (ahead g h).imprecise ≡ None
 calm_precise g h k stands none =
     none_by (nat_lt (state_after g (records_of h)).count g.length) _ (last_fault (records_of h))
@@ -82,7 +83,8 @@ both_some true o a h = (refl, h)
 both_some false o a h = absurd (cc h)
 
 -- where one is due, it is imprecise if it is overtaken
-late_imprecise : (g : Given) (h : List Item) (k : Contents) (a : ℕ) → Stand g h None k → late_due k.at ≡ Some a
+late_imprecise : (g : Given) (h : List Item) (k : Contents) (a : ℕ) → Stand g h None k
+    → late_due (situation_in k) ≡ Some a
     → issue_of_next g h (instruction_ahead (state_after g (records_of h))) < last_done (course g h).late
     → (ahead g h).imprecise ≡ Some a
 late_imprecise g h k a stands late before =
@@ -132,59 +134,61 @@ ahead_need asked c s t blind alike =
     ∙ standing_need asked c s t alike (stands_at s)
 
 -- it issues at the turn that the scoreboard gives its need
-pub ahead_issues : (k : Contents) (need : Need) (t : ℕ) → NeedsAhead k.at.state need
-    → ((rs : List TimedNeed) → board.StandsFor k.at.board rs
-    → t ≡ issue_turn (last_issue rs) rs (waiting_until k.at.floor need))
+pub ahead_issues : (k : Contents) (need : Need) (t : ℕ) → NeedsAhead k.pipeline.state need
+    → ((rs : List TimedNeed) → board.StandsFor k.pipeline.board rs
+    → t ≡ issue_turn (last_issue rs) rs (waiting_until k.pipeline.floor need))
     → IssuesAhead k t
 ahead_issues k need t is turn g h stands =
     let rs = turns (course g h).late in
     let c = cache_after g (records_of h) in
-    let same = sym (is g.sets c) ∙ ahead_need g.sets c (state_after g (records_of h)) k.at.state
+    let same = sym (is g.sets c) ∙ ahead_need g.sets c (state_after g (records_of h)) k.pipeline.state
     (course_blind g h stands.past) stands.state in
     turn rs stands.lands.board ∙ λ i. issue_turn (last_issue rs) rs (waiting_until (stands.lands.fence i) (same i))
 
 -- where it waits for all, it overtakes nothing
 pub waits_precise : (g : Given) (h : List Item) (k : Contents) → Stand g h None k
-    → WaitsForAll k.at.state (stands_at k.at.state) → (ahead g h).imprecise ≡ None
+    → WaitsForAll k.pipeline.state (stands_at k.pipeline.state) → (ahead g h).imprecise ≡ None
 waits_precise g h k stands waits =
     let s = state_after g (records_of h) in
     let c = cache_after g (records_of h) in
     let barrier = sym (ap (λ (n : Need). n.barrier)
-    (ahead_need g.sets c s k.at.state (course_blind g h stands.past) stands.state)) ∙ waits g.sets c in
+    (ahead_need g.sets c s k.pipeline.state (course_blind g h stands.past) stands.state)) ∙ waits g.sets c in
     let turn : issue_of_next g h (instruction_ahead s) ≡ end_turn (turns (course g h).late) = next_barrier g h
     (instruction_ahead s) barrier in
     let reached : last_done (course g h).late ≤ end_turn (turns (course g h).late) = last_reached (course g h).late in
     precise_by g h (omega (arith, turn, reached))
 
 -- where it would not issue before the last record is done, neither
-pub later_precise : (g : Given) (h : List Item) (k : Contents) (t : ℕ) → Stand g h None k → IssuesAhead k t → k.done ≤ t
+pub later_precise : (g : Given) (h : List Item) (k : Contents) (t : ℕ) → Stand g h None k → IssuesAhead k t
+    → k.pipeline.done ≤ t
     → (ahead g h).imprecise ≡ None
 later_precise g h k t stands issues le =
     let is : t ≡ issue_of_next g h (instruction_ahead (state_after g (records_of h))) = issues g h stands in
-    let last : k.done ≡ last_done (course g h).late = stands.lands.last in
+    let last : k.pipeline.done ≡ last_done (course g h).late = stands.lands.last in
     precise_by g h (omega (arith, is, last, le))
 
 -- nor where all records are done
 pub drained_precise : (g : Given) (h : List Item) (k : Contents) → Stand g h None k
-    → end_turn (turns (course g h).late) ≤ k.turn → (ahead g h).imprecise ≡ None
+    → end_turn (turns (course g h).late) ≤ k.pipeline.turn → (ahead g h).imprecise ≡ None
 drained_precise g h k stands le = by_fault (ahead g h).imprecise refl
   where
     by_fault : (o : Option ℕ) → (ahead g h).imprecise ≡ o → (ahead g h).imprecise ≡ None
     by_fault None is = is
     by_fault (Some a) is =
         let before : (ahead g h).turn < last_done (course g h).late = (imprecise_overtaken g h a is).0 in
-        let in_time : k.turn ≤ (ahead g h).turn = stands.lands.in_time in
+        let in_time : k.pipeline.turn ≤ (ahead g h).turn = stands.lands.in_time in
         let reached : last_done (course g h).late ≤ end_turn (turns (course g h).late) = last_reached
         (course g h).late in
         absurd (omega (arith, before, in_time, reached, le))
 
 -- where it would, the fault is imprecise, and the run ends at that turn
 pub sooner_imprecise : (g : Given) (h : List Item) (k : Contents) (a t : ℕ) → Stand g h None k → IssuesAhead k t
-    → late_due k.at ≡ Some a → t < k.done → ((ahead g h).imprecise ≡ Some a) × ((ahead g h).turn ≡ t)
+    → late_due (situation_in k) ≡ Some a → t < k.pipeline.done
+    → ((ahead g h).imprecise ≡ Some a) × ((ahead g h).turn ≡ t)
 sooner_imprecise g h k a t stands issues late before =
     let issue = issue_of_next g h (instruction_ahead (state_after g (records_of h))) in
     let is : t ≡ issue = issues g h stands in
-    let last : k.done ≡ last_done (course g h).late = stands.lands.last in
+    let last : k.pipeline.done ≡ last_done (course g h).late = stands.lands.last in
     let fault = late_imprecise g h k a stands late (omega (arith, is, last, before)) in
     (fault, ap (λ (o : Option ℕ). issue_of_next g h (to_issue g h o)) fault ∙ sym is)
 
@@ -214,34 +218,37 @@ standing_sets asked n c s (Runs i) is = ap (λ (k : ℕ). need_of k c s (Instruc
 
 -- the instruction ahead needs the same
 same_need_at : (g : Given) (h : List Item) (k : Contents) → Stand g h None k
-    → need_at k.at ≡ need_ahead g.sets (cache_after g (records_of h)) (instruction_ahead (state_after g (records_of h)))
+    → need_at (situation_in k) ≡ need_ahead g.sets (cache_after g (records_of h))
+    (instruction_ahead (state_after g (records_of h)))
 same_need_at g h k stands =
     let s = state_after g (records_of h) in
     let c = cache_after g (records_of h) in
     let size = stands.size ∙ sym (ap (sets_in g.sets) stands.state.rest) in
-    ap (λ (d : Cache). need_ahead (Some k.at.size) d (instruction_ahead k.at.state)) stands.cache
-    ∙ standing_sets g.sets k.at.size c k.at.state (stands_at k.at.state) size
-    ∙ ahead_need g.sets c s k.at.state (course_blind g h stands.past) stands.state
+    ap (λ (d : Cache). need_ahead (Some k.pipeline.size) d (instruction_ahead k.pipeline.state)) stands.cache
+    ∙ standing_sets g.sets k.pipeline.size c k.pipeline.state (stands_at k.pipeline.state) size
+    ∙ ahead_need g.sets c s k.pipeline.state (course_blind g h stands.past) stands.state
 
 -- so it would issue at the same turn
-pub same_turn_at : (g : Given) (h : List Item) (k : Contents) → Stand g h None k → turn_at k.at ≡ instruction_turn g h
+pub same_turn_at : (g : Given) (h : List Item) (k : Contents) → Stand g h None k
+    → turn_at (situation_in k) ≡ instruction_turn g h
 same_turn_at g h k stands =
     let rs = turns (course g h).late in
-    stands-pending_turn k.at.board rs (waiting_until k.at.floor (need_at k.at)) stands.lands.board
+    stands-pending_turn k.pipeline.board rs (waiting_until k.pipeline.floor (need_at (situation_in k)))
+    stands.lands.board
     ∙ λ i. issue_turn (last_issue rs) rs (waiting_until (stands.lands.fence i) (same_need_at g h k stands i))
 
 -- the event that stands there for contents stands there in the run
 same_event : (g : Given) (h : List Item) (k : Contents) (plan : Plan) → Stand g h None k → Follows g h plan
-    → event_for k.at plan ≡ event_ahead g h
+    → event_for (situation_in k) plan ≡ event_ahead g h
 same_event g h k plan stands follows =
     λ i. standing_by (follows.events i) (follows.place i) (stands.state.rest i).count (same_turn_at g h k stands i)
 
 -- what comes next for contents, beside what comes next in the run
 pub beside : (g : Given) (h : List Item) (k : Contents) (plan : Plan) → Stand g h None k → Follows g h plan
-    → AreNextAlike (comes_next g h) (next_for k.at plan)
+    → AreNextAlike (comes_next g h) (next_for (situation_in k) plan)
 beside g h k plan stands follows =
     let s = state_after g (records_of h) in
-    subst (λ (n : Next). AreNextAlike n (next_for k.at plan))
+    subst (λ (n : Next). AreNextAlike n (next_for (situation_in k) plan))
     (λ i. next_in (stands.length i) (stands.due i) (same_event g h k plan stands follows i) s)
-    (next_alike k.at.length k.at.due (event_for k.at plan) s k.at.state
+    (next_alike k.length k.due (event_for (situation_in k) plan) s k.pipeline.state
     (sound-after g (records_of h) (course_events g h stands.past)) (course_blind g h stands.past) stands.state)

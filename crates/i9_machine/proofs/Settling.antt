@@ -1,6 +1,6 @@
 -- A machine settles: all that is open lands, a fence is set where no end was answered, and it shows raw what a drained
 -- point shows.
-use Rattle.std.proofs.Common.{◌≡◌, ℕ, ◌≤◌, max, List, [], ◌∷◌, Option, Some, None, refl, sym, ap, ◌∙◌, subst, arith}
+use Rattle.std.proofs.Common.{◌≡◌, ℕ, ◌≤◌, max, Bool, true, false, not, if◌then◌else◌, List, [], ◌∷◌, Option, Some, None, is_some, refl, sym, ap, ◌∙◌, subst, arith}
 use Rattle.i9_model.specs.declared.run.End.{End}
 use Rattle.i9_model.specs.declared.need.TimedNeed.{TimedNeed}
 use Rattle.i9_model.specs.Late.{Late, WritersDone, AllDone, turns}
@@ -19,22 +19,24 @@ use Rattle.i9_course.specs.Kernel.{MovesTo}
 use Rattle.i9_course.proofs.Orderly.{course_orderly}
 use Rattle.i9_course.proofs.Steps.{fence_lands}
 use Rattle.i9_course.proofs.Timed.{course_timed}
-use Rattle.i9_machine.specs.declared.machine.Machine.{Machine}
-use Rattle.i9_machine.specs.Contents.{Contents, contents_of, kernel_of, settled_to}
-use Rattle.i9_machine.specs.Issuing.{IsPaced, IsEndTurn, IsQuiet}
+use Rattle.i9_pipeline.specs.Flow.{Flow, kernel_of, settled_to, IsEndTurn, IsSettled, IsQuiet}
+use Rattle.i9_pipeline.proofs.Moving.{moves_to}
+use Rattle.i9_machine.specs.Contents.{Contents, settled_by}
+use Rattle.i9_machine.specs.Issuing.{IsPaced}
 use Rattle.i9_machine.specs.Raw.{IsLevel}
-use Rattle.i9_machine.specs.StandsFor.{Stand, StandsFor, HasLanded}
+use Rattle.i9_machine.specs.StandsFor.{Stand, HasLanded}
 use Rattle.i9_machine.proofs.Turned.{shows_of, level_is}
-use Rattle.i9_machine.proofs.Turning.{ended_by, moves_to}
+use Rattle.i9_machine.proofs.Turning.{ended_by}
 
 -- turns stay small
-settled_paced : (k : Contents) (until floor left : ℕ) (rs : List TimedNeed) → board.StandsFor k.at.board rs
-    → until ≡ end_turn rs → floor ≤ max k.at.floor until → IsPaced k.at.board k.turn k.at.floor left
-    → IsPaced k.at.board (max k.turn until) floor left
+settled_paced : (k : Contents) (until floor left : ℕ) (rs : List TimedNeed) → board.StandsFor k.pipeline.board rs
+    → until ≡ end_turn rs → floor ≤ max k.pipeline.floor until
+    → IsPaced k.pipeline.board k.pipeline.turn k.pipeline.floor left
+    → IsPaced k.pipeline.board (max k.pipeline.turn until) floor left
 settled_paced k until floor left rs stands is low p =
-    let ended : end_turn rs ≤ p.bound = ended_by k.at.board rs p.bound stands p.done in
-    let turn_was : k.turn ≤ p.bound = p.now in
-    let floor_was : k.at.floor ≤ p.bound = p.fence in
+    let ended : end_turn rs ≤ p.bound = ended_by k.pipeline.board rs p.bound stands p.done in
+    let turn_was : k.pipeline.turn ≤ p.bound = p.now in
+    let floor_was : k.pipeline.floor ≤ p.bound = p.fence in
     record {
       bound = p.bound;
       far = p.far;
@@ -44,19 +46,20 @@ settled_paced k until floor left rs stands is low p =
     }
 
 -- a fence is set
-pub settled_fenced : (g : Given) (h : List Item) (k : Contents) (until : ℕ) → IsEndTurn k.at.board until
-    → Stand g h None k → Stand g (Fence ∷ h) None (settled_to (max k.turn until) until k)
+pub settled_fenced : (g : Given) (h : List Item) (k : Contents) (until : ℕ) → IsEndTurn k.pipeline.board until
+    → Stand g h None k → Stand g (Fence ∷ h) None (settled_by until until k)
 settled_fenced g h k until end stands =
     let is : until ≡ end_turn (turns (course g h).late) = end (turns (course g h).late) stands.lands.board in
-    let moves = subst (λ (u : ℕ). MovesTo (max k.turn u) (kernel_of k)
-    (kernel_of (settled_to (max k.turn until) until k))) is
-    (moves_to (max k.turn until) until k (omega arith)) in
+    let moves = subst (λ (u : ℕ). MovesTo (max k.pipeline.turn u) (kernel_of k.pipeline)
+    (kernel_of (settled_to until until k.pipeline))) is
+    (moves_to (max k.pipeline.turn until) until k.pipeline (omega arith)) in
     record {
       past = stands.past;
       state = stands.state;
       size = stands.size;
       cache = stands.cache;
-      lands = fence_lands g h (kernel_of k) (kernel_of (settled_to (max k.turn until) until k)) stands.lands moves is;
+      lands = fence_lands g h (kernel_of k.pipeline) (kernel_of (settled_to until until k.pipeline)) stands.lands
+          moves is;
       shaded = stands.shaded;
       early = omega arith;
       paced = settled_paced k until until _ _ stands.lands.board is (omega arith) stands.paced;
@@ -68,22 +71,23 @@ settled_fenced g h k until end stands =
     }
 
 -- none is set once an end was answered
-pub settled_ended : (g : Given) (h : List Item) (f : Finish) (k : Contents) (until : ℕ) → IsEndTurn k.at.board until
-    → Stand g h (Some f) k → Stand g h (Some f) (settled_to (max k.turn until) k.at.floor k)
+pub settled_ended : (g : Given) (h : List Item) (f : Finish) (k : Contents) (until : ℕ)
+    → IsEndTurn k.pipeline.board until
+    → Stand g h (Some f) k → Stand g h (Some f) (settled_by until k.pipeline.floor k)
 settled_ended g h f k until end stands =
     let xs = (course g h).late in
     let rs = turns xs in
-    let j = settled_to (max k.turn until) k.at.floor k in
-    let begun : last_issue rs ≤ k.turn = stands.lands.begun in
-    let moves = moves_to (max k.turn until) k.at.floor k (omega arith) in
-    let landing : HasLanded g h (kernel_of j) = record {
+    let j = settled_by until k.pipeline.floor k in
+    let begun : last_issue rs ≤ k.pipeline.turn = stands.lands.begun in
+    let moves = moves_to (max k.pipeline.turn until) k.pipeline.floor k.pipeline (omega arith) in
+    let landing : HasLanded g h (kernel_of j.pipeline) = record {
       board = stands.lands.board;
       fence = stands.lands.fence;
       last = stands.lands.last;
       begun = omega (arith, begun);
-      shows = shows_moves (boot g.image) k.turn (max k.turn until) xs (kernel_of k).cells
-          (kernel_of j).cells k.bytes j.bytes k.queue j.queue
-          stands.lands.shows (omega arith) (issued-by k.turn xs (course_timed g h) begun)
+      shows = shows_moves (boot g.image) k.pipeline.turn (max k.pipeline.turn until) xs (kernel_of k.pipeline).cells
+          (kernel_of j.pipeline).cells k.pipeline.bytes j.pipeline.bytes k.pipeline.queue j.pipeline.queue
+          stands.lands.shows (omega arith) (issued-by k.pipeline.turn xs (course_timed g h) begun)
           (course_orderly g h) moves.cells refl refl;
     } in
     record {
@@ -94,7 +98,7 @@ settled_ended g h f k until end stands =
       lands = landing;
       shaded = stands.shaded;
       early = tt;
-      paced = settled_paced k until k.at.floor _ rs stands.lands.board (end rs stands.lands.board)
+      paced = settled_paced k until k.pipeline.floor _ rs stands.lands.board (end rs stands.lands.board)
           (omega arith) stands.paced;
       due = stands.due;
       length = stands.length;
@@ -113,47 +117,65 @@ done_by : (t u : ℕ) (xs : List Late) → t ≤ u → AllByRecursion (λ r. r.d
 done_by t u [] le h = tt
 done_by t u (x ∷ xs) le h = (let one : x.timed.done ≤ t = h.0 in omega (arith, one, le), done_by t u xs le h.1)
 
-quiet_by : (g : Given) (h : List Item) (end : Option Finish) (m : Machine) → StandsFor g h end m
-    → end_turn (turns (course g h).late) ≤ m.turn → IsQuiet m
-quiet_by g h end m stands le =
+quiet_by : (g : Given) (h : List Item) (end : Option Finish) (k : Contents) → Stand g h end k
+    → end_turn (turns (course g h).late) ≤ k.pipeline.turn → IsQuiet k.pipeline
+quiet_by g h end k stands le =
     let xs = (course g h).late in
-    let shows = shows_of g h end m stands in
-    let done = done_by (end_turn (turns xs)) m.turn xs le (all-end (turns xs)).done in
+    let t = k.pipeline.turn in
+    let shows = shows_of g h end k stands in
+    let done = done_by (end_turn (turns xs)) t xs le (all-end (turns xs)).done in
     record {
-      planned = λ r lt. ap (λ (c : Cell). c.plan) (shows.registers r lt) ∙ plan-none m.turn r xs
-          (writers_done r m.turn xs done);
-      waiting = shows.requests ∙ none-wait m.turn xs (all-requests m.turn xs done);
+      planned = λ r lt. ap (λ (c : Cell). c.plan) (shows.registers r lt) ∙ plan-none t r xs (writers_done r t xs done);
+      waiting = shows.requests ∙ none-wait t xs (all-requests t xs done);
     }
 
+-- a fence is set where no end was answered, and only there
+fence_set : (b : Bool) (o : Option End) (x y : ℕ) → is_some o ≡ not b → o ≡ None → (if b then x else y) ≡ x
+fence_set true o x y is none = refl
+fence_set false o x y is none = absurd (cc (sym is ∙ ap is_some none))
+
+fence_kept : (b : Bool) (o : Option End) (e : End) (x y : ℕ) → is_some o ≡ not b → o ≡ Some e
+    → (if b then x else y) ≡ y
+fence_kept true o e x y is some = absurd (cc (sym is ∙ ap is_some some))
+fence_kept false o e x y is some = refl
+
 -- so it is quiet, and shows what a drained point shows
-module _ (g : Given) (h : List Item) (before m : Machine) (until floor : ℕ) (end : IsEndTurn before.board until)
-    (i : contents_of m ≡ settled_to (max before.turn until) floor (contents_of before)) where
-  pub fenced : StandsFor g h None before → floor ≡ until → StandsFor g (Fence ∷ h) None m
-  fenced stands is =
+module _ (g : Given) (h : List Item) (b : Bool) (k : Contents) (f : Flow) (s : IsSettled b k.pipeline f)
+    (ended : is_some k.ended ≡ not b) where
+  abbrev j : Contents
+  j = record k { pipeline = f; wait = 0 }
+
+  settled : (floor : ℕ) → (if b then s.until else k.pipeline.floor) ≡ floor → j ≡ settled_by s.until floor k
+  settled floor is =
+      (λ i. record k { pipeline = s.settled i; wait = 0 }) ∙ λ i. settled_by s.until (is i) k
+
+  pub fenced : Stand g h None k → Stand g (Fence ∷ h) None j
+  fenced stands =
       subst (Stand g (Fence ∷ h) None)
-      (sym (i ∙ ap (λ (f : ℕ). settled_to (max before.turn until) f (contents_of before)) is))
-      (settled_fenced g h (contents_of before) until end stands)
+      (sym (settled s.until (fence_set b k.ended s.until k.pipeline.floor ended stands.ended)))
+      (settled_fenced g h k s.until s.end stands)
 
-  pub over : (f : Finish) → StandsFor g h (Some f) before → floor ≡ before.floor → StandsFor g h (Some f) m
-  over f stands is =
-      subst (Stand g h (Some f))
-      (sym (i ∙ ap (λ (f : ℕ). settled_to (max before.turn until) f (contents_of before)) is))
-      (settled_ended g h f (contents_of before) until end stands)
+  pub over : (x : Finish) → Stand g h (Some x) k → Stand g h (Some x) j
+  over x stands =
+      subst (Stand g h (Some x))
+      (sym (settled k.pipeline.floor (fence_kept b k.ended x.end s.until k.pipeline.floor ended stands.ended)))
+      (settled_ended g h x k s.until s.end stands)
 
-  all_done : board.StandsFor before.board (turns (course g h).late) → end_turn (turns (course g h).late) ≤ m.turn
+  pub turned : (rs : List TimedNeed) → board.StandsFor k.pipeline.board rs → f.turn ≡ max k.pipeline.turn (end_turn rs)
+  turned rs stands = (λ i. (s.settled i).turn) ∙ ap (max k.pipeline.turn) (s.end rs stands)
+
+  all_done : board.StandsFor k.pipeline.board (turns (course g h).late) → end_turn (turns (course g h).late) ≤ f.turn
   all_done stands =
-      let is : until ≡ end_turn (turns (course g h).late) = end (turns (course g h).late) stands in
-      let turn : m.turn ≡ max before.turn until = λ j. (i j).turn in
-      omega (arith, is, turn)
+      let is : f.turn ≡ max k.pipeline.turn (end_turn (turns (course g h).late)) = turned _ stands in
+      omega (arith, is)
 
-  pub levels : (o : Option Finish) → StandsFor g h o before → (before.ended ≡ None → floor ≡ until)
-      → ((e : End) → before.ended ≡ Some e → floor ≡ before.floor) → IsQuiet m × IsLevel g h m.turn
-  levels None stands none some =
-      let now = fenced stands (none stands.ended) in
-      let quiet = quiet_by g (Fence ∷ h) None m now (all_done stands.lands.board) in
-      let level = level_is g (Fence ∷ h) None m now quiet in
+  pub levels : (o : Option Finish) → Stand g h o k → IsQuiet f × IsLevel g h f.turn
+  levels None stands =
+      let now = fenced stands in
+      let quiet = quiet_by g (Fence ∷ h) None j now (all_done stands.lands.board) in
+      let level = level_is g (Fence ∷ h) None j now quiet in
       (quiet, record { registers = level.registers; free = level.free })
-  levels (Some f) stands none some =
-      let now = over f stands (some f.end stands.ended) in
-      let quiet = quiet_by g h (Some f) m now (all_done stands.lands.board) in
-      (quiet, level_is g h (Some f) m now quiet)
+  levels (Some x) stands =
+      let now = over x stands in
+      let quiet = quiet_by g h (Some x) j now (all_done stands.lands.board) in
+      (quiet, level_is g h (Some x) j now quiet)

@@ -18,7 +18,7 @@ use Rattle.i9_machine.specs.declared.line.Turn.TheVariants as turns
 use Rattle.i9_machine.specs.declared.step.Coming.{Coming}
 use Rattle.i9_machine.specs.declared.step.Coming.TheVariants.{Overtaking}
 use Rattle.i9_machine.specs.Coming.{Overtakes, Came, overtaken_by}
-use Rattle.i9_machine.specs.Contents.{Contents}
+use Rattle.i9_machine.specs.Contents.{situation_in, Contents}
 use Rattle.i9_machine.specs.Line.{shown_of}
 use Rattle.i9_machine.specs.Progress.{Progress}
 use Rattle.i9_machine.specs.Step.{TellsRecord, NeedsRoom, HasRoom, event_for, next_for, plan_behind, Stage, stage_of, next_of, Did, Ended, Refused, Steps, Finished, plan_at_end}
@@ -52,12 +52,14 @@ tells_alike _ s t _ alike words tells = absurd tells
 
 -- the number of sets after a record
 size_next : (g : Given) (h : List Item) (k : Contents) (n : ℕ) (r q : Record) → Stand g h None k → AreRecordsAlike r q
-    → IsFreeRecord k.at.state q → n ≡ renewed k.sets k.at.state.memory (action_done q).control k.at.size
+    → IsFreeRecord k.pipeline.state q → n ≡ renewed k.sets k.pipeline.state.memory (action_done q).control
+    k.pipeline.size
     → n ≡ sets_in g.sets r.after
 size_next g h k n r q stands same free size =
-    let t = k.at.state in
+    let t = k.pipeline.state in
     let asked = k.sets in
-    let was : k.at.size ≡ sets_in asked t = stands.size ∙ λ i. sets_in (sym stands.sets i) (sym stands.state.rest i) in
+    let was : k.pipeline.size ≡ sets_in asked t = stands.size ∙ λ i. sets_in (sym stands.sets i)
+    (sym stands.state.rest i) in
     size
     ∙ ap (renewed asked t.memory (action_done q).control) was
     ∙ ap (λ (x : Record). renewed asked t.memory (action_by_kind q.kind x.before).control (sets_in asked t)) free.0
@@ -67,13 +69,14 @@ size_next g h k n r q stands same free size =
 
 -- what is held after it, and what is behind
 cache_next : (g : Given) (h : List Item) (k j : Contents) (r q : Record) → Stand g h None k → AreRecordsAlike r q
-    → IsFreeRecord (state_after g (records_of h)) r → j.at.state.memory.mcon ≡ r.after.memory.mcon
-    → j.at.cache ≡ cache_configured j.at.state.memory (cache_acted k.at.size (action_done q) k.at.cache)
-    → j.at.cache ≡ cache_after g (r ∷ records_of h)
+    → IsFreeRecord (state_after g (records_of h)) r → j.pipeline.state.memory.mcon ≡ r.after.memory.mcon
+    → j.pipeline.cache ≡ cache_configured j.pipeline.state.memory
+    (cache_acted k.pipeline.size (action_done q) k.pipeline.cache)
+    → j.pipeline.cache ≡ cache_after g (r ∷ records_of h)
 cache_next g h k j r q stands same free regions cache =
-    let memory = j.at.state.memory in
+    let memory = j.pipeline.state.memory in
     let n = sets_in g.sets r.before in
-    let sets : k.at.size ≡ n = stands.size ∙ sym (ap (λ (x : Record). sets_in g.sets x.before) free.0) in
+    let sets : k.pipeline.size ≡ n = stands.size ∙ sym (ap (λ (x : Record). sets_in g.sets x.before) free.0) in
     cache
     ∙ (λ i. cache_configured memory (cache_acted (sets i) (done_alike r q same i) (stands.cache i)))
     ∙ configured_by memory r.after.memory (cache_acted n (action_done r) (cache_after g (records_of h))) regions
@@ -150,9 +153,9 @@ room_alike p spare (Does r) (Does q) alike room = record {
 }
 
 pub next_room : (g : Given) (h : List Item) (k : Contents) (plan : Plan) (p : Processor) (spare : ℕ) → Stand g h None k
-    → Follows g h plan → HasRoom p spare (comes_next g h) → HasRoom p spare (next_for k.at plan)
+    → Follows g h plan → HasRoom p spare (comes_next g h) → HasRoom p spare (next_for (situation_in k) plan)
 next_room g h k plan p spare stands follows room =
-    room_alike p spare (comes_next g h) (next_for k.at plan) (beside g h k plan stands follows) room
+    room_alike p spare (comes_next g h) (next_for (situation_in k) plan) (beside g h k plan stands follows) room
 
 -- and so is room that stays
 pub kept_room : (p q : Processor) (spare : ℕ) (n : Next) → KeepsRoom p q → HasRoom p spare n → HasRoom q spare n
@@ -163,15 +166,16 @@ kept_room p q spare (Does r) keeps room =
 -- ---- what came next
 
 module _ (g : Given) (h : List Item) (before after : Progress) (x y : ℕ) (stands : StandsFor g h None before.machine)
-    (follows : Follows g h before.plan) (come : (ahead g h).turn ≤ before.machine.turn) where
+    (follows : Follows g h before.plan) (come : (ahead g h).turn ≤ before.machine.pipeline.turn) where
   abbrev was : Stage
   was = stage_of before x
 
   abbrev now : Stage
   now = stage_of after y
 
-  at_turn : (ahead g h).turn ≡ before.machine.turn
-  at_turn = let in_time : before.machine.turn ≤ (ahead g h).turn = stands.lands.in_time in omega (arith, come, in_time)
+  at_turn : (ahead g h).turn ≡ before.machine.pipeline.turn
+  at_turn = let in_time : before.machine.pipeline.turn ≤ (ahead g h).turn = stands.lands.in_time in omega
+      (arith, come, in_time)
 
   -- a record
   did : (answer : Turn) → (ahead g h).imprecise ≡ None → Did was answer now → DoesNext g h answer before after
@@ -183,24 +187,25 @@ module _ (g : Given) (h : List Item) (before after : Progress) (x y : ℕ) (stan
       let found = does_alike (comes_next g h) (next_of was) q (beside g h k before.plan stands follows) d.is_next in
       let r = found.0 in
       let same = found.2 in
-      let alike = alike_trans r.after q.after j.at.state same.after d.state in
-      let free = next_free k.at.length k.at.due (event_for k.at before.plan) k.at.state q d.is_next in
+      let alike = alike_trans r.after q.after j.pipeline.state same.after d.state in
+      let free = next_free k.length k.due (event_for (situation_in k) before.plan) k.pipeline.state q d.is_next in
       let run = next_free g.length (due_after rs) (event_ahead g h) (state_after g rs) r found.1 in
       let cache = cache_next g h k j r q stands same run (ap (λ (u : State). u.memory.mcon) alike.rest) d.cache in
       let need = same_need g h k r q d.need stands same (ap (λ (x : Record). x.before) run.0)
       (ap (λ (x : Record). x.before) free.0) d.is_need in
       let lands = issued_lands g h before.machine after.machine r q d.need stands found.1 same precise come need
       d.issued alike cache in
-      let count : k.at.state.count ≡ (state_after g rs).count = ap (λ (u : State). u.count) stands.state.rest in
-      let below : k.at.state.count ≤ k.at.length = before.machine.below in
-      let length : k.at.length ≡ g.length = stands.length in
+      let count : k.pipeline.state.count ≡ (state_after g rs).count = ap (λ (u : State). u.count) stands.state.rest in
+      let below : k.pipeline.state.count ≤ k.length = before.machine.below in
+      let length : k.length ≡ g.length = stands.length in
       let less = left_less g h r (omega (arith, count, below, length)) found.1 in
-      let none = ap (λ (n : Need). n.not_before) d.is_need ∙ waits_for_none k.at.size k.at.cache k.at.state q.kind in
-      let keeps = d.issued.keeps in
+      let none = ap (λ (n : Need). n.not_before) d.is_need
+      ∙ waits_for_none k.pipeline.size k.pipeline.cache k.pipeline.state q.kind in
+      let keeps = d.rest in
       let wait : j.wait ≡ k.wait = λ i. (keeps i).wait in
       let early : k.wait ≤ (ahead g h).turn = stands.early in
-      let turn : j.turn ≡ k.turn = λ i. (keeps i).turn in
-      let in_time : j.turn ≤ (ahead g (Step r ∷ h)).turn = lands.in_time in
+      let turn : j.pipeline.turn ≡ k.pipeline.turn = λ i. (d.issued.keeps i).turn in
+      let in_time : j.pipeline.turn ≤ (ahead g (Step r ∷ h)).turn = lands.in_time in
       record {
         done = r;
         is_next = found.1;
@@ -209,16 +214,16 @@ module _ (g : Given) (h : List Item) (before after : Progress) (x y : ℕ) (stan
         stands = record {
           past = (stands.past, precise, found.1);
           state = alike;
-          size = size_next g h k j.at.size r q stands same free d.size;
+          size = size_next g h k j.pipeline.size r q stands same free d.size;
           cache = cache;
           lands = lands;
           shaded = issued_shaded g h before.machine after.machine r q d.need stands found.1 same precise come need
               d.issued alike cache;
           early = omega (arith, wait, early, turn, come, in_time);
-          paced = issued_paced k j d.need (action_done q) (left_after g rs)
+          paced = issued_paced k.pipeline j.pipeline d.need (action_done q) (left_after g rs)
               (left_after g (r ∷ rs)) d.issued none less stands.paced;
           due = d.due ∙ due_alike r q same;
-          length = (λ i. (keeps i).at.length) ∙ stands.length;
+          length = (λ i. (keeps i).length) ∙ stands.length;
           sets = (λ i. (keeps i).sets) ∙ stands.sets;
           ended = (λ i. (keeps i).ended) ∙ stands.ended;
           over = tt;
@@ -237,11 +242,11 @@ module _ (g : Given) (h : List Item) (before after : Progress) (x y : ℕ) (stan
     answers = answers;
     is_end = is_end;
     now = at_turn;
-    turn = λ i. (d.contents i).turn;
+    turn = λ i. (d.contents i).pipeline.turn;
     stands = subst (Stand g h (Some f)) (sym d.contents) (ended_stands g h was.contents f is_end stands);
     follows = follows_end g h before.plan after.plan f follows d.behind;
     lines = d.lines ∙ ap (λ (ls : List Shown). map shown_of before.lines ++ ls)
-        (end_alike (state_after g (records_of h)) was.contents.at.state f stands.state);
+        (end_alike (state_after g (records_of h)) was.contents.pipeline.state f stands.state);
   }
 
   ended_run : (e : End) → (ahead g h).imprecise ≡ None → Ended was e now → EndsRun g h e before after
@@ -255,7 +260,7 @@ module _ (g : Given) (h : List Item) (before after : Progress) (x y : ℕ) (stan
   refused : Refused was now → IsRefused g h before after
   refused d = record {
     now = at_turn;
-    turn = λ i. (d.same i).contents.turn;
+    turn = λ i. (d.same i).contents.pipeline.turn;
     stands = subst (λ (s : Stage). Stand g h None s.contents) (sym d.same) stands;
     follows = subst (λ (s : Stage). Follows g h s.plan) (sym d.same) follows;
     lines = λ i. (d.same i).lines;

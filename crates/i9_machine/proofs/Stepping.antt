@@ -28,12 +28,13 @@ use Rattle.i9_model.specs.declared.run.Due.TheVariants as dues
 use Rattle.i9_processor.specs.declared.effect.Effect.{Effect}
 use Rattle.i9_processor.specs.Effect.{writes_in, HasRoomFor, has_writes, is_restart}
 use Rattle.i9_processor.proofs.Rooms.{room_space}
-use Rattle.i9_machine.specs.Doing.{state_behind_of, lines_of, asks_room, plan_behind_event, point_count, bytes_count, reached_lines, reached_count, event_in, line_count, HasRoomForStep, next_event}
+use Rattle.i9_pipeline.specs.Issuing.{state_behind}
+use Rattle.i9_machine.specs.Doing.{lines_of, asks_room, plan_behind_event, point_count, bytes_count, reached_lines, reached_count, event_in, line_count, HasRoomForStep, next_event}
 use Rattle.i9_machine.specs.declared.step.Step.{Step}
 use Rattle.i9_model.specs.declared.run.End.{End}
 use Rattle.i9_machine.specs.declared.line.Turn.{Turn}
 use Rattle.i9_machine.specs.declared.line.Turn.TheVariants as turns
-use Rattle.i9_machine.specs.Contents.{Situation, Contents, moved_to}
+use Rattle.i9_machine.specs.Contents.{Situation, situation_in, Contents, at_turn}
 use Rattle.i9_machine.specs.Step.{TellsRecord, NeedsRoom, LeavesFewer, IsStepIn, IsStep, HasRoomToDo, HasRoom, turn_at, event_for, next_where, next_for, event_of, plan_behind, records_left, left_from, Stage, next_of, left_of, Did, Steps}
 use Rattle.i9_machine.specs.Opening.{IsFreeToIssue}
 use Rattle.i9_course.specs.Course.{instruction_ahead}
@@ -67,29 +68,31 @@ unfolding left_in
 left_alike l ts d s t alike = ap (left_in l ts d) alike.rest
 
 -- a step leaves less
-pub did_fewer : (before after : Stage) (r : Record) → before.contents.at.state.count ≤ before.contents.at.length
-    → next_of before ≡ Does r → AreAlike r.after after.contents.at.state
-    → after.contents.at.due ≡ due_by r.kind r.before → after.contents.at.length ≡ before.contents.at.length
-    → after.plan ≡ plan_behind before.plan r → after.contents.turn ≡ before.contents.turn
+pub did_fewer : (before after : Stage) (r : Record) → before.contents.pipeline.state.count ≤ before.contents.length
+    → next_of before ≡ Does r → AreAlike r.after after.contents.pipeline.state
+    → after.contents.due ≡ due_by r.kind r.before → after.contents.length ≡ before.contents.length
+    → after.plan ≡ plan_behind before.plan r → after.contents.pipeline.turn ≡ before.contents.pipeline.turn
     → left_of after < left_of before
 unfolding left_from
 did_fewer before after r within is alike due bound behind turn =
-    let at = before.contents.at in
+    let at = situation_in before.contents in
     let was = before.plan in
     let leaves = next_leaves at.length was.events was.place at.due (event_for at was) at.state r
     (standing_by_place was.events was.place at.state.count (turn_at at)) is in
-    let same : records_left after.contents.at after.plan ≡ left_in at.length (plan_after was.events was.place r)
+    let same : records_left (situation_in after.contents) after.plan ≡ left_in at.length
+    (plan_after was.events was.place r)
     (due_by r.kind r.before) r.after =
-    (λ i. left_in (bound i) (drop (behind i).place (behind i).events) (due i) after.contents.at.state)
+    (λ i. left_in (bound i) (drop (behind i).place (behind i).events) (due i) after.contents.pipeline.state)
     ∙ left_alike at.length (plan_after was.events was.place r)
-    (due_by r.kind r.before) r.after after.contents.at.state alike in
-    let less : records_left after.contents.at after.plan < records_left at was = subst (λ (n : ℕ). n < records_left at
+    (due_by r.kind r.before) r.after after.contents.pipeline.state alike in
+    let less : records_left (situation_in after.contents) after.plan < records_left at was = subst
+    (λ (n : ℕ). n < records_left at
     was) (sym same) (leaves.less within) in
     omega (arith, less, turn)
 
 -- a move of the turn leaves less
-pub move_fewer : (k : Contents) (plan : Plan) → k.turn < 2 ^ 62
-    → left_from (moved_to (k.turn + 1) k) plan < left_from k plan
+pub move_fewer : (k : Contents) (plan : Plan) → k.pipeline.turn < 2 ^ 62
+    → left_from (at_turn (k.pipeline.turn + 1) k) plan < left_from k plan
 unfolding left_from
 move_fewer k plan early = omega (arith, early)
 
@@ -220,11 +223,11 @@ module _ (at : Situation) (plan : Plan) (step : Step) (need : Need) (e : Effect)
       (sym (reached_one is.kind at.state))
 
   -- so is the state
-  pub step_after : state_behind_of at.state e step ≡ r.after
+  pub step_after : state_behind at.state e step.counts ≡ r.after
   step_after = λ i. counted (is.counts i) (acted at.state (is.effect.same i))
 
   -- its lines are those of its record
-  pub step_lines : lines_of e step (event_in plan step) at.state (state_behind_of at.state e step) ≡ record_lines r
+  pub step_lines : lines_of e step (event_in plan step) at.state (state_behind at.state e step.counts) ≡ record_lines r
   step_lines =
       let event = ap (λ (o : Option Event). reached_lines o at.state) is.event ∙ sym
       (event_lines_of is.kind at.state) in
@@ -235,12 +238,12 @@ module _ (at : Situation) (plan : Plan) (step : Step) (need : Need) (e : Effect)
   record_long =
       let event = reached_lines (event_in plan step) at.state in
       let out = out_lines (console_byte (writes_in e)) in
-      let points = point_lines step.point (state_behind_of at.state e step) in
+      let points = point_lines step.point (state_behind at.state e step.counts) in
       ap length (sym step_lines)
       ∙ length-append event (out ++ points)
       ∙ (λ i. reached_long (event_in plan step) at.state i + length-append out points i)
       ∙ ap (λ (n : ℕ). reached_count (event_in plan step) + (length out + n))
-      (points_long step.point (state_behind_of at.state e step))
+      (points_long step.point (state_behind at.state e step.counts))
 
   -- what it asks room for is what its record needs it for
   pub step_needs : asks_room at.state e step (event_in plan step) ≡ true → NeedsRoom (next_for at plan)

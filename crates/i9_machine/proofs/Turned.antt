@@ -17,22 +17,20 @@ use Rattle.i9_model.specs.Turns.{last_issue}
 use Rattle.i9_turns.proofs.LateRegisters.{cell-busy}
 use Rattle.i9_course.specs.Course.{Item, Step, records_of, course, comes_next}
 use Rattle.i9_regs.proofs.Shown.{landed_busy}
-use Rattle.i9_processor.specs.State.{cells_of, bytes_of, queue_of}
-use Rattle.i9_raw.specs.Raw.{raw_memory}
+use Rattle.i9_pipeline.specs.Raw.{raw_memory, standing}
 use Rattle.i9_course.proofs.Orderly.{registers_settle}
-use Rattle.i9_raw.proofs.Landed.{course_shows, flushed_raw}
-use Rattle.i9_shade.specs.Shade.{shown}
+use Rattle.i9_pipeline.proofs.Landed.{course_shows, flushed_raw}
 use Rattle.i9_machine.specs.declared.line.Line.{Line}
 use Rattle.i9_machine.specs.declared.line.Raw.{Raw}
 use Rattle.i9_machine.specs.declared.line.Turn.{Turn}
 use Rattle.i9_machine.specs.declared.line.Turn.TheVariants as answers
 use Rattle.i9_machine.specs.declared.machine.Machine.{Machine}
-use Rattle.i9_machine.specs.Contents.{contents_of, kernel_of}
-use Rattle.i9_machine.specs.Issuing.{IsQuiet}
+use Rattle.i9_pipeline.specs.Flow.{kernel_of, IsQuiet}
+use Rattle.i9_machine.specs.Contents.{Contents, contents_of}
 use Rattle.i9_machine.specs.Line.{AddsLines, shown_of}
 use Rattle.i9_machine.specs.Progress.{Progress}
 use Rattle.i9_machine.specs.Raw.{raw_at, IsFlushed, IsLevel}
-use Rattle.i9_machine.specs.StandsFor.{StandsFor, Follows, IsUnderWay, MovesOn, DoesNext, EndsRun, IsRefused, Advances}
+use Rattle.i9_machine.specs.StandsFor.{Stand, StandsFor, Follows, IsUnderWay, MovesOn, DoesNext, EndsRun, IsRefused, Advances}
 use Rattle.i9_machine.specs.NewPages.{AddsNextOnly, AddsRecordsOnly, with_next}
 use Rattle.i9_machine.proofs.NewPages.{no_records, more_pages}
 use Rattle.i9_machine.specs.Turned.{steps_on, Since, TurnsOn, EndsTurn, StopsTurn}
@@ -52,7 +50,8 @@ same_lines old mid new xs first same = ap (map shown_of) same ∙ first
 -- records were done since a machine, and a page that is new is one of them
 abbrev pub SinceOnly : Given → List Item → Progress → Progress → Type 0
 SinceOnly g h before after =
-    (since : Since g h before after) × AddsRecordsOnly before.machine.processor after.machine.processor since.done
+    (since : Since g h before after) × AddsRecordsOnly before.machine.pipeline.processor
+    after.machine.pipeline.processor since.done
 
 pub none_done : (g : Given) (h : List Item) (at : Progress) → StandsFor g h None at.machine → Follows g h at.plan
     → SinceOnly g h at at
@@ -64,19 +63,22 @@ none_done g h at stands follows = (
     follows = follows;
     lines = sym (append-nil (map shown_of at.lines));
   },
-  no_records at.machine.processor,
+  no_records at.machine.pipeline.processor,
 )
 
 module _ (g : Given) (h : List Item) (before mid : Progress) (held : SinceOnly g h before mid) (after : Progress)
-    (only : AddsNextOnly mid.machine.processor after.machine.processor (comes_next g (steps_on held.0.done h))) where
+    (only : AddsNextOnly mid.machine.pipeline.processor after.machine.pipeline.processor
+    (comes_next g (steps_on held.0.done h))) where
   abbrev since : Since g h before mid
   since = held.0
 
   abbrev items : List Item
   items = steps_on since.done h
 
-  pages : AddsRecordsOnly before.machine.processor after.machine.processor (with_next (comes_next g items) since.done)
-  pages = more_pages before.machine.processor mid.machine.processor after.machine.processor since.done
+  pages : AddsRecordsOnly before.machine.pipeline.processor after.machine.pipeline.processor
+      (with_next (comes_next g items) since.done)
+  pages = more_pages before.machine.pipeline.processor mid.machine.pipeline.processor
+      after.machine.pipeline.processor since.done
       (comes_next g items) held.1 only
 
   -- one more
@@ -90,14 +92,15 @@ module _ (g : Given) (h : List Item) (before mid : Progress) (held : SinceOnly g
       lines = more_lines before.lines mid.lines after.lines (lines_of since.done)
           (record_lines d.done) since.lines d.lines;
     },
-    subst (λ (n : Next). AddsRecordsOnly before.machine.processor after.machine.processor (with_next n since.done))
+    subst (λ (n : Next). AddsRecordsOnly before.machine.pipeline.processor after.machine.pipeline.processor
+        (with_next n since.done))
         d.is_next pages,
   )
 
   -- the turn moves
   pub turns_since : MovesOn g items mid after → TurnsOn g h before after
   turns_since d =
-      let turn : after.machine.turn ≡ mid.machine.turn + 1 = d.turn in
+      let turn : after.machine.pipeline.turn ≡ mid.machine.pipeline.turn + 1 = d.turn in
       let begun = since.stands.lands.begun in
       record {
         done = since.done;
@@ -141,16 +144,17 @@ module _ (g : Given) (h : List Item) (before mid : Progress) (held : SinceOnly g
   }
 
   -- where the turn has risen it moved, and else an event or an entry was done
-  pub risen_since : Advances g items answers.On mid after → (after.machine.turn ≡ before.machine.turn → ⊥)
+  pub risen_since : Advances g items answers.On mid after
+      → (after.machine.pipeline.turn ≡ before.machine.pipeline.turn → ⊥)
       → TurnsOn g h before after
   risen_since (inl moves) risen = turns_since moves
   risen_since (inr does) risen = absurd (risen (does.turn ∙ since.turn))
 
-  pub still_since : Advances g items answers.On mid after → after.machine.turn ≡ before.machine.turn
+  pub still_since : Advances g items answers.On mid after → after.machine.pipeline.turn ≡ before.machine.pipeline.turn
       → SinceOnly g h before after
   still_since (inl moves) still =
-      let turn : after.machine.turn ≡ mid.machine.turn + 1 = moves.turn in
-      let was_turn : mid.machine.turn ≡ before.machine.turn = since.turn in
+      let turn : after.machine.pipeline.turn ≡ mid.machine.pipeline.turn + 1 = moves.turn in
+      let was_turn : mid.machine.pipeline.turn ≡ before.machine.pipeline.turn = since.turn in
       absurd (omega (arith, turn, was_turn, still))
   still_since (inr does) still = does_since answers.On does
 
@@ -186,46 +190,52 @@ same_set (suc n) p q same =
     ap (λ (b : Bool). set_below n p + cond b (2 ^ n) 0) (same n (omega arith))
     ∙ ap (λ (x : ℕ). x + cond (q n) (2 ^ n) 0) (same_set n p q (λ r lt. same r (omega (arith, lt))))
 
-pub shows_of : (g : Given) (h : List Item) (end : Option Finish) (m : Machine) → StandsFor g h end m
-    → Shows (boot g.image) m.turn (course g h).late (kernel_of (contents_of m)).cells (bytes_of m.processor)
-    (queue_of m.processor)
-shows_of g h None m stands = stands.lands.shows
-shows_of g h (Some f) m stands = stands.lands.shows
+pub shows_of : (g : Given) (h : List Item) (end : Option Finish) (k : Contents) → Stand g h end k
+    → Shows (boot g.image) k.pipeline.turn (course g h).late (kernel_of k.pipeline).cells k.pipeline.bytes
+    k.pipeline.queue
+shows_of g h None k stands = stands.lands.shows
+shows_of g h (Some f) k stands = stands.lands.shows
 
-begun_of : (g : Given) (h : List Item) (end : Option Finish) (m : Machine) → StandsFor g h end m
-    → last_issue (late_turns (course g h).late) ≤ m.turn
-begun_of g h None m stands = stands.lands.begun
-begun_of g h (Some f) m stands = stands.lands.begun
+begun_of : (g : Given) (h : List Item) (end : Option Finish) (k : Contents) → Stand g h end k
+    → last_issue (late_turns (course g h).late) ≤ k.pipeline.turn
+begun_of g h None k stands = stands.lands.begun
+begun_of g h (Some f) k stands = stands.lands.begun
 
-pub raw_is : (g : Given) (h : List Item) (end : Option Finish) (m : Machine) (raw : Raw) → StandsFor g h end m
-    → raw.turn ≡ m.turn → raw.regs ≡ register_list (λ r. (landed m.turn (cells_of m.processor r)).value)
-    → raw.busy ≡ set_below 32 (λ r. is_plan_open m.turn (cells_of m.processor r).plan) → raw ≡ raw_at g h m.turn
-raw_is g h end m raw stands turn regs busy =
-    let shows = shows_of g h end m stands in
+pub raw_is : (g : Given) (h : List Item) (end : Option Finish) (k : Contents) (raw : Raw) → Stand g h end k
+    → raw.turn ≡ k.pipeline.turn → raw.regs ≡ register_list (λ r. (landed k.pipeline.turn (k.pipeline.cells r)).value)
+    → raw.busy ≡ set_below 32 (λ r. is_plan_open k.pipeline.turn (k.pipeline.cells r).plan)
+    → raw ≡ raw_at g h k.pipeline.turn
+raw_is g h end k raw stands turn regs busy =
+    let shows = shows_of g h end k stands in
     let late = (course g h).late in
     let first = boot g.image in
-    let values = regs ∙ same_list (λ r. (landed m.turn (cells_of m.processor r)).value) (raw_value first m.turn late)
+    let values = regs ∙ same_list (λ r. (landed k.pipeline.turn (k.pipeline.cells r)).value)
+    (raw_value first k.pipeline.turn late)
     (λ r lt. ap (λ (c : Cell). c.value) (shows.registers r (omega (arith, lt)))) in
-    let marks = busy ∙ same_set 32 (λ r. is_plan_open m.turn (cells_of m.processor r).plan) (is_busy m.turn late)
-    (λ r lt. sym (landed_busy m.turn (cells_of m.processor r)) ∙ ap (λ (c : Cell). is_plan_open m.turn c.plan)
-    (shows.registers r (omega (arith, lt))) ∙ cell-busy m.turn r late) in
+    let marks = busy ∙ same_set 32 (λ r. is_plan_open k.pipeline.turn (k.pipeline.cells r).plan)
+    (is_busy k.pipeline.turn late)
+    (λ r lt. sym (landed_busy k.pipeline.turn (k.pipeline.cells r)) ∙ ap
+    (λ (c : Cell). is_plan_open k.pipeline.turn c.plan)
+    (shows.registers r (omega (arith, lt))) ∙ cell-busy k.pipeline.turn r late) in
     λ i. record { turn = turn i; regs = values i; busy = marks i }
 
 -- a byte of raw memory
-pub raw_byte_is : (g : Given) (h : List Item) (end : Option Finish) (m : Machine) (a : ℕ) → StandsFor g h end m
-    → unwrap_or (shown m.shade a m.turn) (bytes_of m.processor a) ≡ raw_memory (boot g.image).memory.bytes m.turn
-    (course g h).late a
-raw_byte_is g h end m a stands =
-    let shows = shows_of g h end m stands in
-    ap (λ (f : ℕ → ℕ). unwrap_or (shown m.shade a m.turn) (f a)) shows.memory
-    ∙ course_shows g h m.turn m.shade a (begun_of g h end m stands) stands.shaded
+pub raw_byte_is : (g : Given) (h : List Item) (end : Option Finish) (k : Contents) (a : ℕ) → Stand g h end k
+    → standing k.pipeline.shade k.pipeline.turn k.pipeline.bytes a
+    ≡ raw_memory (boot g.image).memory.bytes k.pipeline.turn (course g h).late a
+raw_byte_is g h end k a stands =
+    let shows = shows_of g h end k stands in
+    ap (λ (f : ℕ → ℕ). standing k.pipeline.shade k.pipeline.turn f a) shows.memory
+    ∙ course_shows g h k.pipeline.turn k.pipeline.shade a (begun_of g h end k stands) stands.shaded
 
 -- where nothing is open and no frame is live
-pub raw_byte_flushed : (g : Given) (h : List Item) (end : Option Finish) (m : Machine) (a : ℕ) → StandsFor g h end m
-    → IsFlushed g h m.turn a
-    → unwrap_or (shown m.shade a m.turn) (bytes_of m.processor a) ≡ (state_after g (records_of h)).memory.bytes a
-raw_byte_flushed g h end m a stands flushed =
-    raw_byte_is g h end m a stands ∙ flushed_raw g h m.turn a stands.past flushed.done flushed.live flushed.hard
+pub raw_byte_flushed : (g : Given) (h : List Item) (end : Option Finish) (k : Contents) (a : ℕ) → Stand g h end k
+    → IsFlushed g h k.pipeline.turn a
+    → standing k.pipeline.shade k.pipeline.turn k.pipeline.bytes a
+    ≡ (state_after g (records_of h)).memory.bytes a
+raw_byte_flushed g h end k a stands flushed =
+    raw_byte_is g h end k a stands ∙ flushed_raw g h k.pipeline.turn a stands.past flushed.done flushed.live
+    flushed.hard
 
 -- ---- where nothing is planned
 
@@ -240,20 +250,20 @@ none_in (suc n) p none =
 is_register : (s : State) (r : ℕ) → r < 32 → resource s r ≡ s.regs r
 is_register s r lt = cond-false (r == CONDITION_CODE) (s.ac % 8) (s.regs r) (grind (arith, nat_tests, lt))
 
-pub level_is : (g : Given) (h : List Item) (end : Option Finish) (m : Machine) → StandsFor g h end m → IsQuiet m
-    → IsLevel g h m.turn
-level_is g h end m stands quiet =
-    let shows = shows_of g h end m stands in
+pub level_is : (g : Given) (h : List Item) (end : Option Finish) (k : Contents) → Stand g h end k → IsQuiet k.pipeline
+    → IsLevel g h k.pipeline.turn
+level_is g h end k stands quiet =
+    let shows = shows_of g h end k stands in
     let late = (course g h).late in
     let first = boot g.image in
     let s = state_after g (records_of h) in
     let none = λ (r : ℕ) (lt : r < 32).
     ap (λ (c : Cell). c.plan) (sym (shows.registers r (omega (arith, lt)))) ∙ quiet.planned r (omega (arith, lt)) in
     record {
-      registers = same_list (raw_value first m.turn late) s.regs (λ r lt.
-          sym (ap (λ (p : Option (ℕ × ℕ)). latest_value p (raw_value first m.turn late r)) (none r lt))
-          ∙ registers_settle g h m.turn r stands.past (begun_of g h end m stands) (omega (arith, lt))
+      registers = same_list (raw_value first k.pipeline.turn late) s.regs (λ r lt.
+          sym (ap (λ (p : Option (ℕ × ℕ)). latest_value p (raw_value first k.pipeline.turn late r)) (none r lt))
+          ∙ registers_settle g h k.pipeline.turn r stands.past (begun_of g h end k stands) (omega (arith, lt))
           ∙ is_register s r lt);
-      free = none_in 32 (is_busy m.turn late) (λ r lt.
-          sym (cell-busy m.turn r late) ∙ ap (is_plan_open m.turn) (none r lt));
+      free = none_in 32 (is_busy k.pipeline.turn late) (λ r lt.
+          sym (cell-busy k.pipeline.turn r late) ∙ ap (is_plan_open k.pipeline.turn) (none r lt));
     }

@@ -12,12 +12,10 @@ use Rattle.i9_model.specs.Turns as board
 use Rattle.i9_turns.proofs.TurnOpen.{open-all_done}
 use Rattle.i9_turns.proofs.TurnPending.{stands-pending_turn}
 use Rattle.i9_model.specs.Late.{turns}
-use Rattle.i9_regs.proofs.Shown.{landed_later}
 use Rattle.i9_issue.specs.Room.{IsEarly}
 use Rattle.i9_schedule.specs.Plan.{Plan}
 use Rattle.i9_course.specs.NeedOf.{need_of, need_ahead}
 use Rattle.i9_course.specs.Course.{Item, records_of, course, need_after, issue_of_next, event_ahead, comes_next, ahead, issue_after, instruction_ahead, instruction_turn}
-use Rattle.i9_course.specs.Kernel.{MovesTo}
 use Rattle.i9_course.proofs.Ahead.{ahead_by_end, ahead_precise}
 use Rattle.i9_course.proofs.Barriers.{next_barrier, next_by_end}
 use Rattle.i9_course.proofs.Checks.{checked_waits}
@@ -29,8 +27,11 @@ use Rattle.i9_agree.proofs.AlikeSteps.{does_alike}
 use Rattle.i9_agree.proofs.HeldRuns.{next_free}
 use Rattle.i9_machine.specs.declared.line.Line.{Line}
 use Rattle.i9_machine.specs.declared.machine.Machine.{Machine}
-use Rattle.i9_machine.specs.Contents.{Situation, Contents, contents_of, kernel_of, moved_to, settled_to, IsMovedTo}
-use Rattle.i9_machine.specs.Issuing.{most_turns, IsPaced, IsEndTurn}
+use Rattle.i9_pipeline.specs.Flow.{kernel_of, moved_to, IsEndTurn}
+use Rattle.i9_pipeline.specs.Issuing.{most_turns}
+use Rattle.i9_pipeline.proofs.Moving.{moves_to}
+use Rattle.i9_machine.specs.Contents.{Situation, situation_in, Contents, contents_of, at_turn, IsMovedTo}
+use Rattle.i9_machine.specs.Issuing.{IsPaced}
 use Rattle.i9_machine.specs.Step.{need_at, turn_at, next_where, next_for, event_for}
 use Rattle.i9_machine.specs.StandsFor.{Stand, StandsFor, Follows, IsUnderWay, MovesOn, left_after}
 use Rattle.i9_machine.specs.Opening.{IsFreeToIssue, NextWaits, IsTimely}
@@ -59,32 +60,22 @@ ended_by p rs b stands done =
     let is : AreAllDone rs b = open-all_done rs b (subst (λ (q : Pending). IsAllDone q b) stands.pending done) in
     done_least (last_issue rs) rs b is.in_order is.done
 
--- what shows at a later turn is what showed, landed by then
-pub moves_to : (t floor : ℕ) (k : Contents) → k.turn ≤ t → MovesTo t (kernel_of k) (kernel_of (settled_to t floor k))
-moves_to t floor k le = record {
-  board = refl;
-  turn = refl;
-  done = refl;
-  cells = λ r lt. sym (landed_later k.turn t (k.cells r) le);
-  bytes = refl;
-  queue = refl;
-}
-
 -- to a turn below which nothing comes next, so that what is paced stays so
-pub moved_stands : (g : Given) (h : List Item) (t : ℕ) (k : Contents) (wait : ℕ) → Stand g h None k → k.turn ≤ t
-    → t ≤ (ahead g h).turn → wait ≤ (ahead g h).turn → Stand g h None (record (moved_to t k) { wait = wait })
+pub moved_stands : (g : Given) (h : List Item) (t : ℕ) (k : Contents) (wait : ℕ) → Stand g h None k
+    → k.pipeline.turn ≤ t
+    → t ≤ (ahead g h).turn → wait ≤ (ahead g h).turn → Stand g h None (record (at_turn t k) { wait = wait })
 moved_stands g h t k wait stands later within bound =
     let p = stands.paced in
     let by_end : (ahead g h).turn ≤ end_turn (turns (course g h).late) = ahead_by_end g h in
-    let ended : end_turn (turns (course g h).late) ≤ p.bound = ended_by k.at.board
+    let ended : end_turn (turns (course g h).late) ≤ p.bound = ended_by k.pipeline.board
     (turns (course g h).late) p.bound stands.lands.board p.done in
     record {
       past = stands.past;
       state = stands.state;
       size = stands.size;
       cache = stands.cache;
-      lands = moves_lands g h t (kernel_of k) (kernel_of (moved_to t k)) stands.lands later within
-          (moves_to t k.at.floor k later) refl;
+      lands = moves_lands g h t (kernel_of k.pipeline) (kernel_of (moved_to t k.pipeline)) stands.lands later within
+          (moves_to t k.pipeline.floor k.pipeline later) refl;
       shaded = stands.shaded;
       early = bound;
       paced = record {
@@ -104,14 +95,14 @@ moved_stands g h t k wait stands later within bound =
 
 -- by one
 pub moved : (g : Given) (h : List Item) (before m : Machine) (plan : Plan) (lines : List Line) (wait : ℕ)
-    → StandsFor g h None before → Follows g h plan → before.turn < wait → wait ≤ (ahead g h).turn
-    → IsMovedTo (before.turn + 1) (record before { wait = wait }) m
+    → StandsFor g h None before → Follows g h plan → before.pipeline.turn < wait → wait ≤ (ahead g h).turn
+    → IsMovedTo (before.pipeline.turn + 1) (record before { wait = wait }) m
     → MovesOn g h (progress before plan lines) (progress m plan lines)
 moved g h before m plan lines wait stands follows later bound i = record {
   early = omega (arith, later, bound);
-  turn = λ j. (i j).turn;
+  turn = λ j. (i j).pipeline.turn;
   stands = subst (Stand g h None) (sym i)
-      (moved_stands g h (before.turn + 1) (contents_of before) wait stands (omega arith)
+      (moved_stands g h (before.pipeline.turn + 1) (contents_of before) wait stands (omega arith)
       (omega (arith, later, bound)) bound);
   follows = follows;
   lines = refl;
@@ -121,25 +112,26 @@ moved g h before m plan lines wait stands follows later bound i = record {
 pub has_pace : (m : Machine) (plan : Plan) → IsUnderWay m plan → HasPace (contents_of m)
 has_pace m plan u = (left_after u.given (records_of u.items), u.stands.paced)
 
-pub paced_turn : (k : Contents) → HasPace k → k.turn < 2 ^ 62
+pub paced_turn : (k : Contents) → HasPace k → k.pipeline.turn < 2 ^ 62
 paced_turn k pace =
     let p = pace.1 in
     let far : p.bound + 2 ^ 8 * pace.0 < 2 ^ 62 = p.far in
-    let turn : k.turn ≤ p.bound = p.now in
+    let turn : k.pipeline.turn ≤ p.bound = p.now in
     omega (arith, far, turn)
 
 -- ---- turns stay small
 
 -- a need behind the last fence is early enough for the scoreboard
-pub paced_early : (k : Contents) (left : ℕ) (need : Need) → IsPaced k.at.board k.turn k.at.floor left
-    → need.not_before ≡ 0 → need.cost ≤ most_turns → IsEarly k.at.board (waiting_until k.at.floor need)
+pub paced_early : (k : Contents) (left : ℕ) (need : Need)
+    → IsPaced k.pipeline.board k.pipeline.turn k.pipeline.floor left
+    → need.not_before ≡ 0 → need.cost ≤ most_turns → IsEarly k.pipeline.board (waiting_until k.pipeline.floor need)
 paced_early k left need p none cost =
     let far : p.bound + 2 ^ 8 * left < 2 ^ 62 = p.far in
-    let in_order : k.at.board.last ≤ p.bound = p.done.in_order in
-    let floor : k.at.floor ≤ p.bound = p.fence in
+    let in_order : k.pipeline.board.last ≤ p.bound = p.done.in_order in
+    let floor : k.pipeline.floor ≤ p.bound = p.fence in
     record {
       last = omega (arith, far, in_order);
-      done = below k.at.board.records p.done.done;
+      done = below k.pipeline.board.records p.done.done;
       waited = omega (arith, far, floor, none);
       cost = omega (arith, cost);
     }
@@ -158,7 +150,8 @@ waiting_cost t need h = record { some = h.some; plain = h.plain }
 -- ---- the turn of what comes next
 
 -- what waits for all comes when all is done
-pub waits_until : (k : Contents) (plan : Plan) (until : ℕ) → IsEndTurn k.at.board until → NextWaits k.at plan
+pub waits_until : (k : Contents) (plan : Plan) (until : ℕ) → IsEndTurn k.pipeline.board until
+    → NextWaits (situation_in k) plan
     → (g : Given) (h : List Item) → Stand g h None k → Follows g h plan → (ahead g h).imprecise ≡ None
     → until ≤ (ahead g h).turn
 waits_until k plan until end (inl check) g h stands follows precise =
@@ -172,7 +165,7 @@ waits_until k plan until end (inr held) g h stands follows precise =
     let rs = turns (course g h).late in
     let is : until ≡ end_turn rs = end rs stands.lands.board in
     let o = comes_next g h in
-    let need = next_need_alike g.sets (cache_after g (records_of h)) o (next_for k.at plan)
+    let need = next_need_alike g.sets (cache_after g (records_of h)) o (next_for (situation_in k) plan)
     (beside g h k plan stands follows) in
     let barrier : IsTrue (need_after g h o).barrier = sym (ap (λ (n : Need). n.barrier) need) ∙ held g.sets
     (cache_after g (records_of h)) in
@@ -182,19 +175,19 @@ waits_until k plan until end (inr held) g h stands follows precise =
 
 -- an instruction comes at the turn that the scoreboard gives its need
 pub comes_at : (j : Contents) (plan : Plan) (k : Kind) (need : Need) (t : ℕ)
-    → next_for j.at plan ≡ Does (record_of k j.at.state)
-    → need ≡ need_of j.at.size j.at.cache j.at.state k
-    → ((rs : List TimedNeed) → board.StandsFor j.at.board rs
-    → t ≡ issue_turn (last_issue rs) rs (waiting_until j.at.floor need))
+    → next_for (situation_in j) plan ≡ Does (record_of k j.pipeline.state)
+    → need ≡ need_of j.pipeline.size j.pipeline.cache j.pipeline.state k
+    → ((rs : List TimedNeed) → board.StandsFor j.pipeline.board rs
+    → t ≡ issue_turn (last_issue rs) rs (waiting_until j.pipeline.floor need))
     → (g : Given) (h : List Item) → Stand g h None j → Follows g h plan → (ahead g h).imprecise ≡ None
     → t ≡ (ahead g h).turn
 comes_at j plan k need t is_next is_need turn g h stands follows precise =
     let rs = turns (course g h).late in
-    let found = does_alike (comes_next g h) (next_for j.at plan) (record_of k j.at.state)
+    let found = does_alike (comes_next g h) (next_for (situation_in j) plan) (record_of k j.pipeline.state)
     (beside g h j plan stands follows) is_next in
     let run = next_free g.length (due_after (records_of h)) (event_ahead g h)
     (state_after g (records_of h)) found.0 found.1 in
-    let same = same_need g h j found.0 (record_of k j.at.state) need stands found.2
+    let same = same_need g h j found.0 (record_of k j.pipeline.state) need stands found.2
     (ap (λ (x : Record). x.before) run.0) refl is_need in
     turn rs stands.lands.board
     ∙ ap (λ (f : ℕ). issue_turn (last_issue rs) rs (waiting_until f need)) stands.lands.fence
@@ -212,40 +205,44 @@ open_turn at k need t rs stands free is_next is_need turn =
     ∙ ap (λ (n : Need). issue_turn at.board.last at.board.records (waiting_until at.floor n)) same
 
 -- where nothing is open, what comes next may issue, and nothing waits
-pub all_now : (g : Given) (h : List Item) (k : Contents) (until : ℕ) → IsEndTurn k.at.board until → until ≤ k.turn
-    → Stand g h None k → ((ahead g h).imprecise ≡ None) × ((ahead g h).turn ≤ k.turn)
+pub all_now : (g : Given) (h : List Item) (k : Contents) (until : ℕ) → IsEndTurn k.pipeline.board until
+    → until ≤ k.pipeline.turn
+    → Stand g h None k → ((ahead g h).imprecise ≡ None) × ((ahead g h).turn ≤ k.pipeline.turn)
 all_now g h k until end le stands =
     let is : until ≡ end_turn (turns (course g h).late) = end (turns (course g h).late) stands.lands.board in
     let by_end : (ahead g h).turn ≤ end_turn (turns (course g h).late) = ahead_by_end g h in
     (drained_precise g h k stands (omega (arith, is, le)), omega (arith, is, le, by_end))
 
-pub all_landed : (g : Given) (h : List Item) (k : Contents) (until : ℕ) → Stand g h None k → IsEndTurn k.at.board until
-    → until ≤ k.turn → k.queue ≡ []
+pub all_landed : (g : Given) (h : List Item) (k : Contents) (until : ℕ) → Stand g h None k
+    → IsEndTurn k.pipeline.board until
+    → until ≤ k.pipeline.turn → k.pipeline.queue ≡ []
 all_landed g h k until stands end le =
     let is : until ≡ end_turn (turns (course g h).late) = end (turns (course g h).late) stands.lands.board in
-    done_landed g h (kernel_of k) stands.lands (omega (arith, is, le))
+    done_landed g h (kernel_of k.pipeline) stands.lands (omega (arith, is, le))
 
 -- where the instruction comes next, it issues at its turn
 itself_issues : (g : Given) (h : List Item) (k : Contents) (plan : Plan) → Stand g h None k → Follows g h plan
-    → IsFreeToIssue k.at → event_for k.at plan ≡ None → issue_of_next g h (comes_next g h) ≡ instruction_turn g h
+    → IsFreeToIssue (situation_in k) → event_for (situation_in k) plan ≡ None
+    → issue_of_next g h (comes_next g h) ≡ instruction_turn g h
 itself_issues g h k plan stands follows free none =
     let c = cache_after g (records_of h) in
-    let same = next_need_alike g.sets c (comes_next g h) (next_for k.at plan) (beside g h k plan stands follows) in
+    let same = next_need_alike g.sets c (comes_next g h) (next_for (situation_in k) plan)
+    (beside g h k plan stands follows) in
     ap (issue_after (course g h))
     (sym same
-    ∙ ap (need_ahead g.sets c) (ap (next_where k.at) none ∙ goes_by_itself k.at free)
-    ∙ ahead_need g.sets c (state_after g (records_of h)) k.at.state (course_blind g h stands.past) stands.state)
+    ∙ ap (need_ahead g.sets c) (ap (next_where (situation_in k)) none ∙ goes_by_itself (situation_in k) free)
+    ∙ ahead_need g.sets c (state_after g (records_of h)) k.pipeline.state (course_blind g h stands.past) stands.state)
 
 pub is_timely : (g : Given) (h : List Item) (k : Contents) (plan : Plan) → Stand g h None k → Follows g h plan
-    → end_turn (turns (course g h).late) ≤ k.turn → IsTimely k.at k.turn plan
+    → end_turn (turns (course g h).late) ≤ k.pipeline.turn → IsTimely (situation_in k) k.pipeline.turn plan
 is_timely g h k plan stands follows ended =
-    let same : turn_at k.at ≡ instruction_turn g h = same_turn_at g h k stands in
+    let same : turn_at (situation_in k) ≡ instruction_turn g h = same_turn_at g h k stands in
     let by_end : instruction_turn g h ≤ end_turn (turns (course g h).late) = next_by_end g h
     (instruction_ahead (state_after g (records_of h))) in
     record {
       come = omega (arith, same, by_end, ended);
       early = λ free none.
-          let in_time : k.turn ≤ (ahead g h).turn = stands.lands.in_time in
+          let in_time : k.pipeline.turn ≤ (ahead g h).turn = stands.lands.in_time in
           let turn : (ahead g h).turn ≡ issue_of_next g h (comes_next g h) = ahead_precise g h
           (drained_precise g h k stands ended) in
           let itself : issue_of_next g h (comes_next g h) ≡ instruction_turn g h = itself_issues g h k plan stands

@@ -17,7 +17,7 @@ use Rattle.i9_machine.specs.declared.line.Turn.TheVariants as turns
 use Rattle.i9_machine.specs.declared.step.Coming.{Coming}
 use Rattle.i9_machine.specs.declared.step.Coming.TheVariants.{Waiting, Overtaking, Running, Faulting}
 use Rattle.i9_machine.specs.Contents.{Outlook, Contents}
-use Rattle.i9_machine.specs.Issuing.{IsEndTurn}
+use Rattle.i9_pipeline.specs.Flow.{IsEndTurn}
 use Rattle.i9_machine.specs.Opening.{IsFreeToIssue, HasNeed}
 use Rattle.i9_machine.specs.Overtaking.{late_due}
 use Rattle.i9_machine.specs.Step.{event_for, next_where, Stage, Finished, Refused, Steps}
@@ -40,7 +40,7 @@ pub record ArrivesAt (g : Given) (h : List Item) (now t : ℕ) (coming : Coming)
 -- whatever contents stand for
 abbrev pub Arrives : Contents → Plan → ℕ → Coming → Type 0
 Arrives k plan t coming = (g : Given) (h : List Item) → Stand g h None k → Follows g h plan
-    → ArrivesAt g h k.turn t coming
+    → ArrivesAt g h k.pipeline.turn t coming
 
 -- contents stand for the first items of some run, a schedule follows them, and the turn of what comes next has come
 pub record HasArrived (k : Contents) (plan : Plan) (coming : Coming) : Type 0 where
@@ -49,7 +49,7 @@ pub record HasArrived (k : Contents) (plan : Plan) (coming : Coming) : Type 0 wh
   pub stands : Stand given items None k
   pub follows : Follows given items plan
   pub imprecise : (ahead given items).imprecise ≡ overtaken_by coming
-  pub now : (ahead given items).turn ≤ k.turn
+  pub now : (ahead given items).turn ≤ k.pipeline.turn
 
 -- ---- what a machine has of it
 

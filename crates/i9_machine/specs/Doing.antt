@@ -79,25 +79,9 @@ pub record PlansLight (m : Machine) : Type 0 where
   pub effect : IsLight m.effect
   pub barrier : m.need.barrier ≡ false
 
--- its effect can be applied in a state, and its count fits a length
-pub record IsReady (s : State) (limit : ℕ) (e : Effect) (step : Step) : Type 0 where
-  pub registers : AreRegisters e
-  pub posts : CanPost e.posting
-  pub changes : CanChange e.dma
-  pub moves : CanMove s.frames e.frames
-  pub free : IsFree s (action_in s e)
-  pub controls : CanControl (moved s (action_in s e)) e.control
-  pub below : s.count + step.counts ≤ limit
-
--- the action that an effect is for a machine, and the state behind a step
+-- the action that an effect is for a machine
 abbrev pub action_for : Machine → Effect → Action
-action_for m e = action_in (state_of m.processor) e
-
-abbrev pub state_behind_of : State → Effect → Step → State
-state_behind_of s e step = counted step.counts (acted s (action_in s e))
-
-abbrev pub state_behind : Machine → Effect → Step → State
-state_behind m e step = state_behind_of (state_of m.processor) e step
+action_for m e = action_in (state_of m.pipeline.processor) e
 
 -- a schedule behind the event that is reached, where one is
 abbrev pub plan_behind_event : Plan → Bool → Plan

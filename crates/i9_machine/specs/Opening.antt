@@ -14,7 +14,7 @@ use Rattle.i9_plan.specs.declared.open.Open.TheVariants as opens
 use Rattle.i9_plan.specs.Kept.{inst_in}
 use Rattle.i9_plan.specs.Open.{NeedsAhead}
 use Rattle.i9_machine.specs.Contents.{Situation}
-use Rattle.i9_machine.specs.Issuing.{most_turns}
+use Rattle.i9_pipeline.specs.Issuing.{most_turns}
 use Rattle.i9_machine.specs.Step.{turn_at, event_for, next_for}
 
 -- nothing comes before the instruction at the instruction address but an event whose time has come

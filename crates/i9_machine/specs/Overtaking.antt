@@ -20,7 +20,7 @@ late_due at = if nat_lt at.state.count at.length then late_entry at.due else Non
 
 -- turns are small enough for the scoreboard, whatever is left of the run
 abbrev pub HasPace : Contents → Type 0
-HasPace k = (left : ℕ) × IsPaced k.at.board k.turn k.at.floor left
+HasPace k = (left : ℕ) × IsPaced k.pipeline.board k.pipeline.turn k.pipeline.floor left
 
 -- the turn at which the instruction at the instruction address would issue, as if no entry and no event stood before it
 abbrev pub IssuesAhead : Contents → ℕ → Type 0

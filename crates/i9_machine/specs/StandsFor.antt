@@ -14,12 +14,13 @@ use Rattle.i9_model.specs.Late.{Shows, turns as late_turns}
 use Rattle.i9_course.specs.Course.{Item, Step, records_of, course, last_done, comes_next, ahead, IsCourse}
 use Rattle.i9_course.specs.Kernel.{Kernel, Lands}
 use Rattle.i9_course.specs.PipelinedRun.{end_ahead}
-use Rattle.i9_raw.specs.Raw.{IsShaded}
+use Rattle.i9_pipeline.specs.Flow.{kernel_of}
+use Rattle.i9_pipeline.specs.Raw.{IsShaded}
 use Rattle.i9_machine.specs.declared.line.Line.{Line}
 use Rattle.i9_machine.specs.declared.line.Turn.{Turn}
 use Rattle.i9_machine.specs.declared.line.Turn.TheVariants as turns
 use Rattle.i9_machine.specs.declared.machine.Machine.{Machine}
-use Rattle.i9_machine.specs.Contents.{Contents, contents_of, kernel_of}
+use Rattle.i9_machine.specs.Contents.{Contents, contents_of}
 use Rattle.i9_machine.specs.Issuing.{IsPaced}
 use Rattle.i9_machine.specs.Line.{AddsLines}
 use Rattle.i9_machine.specs.Progress.{Progress}
@@ -75,15 +76,15 @@ IsInTime g h (Some f) wait = Unit {0}
 -- lies ahead as long as no end was answered; and what stood under an open barrier's writes is kept.
 pub record Stand (g : Given) (h : List Item) (end : Option Finish) (k : Contents) : Type 0 where
   pub past : IsCourse g h
-  pub state : AreAlike (state_after g (records_of h)) k.at.state
-  pub size : k.at.size ≡ sets_in g.sets (state_after g (records_of h))
-  pub cache : k.at.cache ≡ cache_after g (records_of h)
-  pub lands : IsLanding g h end (kernel_of k)
-  pub shaded : IsShaded (boot g.image).memory.bytes (course g h).late k.shade
+  pub state : AreAlike (state_after g (records_of h)) k.pipeline.state
+  pub size : k.pipeline.size ≡ sets_in g.sets (state_after g (records_of h))
+  pub cache : k.pipeline.cache ≡ cache_after g (records_of h)
+  pub lands : IsLanding g h end (kernel_of k.pipeline)
+  pub shaded : IsShaded (boot g.image).memory.bytes (course g h).late k.pipeline.shade
   pub early : IsInTime g h end k.wait
-  pub paced : IsPaced k.at.board k.turn k.at.floor (left_after g (records_of h))
-  pub due : k.at.due ≡ due_after (records_of h)
-  pub length : k.at.length ≡ g.length
+  pub paced : IsPaced k.pipeline.board k.pipeline.turn k.pipeline.floor (left_after g (records_of h))
+  pub due : k.due ≡ due_after (records_of h)
+  pub length : k.length ≡ g.length
   pub sets : k.sets ≡ g.sets
   pub ended : k.ended ≡ option_map (λ f. f.end) end
   pub over : IsOver g h end
@@ -106,12 +107,12 @@ pub record HasCome (k : Contents) (plan : Plan) : Type 0 where
   pub stands : Stand given items None k
   pub follows : Follows given items plan
   pub precise : (ahead given items).imprecise ≡ None
-  pub now : (ahead given items).turn ≤ k.turn
+  pub now : (ahead given items).turn ≤ k.pipeline.turn
 
 -- the turn moves by one, and is not above that of what lies ahead
 pub record MovesOn (g : Given) (h : List Item) (before after : Progress) : Type 0 where
-  pub early : before.machine.turn < (ahead g h).turn
-  pub turn : after.machine.turn ≡ before.machine.turn + 1
+  pub early : before.machine.pipeline.turn < (ahead g h).turn
+  pub turn : after.machine.pipeline.turn ≡ before.machine.pipeline.turn + 1
   pub stands : StandsFor g h None after.machine
   pub follows : Follows g h after.plan
   pub lines : after.lines ≡ before.lines
@@ -120,8 +121,8 @@ pub record MovesOn (g : Given) (h : List Item) (before after : Progress) : Type 
 pub record DoesNext (g : Given) (h : List Item) (answer : Turn) (before after : Progress) : Type 0 where
   pub done : Record
   pub is_next : comes_next g h ≡ Does done
-  pub now : (ahead g h).turn ≡ before.machine.turn
-  pub turn : after.machine.turn ≡ before.machine.turn
+  pub now : (ahead g h).turn ≡ before.machine.pipeline.turn
+  pub turn : after.machine.pipeline.turn ≡ before.machine.pipeline.turn
   pub stands : StandsFor g (Step done ∷ h) None after.machine
   pub follows : Follows g (Step done ∷ h) after.plan
   pub lines : AddsLines before.lines after.lines (record_lines done)
@@ -133,16 +134,16 @@ pub record EndsRun (g : Given) (h : List Item) (e : End) (before after : Progres
   pub finish : Finish
   pub answers : finish.end ≡ e
   pub is_end : end_ahead g h ≡ Some finish
-  pub now : (ahead g h).turn ≡ before.machine.turn
-  pub turn : after.machine.turn ≡ before.machine.turn
+  pub now : (ahead g h).turn ≡ before.machine.pipeline.turn
+  pub turn : after.machine.pipeline.turn ≡ before.machine.pipeline.turn
   pub stands : StandsFor g h (Some finish) after.machine
   pub follows : FollowsTo g h finish after.plan
   pub lines : AddsLines before.lines after.lines (end_lines (state_after g (records_of h)) finish)
 
 -- memory was refused, when the turn of what lies ahead had come, and nothing has changed
 pub record IsRefused (g : Given) (h : List Item) (before after : Progress) : Type 0 where
-  pub now : (ahead g h).turn ≡ before.machine.turn
-  pub turn : after.machine.turn ≡ before.machine.turn
+  pub now : (ahead g h).turn ≡ before.machine.pipeline.turn
+  pub turn : after.machine.pipeline.turn ≡ before.machine.pipeline.turn
   pub stands : StandsFor g h None after.machine
   pub follows : Follows g h after.plan
   pub lines : after.lines ≡ before.lines
@@ -164,15 +165,15 @@ Advances g h answer before after = Comes g h answer before after
 -- refused only where room was lacking before, with this many lines to spare.
 pub record Proceeds (g : Given) (h : List Item) (answer : Turn) (spare : ℕ) (before after : Progress) : Type 0 where
   pub mid : Machine
-  pub now : (ahead g h).turn ≡ mid.turn
+  pub now : (ahead g h).turn ≡ mid.pipeline.turn
   pub stands : StandsFor g h None mid
   pub comes : Comes g h answer (record before { machine = mid }) after
-  pub lacking : answer ≡ turns.Memory → HasRoom before.machine.processor spare (comes_next g h) → ⊥
+  pub lacking : answer ≡ turns.Memory → HasRoom before.machine.pipeline.processor spare (comes_next g h) → ⊥
 
 -- Nothing comes below a turn, which the machine's became, unless that was above it; and nothing was done.
 pub record PassesTo (g : Given) (h : List Item) (until : ℕ) (before after : Progress) : Type 0 where
   pub later : until ≤ (ahead g h).turn
-  pub turn : after.machine.turn ≡ max before.machine.turn until
+  pub turn : after.machine.pipeline.turn ≡ max before.machine.pipeline.turn until
   pub stands : StandsFor g h None after.machine
   pub follows : Follows g h after.plan
   pub lines : after.lines ≡ before.lines

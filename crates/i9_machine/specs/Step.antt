@@ -33,8 +33,8 @@ use Rattle.i9_model.specs.Turns.{issue_turn, waiting_until}
 use Rattle.i9_course.specs.NeedOf.{need_of, need_ahead}
 use Rattle.i9_course.specs.Course.{instruction_ahead}
 use Rattle.i9_plan.specs.Planned.{IsInRow}
-use Rattle.i9_machine.specs.Contents.{Situation, situation, Contents, contents_of}
-use Rattle.i9_machine.specs.Issuing.{most_turns, IsIssued}
+use Rattle.i9_machine.specs.Contents.{Situation, situation, situation_in, Contents, contents_of}
+use Rattle.i9_pipeline.specs.Issuing.{most_turns, IsIssued}
 use Rattle.i9_machine.specs.Line.{AddsLines}
 use Rattle.i9_machine.specs.NewPages.{AddsNextOnly}
 use Rattle.i9_machine.specs.Progress.{Progress, progress}
@@ -65,7 +65,7 @@ records_left at plan = left_in at.length (drop plan.place plan.events) at.due at
 
 -- the same with the turns, of which there are fewer than 2^62
 unfoldable pub left_from : Contents → Plan → ℕ
-left_from k plan = 2 ^ 62 * records_left k.at plan + (2 ^ 62 - k.turn)
+left_from k plan = 2 ^ 62 * records_left (situation_in k) plan + (2 ^ 62 - k.pipeline.turn)
 
 -- for a machine
 abbrev pub steps_left : Machine → Plan → ℕ
@@ -84,7 +84,7 @@ pub record Stage : Type 0 where
 abbrev pub stage_of : Progress → ℕ → Stage
 stage_of p spare = record {
   contents = contents_of p.machine;
-  processor = p.machine.processor;
+  processor = p.machine.pipeline.processor;
   plan = p.plan;
   lines = p.lines;
   spare = spare;
@@ -95,7 +95,7 @@ stage m plan out = stage_of (progress m plan out.items) (vec_capacity out - vec_
 
 -- what comes next, and how much is left
 abbrev pub next_of : Stage → Next
-next_of s = next_for s.contents.at s.plan
+next_of s = next_for (situation_in s.contents) s.plan
 
 abbrev pub left_of : Stage → ℕ
 left_of s = left_from s.contents s.plan
@@ -197,19 +197,25 @@ IsNext at plan (Err f) m = next_for at plan ≡ Ends (finish_in plan f)
 abbrev pub plan_behind : Plan → Record → Plan
 plan_behind plan r = record plan { place = plan.place + length (reached_by r.kind r.before) }
 
+-- what a record of this kind needs there
+abbrev pub need_in : Situation → Kind → Need
+need_in at kind = need_of at.size at.cache at.state kind
+
 -- A record was done and issued: the state behind it, with its frames, sets and what is due, is that of the record.
 pub record Did (before : Stage) (answer : Turn) (after : Stage) : Type 0 where
   pub done : Record
   pub is_next : next_of before ≡ Does done
   pub need : Need
-  pub is_need : need ≡ need_of before.contents.at.size before.contents.at.cache before.contents.at.state done.kind
-  pub issued : IsIssued before.contents need (action_done done) after.contents
-  pub state : AreAlike done.after after.contents.at.state
-  pub cache : after.contents.at.cache ≡ cache_configured after.contents.at.state.memory
-      (cache_acted before.contents.at.size (action_done done) before.contents.at.cache)
-  pub size : after.contents.at.size ≡ renewed before.contents.sets before.contents.at.state.memory
-      (action_done done).control before.contents.at.size
-  pub due : after.contents.at.due ≡ due_by done.kind done.before
+  pub is_need : need ≡ need_in (situation_in before.contents) done.kind
+  pub issued : IsIssued before.contents.pipeline need (action_done done) after.contents.pipeline
+  pub rest : after.contents ≡ record (before.contents)
+      { pipeline = after.contents.pipeline; due = after.contents.due }
+  pub state : AreAlike done.after after.contents.pipeline.state
+  pub cache : after.contents.pipeline.cache ≡ cache_configured after.contents.pipeline.state.memory
+      (cache_acted before.contents.pipeline.size (action_done done) before.contents.pipeline.cache)
+  pub size : after.contents.pipeline.size ≡ renewed before.contents.sets before.contents.pipeline.state.memory
+      (action_done done).control before.contents.pipeline.size
+  pub due : after.contents.due ≡ due_by done.kind done.before
   pub behind : after.plan ≡ plan_behind before.plan done
   pub lines : AddsLines before.lines after.lines (record_lines done)
   pub tells : TellsRecord done.kind done.before answer
@@ -222,12 +228,12 @@ plan_at_end plan f = record plan { place = plan.place + length (reached_last 0 f
 pub record Finished (before : Stage) (f : Finish) (after : Stage) : Type 0 where
   pub contents : after.contents ≡ record (before.contents) { ended = Some f.end }
   pub behind : after.plan ≡ plan_at_end before.plan f
-  pub lines : AddsLines before.lines after.lines (end_lines before.contents.at.state f)
+  pub lines : AddsLines before.lines after.lines (end_lines before.contents.pipeline.state f)
 
 -- or there was no room for its lines, and nothing changed
 pub record Unfinished (before : Stage) (f : Finish) (after : Stage) : Type 0 where
   pub same : after ≡ before
-  pub lacking : before.spare < length (end_lines before.contents.at.state f)
+  pub lacking : before.spare < length (end_lines before.contents.pipeline.state f)
 
 abbrev pub Finishes : Stage → Finish → Turn → Stage → Type 0
 Finishes before f (turns.End e) after = (f.end ≡ e) × Finished before f after

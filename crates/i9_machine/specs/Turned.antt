@@ -23,7 +23,7 @@ steps_on (r ∷ rs) h = Step r ∷ steps_on rs h
 -- records were done at the machine's turn, and their lines were appended
 pub record Since (g : Given) (h : List Item) (before after : Progress) : Type 0 where
   pub done : List Record
-  pub turn : after.machine.turn ≡ before.machine.turn
+  pub turn : after.machine.pipeline.turn ≡ before.machine.pipeline.turn
   pub stands : StandsFor g (steps_on done h) None after.machine
   pub follows : Follows g (steps_on done h) after.plan
   pub lines : AddsLines before.lines after.lines (lines_of done)
@@ -32,13 +32,13 @@ pub record Since (g : Given) (h : List Item) (before after : Progress) : Type 0 
 -- is one of what was done, or of what comes next.
 pub record TurnsOn (g : Given) (h : List Item) (before after : Progress) : Type 0 where
   pub done : List Record
-  pub turn : after.machine.turn ≡ before.machine.turn + 1
-  pub issued : last_issue (turns (course g (steps_on done h)).late) < after.machine.turn
-  pub later : after.machine.turn ≤ (ahead g (steps_on done h)).turn
+  pub turn : after.machine.pipeline.turn ≡ before.machine.pipeline.turn + 1
+  pub issued : last_issue (turns (course g (steps_on done h)).late) < after.machine.pipeline.turn
+  pub later : after.machine.pipeline.turn ≤ (ahead g (steps_on done h)).turn
   pub stands : StandsFor g (steps_on done h) None after.machine
   pub follows : Follows g (steps_on done h) after.plan
   pub lines : AddsLines before.lines after.lines (lines_of done)
-  pub pages : AddsRecordsOnly before.machine.processor after.machine.processor
+  pub pages : AddsRecordsOnly before.machine.pipeline.processor after.machine.pipeline.processor
       (with_next (comes_next g (steps_on done h)) done)
 
 -- the end was answered, at the machine's turn
@@ -46,21 +46,21 @@ pub record EndsTurn (g : Given) (h : List Item) (e : End) (before after : Progre
   pub done : List Record
   pub finish : Finish
   pub answers : finish.end ≡ e
-  pub turn : after.machine.turn ≡ before.machine.turn
+  pub turn : after.machine.pipeline.turn ≡ before.machine.pipeline.turn
   pub is_end : end_ahead g (steps_on done h) ≡ Some finish
-  pub now : (ahead g (steps_on done h)).turn ≡ before.machine.turn
+  pub now : (ahead g (steps_on done h)).turn ≡ before.machine.pipeline.turn
   pub stands : StandsFor g (steps_on done h) (Some finish) after.machine
   pub follows : FollowsTo g (steps_on done h) finish after.plan
   pub lines : AddsLines before.lines after.lines
       (lines_of done ++ end_lines (state_after g (records_of (steps_on done h))) finish)
-  pub pages : AddsRecordsOnly before.machine.processor after.machine.processor
+  pub pages : AddsRecordsOnly before.machine.pipeline.processor after.machine.pipeline.processor
       (with_next (comes_next g (steps_on done h)) done)
 
 -- memory was refused behind whole steps
 pub record StopsTurn (g : Given) (h : List Item) (before after : Progress) : Type 0 where
   pub since : Since g h before after
   pub needed : NeedsRoom (comes_next g (steps_on since.done h))
-  pub pages : AddsRecordsOnly before.machine.processor after.machine.processor
+  pub pages : AddsRecordsOnly before.machine.pipeline.processor after.machine.pipeline.processor
       (with_next (comes_next g (steps_on since.done h)) since.done)
 
 -- what a turn does, by its answer, which is no instruction

@@ -1,5 +1,5 @@
 //! The machine, one step at a time.
-ghost use Rattle.std.specs.Prelude.{◌≡◌, ◌+◌, ◌-◌, ◌^◌, ◌<◌, ◌≤◌, [], ◌∷◌, length, max, ℕ, List, Option, None, Some};
+ghost use Rattle.std.specs.Prelude.{◌≡◌, ◌+◌, ◌-◌, ◌^◌, ◌<◌, ◌≤◌, [], ◌∷◌, length, max, List, Option, None, Some};
 ghost use Rattle.std.specs.Prelude.{IfOk, IfSome, IsSome, vec_len, vec_capacity, true, false};
 ghost use Rattle.std.proofs.Props.{props};
 ghost use Rattle.i9_model.specs.declared.layout.TheConstants.{MAX_LENGTH};
@@ -16,7 +16,6 @@ ghost use Rattle.i9_model.specs.Turns.{end_turn};
 ghost use Rattle.i9_model.specs.Turns as board;
 ghost use Rattle.i9_course.specs.Course.{Item, Fence, records_of, comes_next};
 ghost use Rattle.i9_model.specs.PrintedText.{view_of};
-ghost use Rattle.i9_schedule.specs.Plan.{Plan};
 ghost use Rattle.i9_plan.specs.Kept.{inst_in};
 ghost use Rattle.i9_frames.specs.Sets.{held};
 ghost use Rattle.i9_processor.specs.State.{state_of, IsDrained};
@@ -35,48 +34,41 @@ use crate::step::{Coming, Ending};
 use i9_frames::Sets;
 use i9_hex::Segments;
 use i9_isa::NoMemory;
-use i9_issue::Board;
 use i9_model::layout::MAX_LENGTH;
 use i9_model::{Due, End, Need, View};
+use i9_pipeline::Pipeline;
 use i9_plan::DecodeCache;
 use i9_processor::{Effect, Processor};
 use i9_schedule::Schedule;
-use i9_shade::Shade;
 use std::alloc::Global;
 
-/// A machine that runs an image: what an instruction may read or change, the length of the run, what
-/// comes next whatever the length, and the end that was answered; instructions that were decoded; the
-/// scoreboard with the turn, that of the last fence, that at which the last record is done, and one below
-/// which nothing comes next; what stood in memory under an open barrier's writes; and the effect and the
-/// need of what is planned.
+/// A machine that runs an image: its pipeline; what it is given, which is the sets that are asked for and the
+/// length of the run; what comes next whatever the length, a turn below which nothing does, and the end that
+/// was answered; and what is planned: instructions that were decoded, and the effect and the need of the next
+/// record.
 #[derive(Drop)]
 pub struct Machine {
-    processor: Processor,
-    decodes: DecodeCache,
+    pipeline: Pipeline,
     alloc: Global,
     sets: Option<u8>,
     length: u64,
     due: Due,
-    ended: Option<End>,
-    board: Board,
-    turn: u64,
-    floor: u64,
-    done: u64,
     wait: u64,
-    shade: Shade,
+    ended: Option<End>,
+    decodes: DecodeCache,
     effect: Effect,
     need: Need,
     ghost short: { length ≤ MAX_LENGTH },
-    ghost below: { (state_of processor).count ≤ length },
+    ghost below: { (state_of pipeline.processor).count ≤ length },
     ghost few: { IfSome sets (λ n. 0 < n × n < 16) } by { Prim.hlevel props },
 }
 
 impl Machine {
     ghost use Rattle.i9_machine.specs.Coming.{HasArrived, HasRead, IsAhead, RunsAhead, IsReadyFor, Came};
-    ghost use Rattle.i9_machine.specs.Contents.{situation, outlook, contents_of, settled_to, IsMovedTo, IsPassedTo};
+    ghost use Rattle.i9_machine.specs.Contents.{situation, outlook, contents_of, IsMovedTo, IsPassedTo};
     ghost use Rattle.i9_machine.specs.StandsFor.{StandsFor, Follows, Advances, Proceeds, ProceedsUntil, AnswersAgain};
     ghost use Rattle.i9_machine.specs.StandsFor.{IsUnderWay, HasCome};
-    ghost use Rattle.i9_machine.specs.Issuing.{IsQuiet};
+    ghost use Rattle.i9_pipeline.specs.Flow.{flow_of, IsQuiet};
     ghost use Rattle.i9_machine.specs.NewPages.{AddsNextOnly};
     ghost use Rattle.i9_machine.specs.Progress.{progress};
     ghost use Rattle.i9_machine.specs.Doing.{PlansLight};
@@ -96,25 +88,20 @@ impl Machine {
         requires length { length ≤ MAX_LENGTH }
         ensures stands { (plan : List Timed) → IsPlan plan
             → IfOk result (λ m. StandsFor (given (pairs_of image.now) plan length sets) [] None m) }
-        ensures turn { IfOk result (λ m. m.turn ≡ 1) }
-        ensures pages { IfOk result (λ m. HasPagesFor m.processor (pairs_of image.now)) }
+        ensures turn { IfOk result (λ m. m.pipeline.turn ≡ 1) }
+        ensures pages { IfOk result (λ m. HasPagesFor m.pipeline.processor (pairs_of image.now)) }
     {
         let processor = Processor::boot(alloc, image, sets)?;
         let decodes = DecodeCache::new(alloc)?;
         Ok(Machine {
-            processor,
-            decodes,
+            pipeline: Pipeline::new(processor),
             alloc,
             sets,
             length,
             due: Due::Nothing,
-            ended: None,
-            board: Board::new(),
-            turn: 1,
-            floor: 0,
-            done: 1,
             wait: 0,
-            shade: Shade::new(),
+            ended: None,
+            decodes,
             effect: Effect::blank(),
             need: Need::default(),
         })
@@ -126,7 +113,7 @@ impl Machine {
             → result ≡ view_of (state_after g (records_of h)) }
         ensures count { result.count ≤ MAX_LENGTH }
     {
-        self.processor.view()
+        self.pipeline.processor.view()
     }
 
     /// A byte of overlaid memory: `None` exactly where it is not compared, which is where only the save
@@ -135,7 +122,7 @@ impl Machine {
         ensures { (g : Given) (h : List Item) (end : Option Finish) → StandsFor g h end self.now
             → result ≡ overlay (state_after g (records_of h)) a }
     {
-        self.processor.overlay(a)
+        self.pipeline.processor.overlay(a)
     }
 
     /// The end of the run that was answered; `None` where none was.
@@ -151,7 +138,7 @@ impl Machine {
         ensures { (g : Given) (h : List Item) (end : Option Finish) → StandsFor g h end self.now
             → result.now ≡ held (sets_in g.sets (state_after g (records_of h))) (cache_after g (records_of h)).held }
     {
-        self.processor.sets()
+        self.pipeline.processor.sets()
     }
 
     /// Lands all that is open: the turn becomes one at which all records are done. Where no end was answered a
@@ -162,52 +149,18 @@ impl Machine {
             → StandsFor g (Fence ∷ h) None self.new }
         ensures ended { (g : Given) (h : List Item) (f : Finish) → StandsFor g h (Some f) self.old
             → StandsFor g h (Some f) self.new }
-        ensures turn { (rs : List TimedNeed) → board.StandsFor self.old.board rs
-            → self.new.turn ≡ max self.old.turn (end_turn rs) }
+        ensures turn { (rs : List TimedNeed) → board.StandsFor self.old.pipeline.board rs
+            → self.new.pipeline.turn ≡ max self.old.pipeline.turn (end_turn rs) }
         ensures quiet { (g : Given) (h : List Item) (end : Option Finish) → StandsFor g h end self.old
-            → IsQuiet self.new }
+            → IsQuiet (flow_of self.new.pipeline) }
         ensures level { (g : Given) (h : List Item) (end : Option Finish) → StandsFor g h end self.old
-            → IsLevel g h self.new.turn }
-        ensures room { KeepsRoom self.old.processor self.new.processor }
-        ensures no_more { AddsNoPage self.old.processor self.new.processor }
+            → IsLevel g h self.new.pipeline.turn }
+        ensures room { KeepsRoom self.old.pipeline.processor self.new.pipeline.processor }
+        ensures no_more { AddsNoPage self.old.pipeline.processor self.new.pipeline.processor }
     {
-        let until = self.board.all_done();
-        let floor = self.fence_at(until);
-        self.land_all(until, floor);
-    }
-
-    /// The turn becomes this one, unless it is above it, what is due lands, and nothing is waited for.
-    fn land_all(&mut self, until: u64, floor: u64)
-        ensures settled { contents_of self.new ≡ settled_to (max self.old.turn until) floor (contents_of self.old) }
-        ensures room { KeepsRoom self.old.processor self.new.processor }
-        ensures no_more { AddsNoPage self.old.processor self.new.processor }
-    {
-        self.move_to(self.turn.max(until));
-        self.floor = floor;
+        let fenced = self.ended.is_none();
+        self.pipeline.settle(fenced);
         self.wait = 0;
-    }
-
-    /// The turn of the last fence, once one is set at this turn where no end was answered.
-    fn fence_at(&self, turn: u64) -> u64
-        ensures none { self.now.ended ≡ None → result ≡ turn }
-        ensures end { (f : End) → self.now.ended ≡ Some f → result ≡ self.now.floor }
-    {
-        match self.ended {
-            None => turn,
-            Some(_) => self.floor,
-        }
-    }
-
-    /// The turn becomes this one, and what is due lands.
-    #[inline(always)]
-    fn move_to(&mut self, turn: u64)
-        ensures moved { IsMovedTo turn self.old self.new }
-        ensures keeps { outlook self.new ≡ outlook self.old }
-        ensures room { KeepsRoom self.old.processor self.new.processor }
-        ensures no_more { AddsNoPage self.old.processor self.new.processor }
-    {
-        self.turn = turn;
-        self.processor.land(turn);
     }
 
     /// The turn becomes this one, where it is below it, and what is due by then lands.
@@ -215,29 +168,30 @@ impl Machine {
     fn pass_to(&mut self, turn: u64)
         ensures passed { IsPassedTo turn self.old self.new }
         ensures keeps { outlook self.new ≡ outlook self.old }
-        ensures room { KeepsRoom self.old.processor self.new.processor }
-        ensures no_more { AddsNoPage self.old.processor self.new.processor }
+        ensures room { KeepsRoom self.old.pipeline.processor self.new.pipeline.processor }
+        ensures no_more { AddsNoPage self.old.pipeline.processor self.new.pipeline.processor }
     {
-        if self.turn < turn {
-            self.move_to(turn);
+        if self.pipeline.turn < turn {
+            self.pipeline.move_to(turn);
         }
     }
 
     /// The turn moves by one, to which something waits, and what is due lands.
     fn move_on(&mut self)
-        requires { self.old.turn < self.old.wait }
-        ensures moved { IsMovedTo (self.old.turn + 1) self.old self.new }
-        ensures no_more { AddsNoPage self.old.processor self.new.processor }
+        requires { self.old.pipeline.turn < self.old.wait }
+        ensures moved { IsMovedTo (self.old.pipeline.turn + 1) self.old self.new }
+        ensures no_more { AddsNoPage self.old.pipeline.processor self.new.pipeline.processor }
     {
-        self.move_to(self.turn + 1);
+        let turn = self.pipeline.turn + 1;
+        self.pipeline.move_to(turn);
     }
 
     /// The turn moves by one, and nothing comes below another one.
     fn wait_until(&mut self, turn: u64) -> Turn
-        requires { self.old.turn < turn }
+        requires { self.old.pipeline.turn < turn }
         ensures answer { result ≡ Turn.On }
-        ensures moved { IsMovedTo (self.old.turn + 1) (record self.old { wait = turn }) self.new }
-        ensures no_more { AddsNoPage self.old.processor self.new.processor }
+        ensures moved { IsMovedTo (self.old.pipeline.turn + 1) (record self.old { wait = turn }) self.new }
+        ensures no_more { AddsNoPage self.old.pipeline.processor self.new.pipeline.processor }
     {
         self.wait = turn;
         self.move_on();
@@ -251,8 +205,8 @@ impl Machine {
     fn step_drained(&mut self, read: bool, plan: &mut Schedule, out: &mut Vec<Line>) -> Turn
         requires running { self.old.ended ≡ None }
         requires come { HasCome (contents_of self.old) plan.old }
-        requires drained { IsDrained self.old.processor }
-        requires timely { IsTimely (situation self.old) self.old.turn plan.old }
+        requires drained { IsDrained self.old.pipeline.processor }
+        requires timely { IsTimely (situation self.old) self.old.pipeline.turn plan.old }
         requires read { read ≡ true → HasRead (outlook self.old) }
         ensures steps { Steps (stage self.old plan.old out.old) result (stage self.new plan.new out.new) }
         ensures costs { Costs (stage self.old plan.old out.old) result (stage self.new plan.new out.new) }
@@ -279,7 +233,7 @@ impl Machine {
         requires running { self.old.ended ≡ None }
         requires come { HasCome (contents_of self.old) plan.old }
         requires ahead { IsAhead (outlook self.old) plan.old issue
-            (Faulted (Some (inst_in self.old.decodes)) (fault_at (state_of self.old.processor) number)) }
+            (Faulted (Some (inst_in self.old.decodes)) (fault_at (state_of self.old.pipeline.processor) number)) }
         ensures steps { Steps (stage self.old plan.old out.old) result (stage self.new plan.new out.new) }
         ensures costs { Costs (stage self.old plan.old out.old) result (stage self.new plan.new out.new) }
     {
@@ -336,7 +290,7 @@ impl Machine {
     fn come(&mut self, turn: u64, coming: Coming, plan: &mut Schedule, out: &mut Vec<Line>) -> Turn
         requires running { self.old.ended ≡ None }
         requires arrived { HasArrived (contents_of self.old) plan.old coming }
-        requires turn { turn ≤ self.old.turn }
+        requires turn { turn ≤ self.old.pipeline.turn }
         requires ready { IsReadyFor (outlook self.old) plan.old turn coming }
         ensures came { Came coming (stage self.old plan.old out.old) result (stage self.new plan.new out.new) }
         ensures costs { Costs (stage self.old plan.old out.old) result (stage self.new plan.new out.new) }
@@ -371,23 +325,23 @@ impl Machine {
             → AnswersAgain f result self.old self.new out.old.items out.new.items × (plan.new ≡ plan.old) }
         ensures lacking { (g : Given) (h : List Item) → StandsFor g h None self.old → Follows g h plan.old
             → result ≡ Turn.Memory
-            → HasRoom self.old.processor (vec_capacity out.old - vec_len out.old) (comes_next g h) → ⊥ }
+            → HasRoom self.old.pipeline.processor (vec_capacity out.old - vec_len out.old) (comes_next g h) → ⊥ }
         ensures still_lacking { (g : Given) (h : List Item) → StandsFor g h None self.new → Follows g h plan.new
             → result ≡ Turn.Memory
-            → HasRoom self.new.processor (vec_capacity out.new - vec_len out.new) (comes_next g h) → ⊥ }
+            → HasRoom self.new.pipeline.processor (vec_capacity out.new - vec_len out.new) (comes_next g h) → ⊥ }
         ensures only { (g : Given) (h : List Item) → StandsFor g h None self.old → Follows g h plan.old
-            → AddsNextOnly self.old.processor self.new.processor (comes_next g h) }
+            → AddsNextOnly self.old.pipeline.processor self.new.pipeline.processor (comes_next g h) }
         ensures fewer { LeavesFewer result (steps_left self.old plan.old) (steps_left self.new plan.new) }
     {
         match self.ended {
             Some(e) => Turn::End(e),
-            None if self.turn < self.wait => {
+            None if self.pipeline.turn < self.wait => {
                 self.move_on();
                 Turn::On
             }
             None => {
                 let (turn, coming) = self.look(plan);
-                if self.turn < turn {
+                if self.pipeline.turn < turn {
                     self.wait_until(turn)
                 } else {
                     self.come(turn, coming, plan, out)
@@ -409,7 +363,7 @@ impl Machine {
         ensures again { (g : Given) (h : List Item) (f : Finish) → StandsFor g h (Some f) self.old
             → AnswersAgain f result self.old self.new out.old.items out.new.items × (plan.new ≡ plan.old) }
         ensures only { (g : Given) (h : List Item) → StandsFor g h None self.old → Follows g h plan.old
-            → AddsNextOnly self.old.processor self.new.processor (comes_next g h) }
+            → AddsNextOnly self.old.pipeline.processor self.new.pipeline.processor (comes_next g h) }
         ensures fewer { LeavesFewer result (steps_left self.old plan.old) (steps_left self.new plan.new) }
     {
         match self.ended {
@@ -439,7 +393,7 @@ impl Machine {
             → IsSome result × IfSome result (λ t. AnswersAgain f t self.old self.new out.old.items out.new.items)
             × (plan.new ≡ plan.old) }
         ensures only { (g : Given) (h : List Item) → StandsFor g h None self.old → Follows g h plan.old
-            → AddsNextOnly self.old.processor self.new.processor (comes_next g h) }
+            → AddsNextOnly self.old.pipeline.processor self.new.pipeline.processor (comes_next g h) }
         ensures fewer { IfSome result
             (λ t. LeavesFewer t (steps_left self.old plan.old) (steps_left self.new plan.new)) }
     {
@@ -464,13 +418,13 @@ impl Machine {
             → ProceedsUntil g h until result (vec_capacity out.old - vec_len out.old)
             (progress self.old plan.old out.old.items) (progress self.new plan.new out.new.items) }
         ensures only { (g : Given) (h : List Item) → StandsFor g h None self.old → Follows g h plan.old
-            → AddsNextOnly self.old.processor self.new.processor (comes_next g h) }
+            → AddsNextOnly self.old.pipeline.processor self.new.pipeline.processor (comes_next g h) }
         ensures fewer { IfSome result
             (λ t. LeavesFewer t (steps_left self.old plan.old) (steps_left self.new plan.new)) }
     {
         let (turn, coming) = self.look(plan);
         match until {
-            Some(until) if until <= turn.max(self.turn) => {
+            Some(until) if until <= turn.max(self.pipeline.turn) => {
                 self.pass_to(until);
                 None
             }

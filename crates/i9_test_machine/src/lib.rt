@@ -1,5 +1,5 @@
-//! The tests of i9_raw, i9_machine, i9_back, i9_tracer, i9_lines and i9_debug, and of i9_outside and i9_system, whose
-//! public calls they make.
+//! The tests of i9_pipeline, i9_machine, i9_back, i9_tracer, i9_lines and i9_debug, and of i9_outside and i9_system,
+//! whose public calls they make.
 #![tactic(auto)]
 
 #[cfg(test)]

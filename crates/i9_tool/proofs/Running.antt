@@ -203,12 +203,12 @@ module _ (allows : ℕ → Bool → Type 0) where
           → TracedBy allows (last ++ rs) (inv.text ++ x) → Printing (printed_of answer) b c x → DrivesBy answer allows g (output k a c) (target m plan)
       cut_by answer last x cut few stands follows traced p = record {
         traces = behind_record answer (last ++ rs) (inv.text ++ x) a c cut stands.past traced (behind (printed_of answer) x p);
-        place = at (steps (last ++ rs)) m.turn;
+        place = at (steps (last ++ rs)) m.pipeline.turn;
         stands = record { stands = stands; turn = refl; follows = follows; events = follows.events };
         stopped = on_cut (printed_of answer) _ (record {
           whole = inv.text;
           rest = x;
-          is_cut = behind_step rs last inv.text x m.turn few inv.traced traced;
+          is_cut = behind_step rs last inv.text x m.pipeline.turn few inv.traced traced;
           between = b;
           first = inv.prints;
           behind = p;
@@ -232,12 +232,12 @@ module _ (allows : ℕ → Bool → Type 0) where
               stops = at_end answer d.finish (ends g rs before was e m plan ls d) tells;
               prints = behind (printed_of answer) last said;
             };
-            place = ended (steps rs) m.turn d.finish;
+            place = ended (steps rs) m.pipeline.turn d.finish;
             stands = record { stands = d.stands; turn = refl; follows = tt; events = d.follows.events };
             stopped = on_cut (printed_of answer) _ (record {
               whole = inv.text;
               rest = last;
-              is_cut = behind_end rs inv.text m.turn d.finish inv.traced;
+              is_cut = behind_end rs inv.text m.pipeline.turn d.finish inv.traced;
               between = b;
               first = inv.prints;
               behind = said;

@@ -53,7 +53,7 @@ pub record StopsAt (allows : View → Bool → Type 0) (past : History) (t : Iss
   pub counts : counts_of last.kind ≡ 1
   pub held : allows (view_behind last) true
   pub tells : TellsRecord last.kind last.before (answers.Issued t)
-  pub turn : m.turn ≡ (ahead past.given (steps_on done past.items)).turn
+  pub turn : m.pipeline.turn ≡ (ahead past.given (steps_on done past.items)).turn
   pub stands : StandsFor past.given (Step last ∷ steps_on done past.items) None m
   pub follows : Follows past.given (Step last ∷ steps_on done past.items) plan
   pub lines : AddsLines old new (lines_of (last ∷ done))
@@ -66,7 +66,7 @@ pub record EndsFirst (allows : View → Bool → Type 0) (past : History) (e : E
   pub answers : finish.end ≡ e
   pub passed : AllByRecursion (IsPassed allows) done
   pub is_end : end_ahead past.given (steps_on done past.items) ≡ Some finish
-  pub turn : m.turn ≡ (ahead past.given (steps_on done past.items)).turn
+  pub turn : m.pipeline.turn ≡ (ahead past.given (steps_on done past.items)).turn
   pub stands : StandsFor past.given (steps_on done past.items) (Some finish) m
   pub follows : FollowsTo past.given (steps_on done past.items) finish plan
   pub lines : AddsLines old new

@@ -20,27 +20,20 @@ impl Machine {
     pub fn copy(&self, alloc: Global) -> Result<Machine, NoMemory>
         ensures stands { (g : Given) (h : List Item) → StandsFor g h None self.now
             → IfOk result (λ m. StandsFor g h None m) }
-        ensures turn { IfOk result (λ m. m.turn ≡ self.now.turn) }
-        ensures no_more { IfOk result (λ m. AddsNoPage self.now.processor m.processor) }
+        ensures turn { IfOk result (λ m. m.pipeline.turn ≡ self.now.pipeline.turn) }
+        ensures no_more { IfOk result (λ m. AddsNoPage self.now.pipeline.processor m.pipeline.processor) }
     {
-        let processor = self.processor.copy(alloc)?;
+        let pipeline = self.pipeline.copy(alloc)?;
         let decodes = DecodeCache::new(alloc)?;
-        let board = self.board.copy();
-        let shade = self.shade.copy();
         Ok(Machine {
-            processor,
-            decodes,
+            pipeline,
             alloc,
             sets: self.sets,
             length: self.length,
             due: self.due,
-            ended: self.ended,
-            board,
-            turn: self.turn,
-            floor: self.floor,
-            done: self.done,
             wait: self.wait,
-            shade,
+            ended: self.ended,
+            decodes,
             effect: Effect::blank(),
             need: Need::default(),
         })

@@ -1,30 +1,23 @@
 //! A step done, or an end answered, once there is room for what it needs.
 ghost use Rattle.std.specs.Prelude.{◌≡◌, [], ◌∷◌, ◌+◌, ◌-◌, ◌<◌, ◌≤◌, ◌^◌, ◌++◌, None, Some, IfSome, IfOk, OnOk, OnErr};
 ghost use Rattle.std.specs.Prelude.{vec_len, vec_capacity, length, nat_lt, true, false, ℕ};
-ghost use Rattle.std.specs.Option.{option_copied, option_map};
-ghost use Rattle.i9_model.specs.State.{State};
-ghost use Rattle.i9_model.specs.Memory.{console_byte};
-ghost use Rattle.i9_model.specs.Free.{IsFree};
+ghost use Rattle.std.specs.Option.{option_copied};
 ghost use Rattle.i9_model.specs.Alike.{AreAlike};
 ghost use Rattle.i9_model.specs.HeldFrames.{AreWhole};
-ghost use Rattle.i9_model.specs.Step.{moved, acted, counted};
 ghost use Rattle.i9_model.specs.declared.view.View.{View as Shown};
-ghost use Rattle.i9_model.specs.Run.{Ends};
-ghost use Rattle.i9_model.specs.PrintedText.{Drained, Last, view_of, out_lines, point_lines, last_lines, overlays};
+ghost use Rattle.i9_model.specs.PrintedText.{Drained, view_of, out_lines, point_lines, last_lines, overlays};
 ghost use Rattle.i9_model.specs.PrintedText.{journal_lines};
 ghost use Rattle.i9_course.specs.PipelinedRun.{is_imprecise};
-ghost use Rattle.i9_course.specs.Course.{puts_of};
-ghost use Rattle.i9_processor.specs.Effect.{action_in, move_in, control_in, AreRegisters, AreMade, CanControl, CanMove};
-ghost use Rattle.i9_processor.specs.Effect.{CanTake, HasSpaceFor, IsLight, cache_through, size_with, has_writes};
+ghost use Rattle.i9_processor.specs.Effect.{move_in, control_in, AreMade};
+ghost use Rattle.i9_processor.specs.Effect.{CanTake, HasSpaceFor, IsLight, cache_through, size_with};
 ghost use Rattle.i9_processor.specs.Effect.{is_restart};
-ghost use Rattle.i9_processor.specs.State.{state_of, cache_of, size_of, bytes_of};
+ghost use Rattle.i9_processor.specs.State.{state_of, cache_of, size_of};
 ghost use Rattle.i9_processor.specs.Pages.{AddsActionOnly, AddsNoPage};
 ghost use Rattle.i9_model.specs.Events.{IsInRange};
 ghost use Rattle.i9_model.specs.Turns.{HasCost, IssuesAt, waiting_until};
 ghost use Rattle.i9_issue.specs.Room.{IsEarly};
 ghost use Rattle.i9_regs.specs.Covered.{IsCovered};
 ghost use Rattle.i9_machine.specs.Doing.{point_count, reached_lines, reached_count, plan_behind_event};
-ghost use Rattle.i9_machine.specs.Issuing.{Hidden};
 ghost use Rattle.i9_machine.specs.Line.{AddsLines};
 
 use super::Machine;
@@ -34,10 +27,8 @@ use arrayvec::ArrayVec;
 use i9_frames::Sets;
 use i9_isa::NoMemory;
 use i9_model::{End, Event, Need, Point, View};
-use i9_processor::{Control, Effect, Landing, Processor};
-use i9_raw::hide;
+use i9_processor::{Control, Effect, Processor};
 use i9_schedule::{Schedule, copied};
-use i9_shade::Shade;
 
 /// Makes room for so many lines.
 #[inline(always)]
@@ -214,20 +205,6 @@ fn reached_count(event: Option<&Event>) -> usize
     }
 }
 
-/// As `hide`. Nothing is asked where `light` is set, since a light step is no barrier.
-#[inline(always)]
-fn hide_under(p: &Processor, e: &Effect, need: &Need, light: bool, done: u64, shade: &mut Shade)
-    requires light { light ≡ true → need.now.barrier ≡ false }
-    requires whole { AreWhole (cache_of p.now).held }
-    ensures { Hidden (bytes_of p.now) (puts_of (size_of p.now) (cache_of p.now) (action_in (state_of p.now) e.now))
-        shade.old need.now done shade.new }
-{
-    if light {
-        return;
-    }
-    hide(p, e, need, done, shade);
-}
-
 impl Step {
     ghost use Rattle.i9_machine.specs.Doing.{line_count};
 
@@ -257,9 +234,10 @@ fn go_on(reaches: bool, plan: &mut Schedule)
 impl Machine {
     ghost use Rattle.i9_machine.specs.Contents.{contents_of};
     ghost use Rattle.i9_machine.specs.Step.{IsPlanned, Steps, Costs, Finishes, finish_in, stage};
-    ghost use Rattle.i9_machine.specs.Doing.{lines_of, line_count, asks_room, HasRoomForStep, IsReady, action_for};
-    ghost use Rattle.i9_machine.specs.Doing.{PlansLight, state_behind};
-    ghost use Rattle.i9_machine.specs.Issuing.{most_turns, keeping, IsIssued, CanActPlaced};
+    ghost use Rattle.i9_machine.specs.Doing.{lines_of, line_count, asks_room, HasRoomForStep, action_for};
+    ghost use Rattle.i9_machine.specs.Doing.{PlansLight};
+    ghost use Rattle.i9_pipeline.specs.Flow.{flow_of};
+    ghost use Rattle.i9_pipeline.specs.Issuing.{most_turns, state_behind, IsIssued, IsReady, CanActPlaced};
     ghost use Rattle.i9_machine.specs.StandsFor.{HasCome};
 
     /// Answers an end, once its lines are written; the schedule goes on behind an event that is reached with it.
@@ -267,12 +245,12 @@ impl Machine {
         requires running { self.old.ended ≡ None }
         ensures finishes { Finishes (stage self.old plan.old out.old) (finish_in plan.old f) result
             (stage self.new plan.new out.new) }
-        ensures processor { self.new.processor ≡ self.old.processor }
+        ensures processor { self.new.pipeline.processor ≡ self.old.pipeline.processor }
     {
         let event = next_event(plan, f.reaches());
         let reaches = event.is_some();
         let end = f.end();
-        match put_end(event, end, self.processor.view(), out) {
+        match put_end(event, end, self.pipeline.processor.view(), out) {
             Ok(()) => {
                 self.ended = Some(end);
                 go_on(reaches, plan);
@@ -287,7 +265,7 @@ impl Machine {
     fn make_sets(&self, light: bool) -> Result<Option<Sets>, NoMemory>
         requires { light ≡ true → PlansLight self.now }
         ensures made { IfOk result
-            (AreMade self.now.sets (state_of self.now.processor).memory self.now.effect.control) }
+            (AreMade self.now.sets (state_of self.now.pipeline.processor).memory self.now.effect.control) }
         ensures needed { OnErr result (is_restart (control_in self.now.effect.control) ≡ true) }
     {
         if self.effect.is_plain(light) {
@@ -297,7 +275,7 @@ impl Machine {
             Control::Restarts { first: _, prcb } => {
                 let n = match self.sets {
                     Some(n) => n,
-                    None => self.processor.sets_at(prcb),
+                    None => self.pipeline.processor.sets_at(prcb),
                 };
                 Ok(Some(Sets::new(self.alloc, n)?))
             }
@@ -319,23 +297,25 @@ impl Machine {
         ensures effect { self.new.effect ≡ self.old.effect }
         ensures need { self.new.need ≡ self.old.need }
         ensures items { out.new.items ≡ out.old.items }
-        ensures space { OnOk result (HasSpaceFor self.new.processor self.new.effect) }
+        ensures space { OnOk result (HasSpaceFor self.new.pipeline.processor self.new.effect) }
         ensures lines { OnOk result
             (vec_len out.new + line_count self.new.effect step.now (option_copied event.entry) ≤ vec_capacity out.new) }
         ensures made { IfOk result
-            (AreMade self.old.sets (state_of self.old.processor).memory self.new.effect.control) }
+            (AreMade self.old.sets (state_of self.old.pipeline.processor).memory self.new.effect.control) }
         ensures needed { OnErr result
-            (asks_room (state_of self.old.processor) self.old.effect step.now (option_copied event.entry) ≡ true) }
+            (asks_room (state_of self.old.pipeline.processor) self.old.effect step.now (option_copied event.entry)
+            ≡ true) }
         ensures lacking { OnErr result
-            (HasRoomForStep self.old.processor (vec_capacity out.old - vec_len out.old) self.old.effect
+            (HasRoomForStep self.old.pipeline.processor (vec_capacity out.old - vec_len out.old) self.old.effect
             step.now (option_copied event.entry) → ⊥) }
         ensures still_lacking { OnErr result
-            (HasRoomForStep self.new.processor (vec_capacity out.new - vec_len out.new) self.new.effect
+            (HasRoomForStep self.new.pipeline.processor (vec_capacity out.new - vec_len out.new) self.new.effect
             step.now (option_copied event.entry) → ⊥) }
-        ensures only { AddsActionOnly self.old.processor self.new.processor (action_for self.old self.old.effect) }
+        ensures only { AddsActionOnly self.old.pipeline.processor self.new.pipeline.processor
+            (action_for self.old self.old.effect) }
     {
         let sets = self.make_sets(light)?;
-        self.processor.reserve(&self.effect, light)?;
+        self.pipeline.processor.reserve(&self.effect, light)?;
         reserve_lines(step.line_count(&self.effect, light, event), out)?;
         Ok(sets)
     }
@@ -355,54 +335,47 @@ impl Machine {
         requires light { light ≡ true → PlansLight self.old }
         requires cost { HasCost self.old.need }
         requires turns { self.old.need.cost ≤ most_turns }
-        requires early { IsEarly self.old.board self.old.need }
-        requires issue { IssuesAt self.old.board.last self.old.board.records self.old.need issue }
-        requires ready { IsReady (state_of self.old.processor) self.old.length self.old.effect step.now }
-        requires space { HasSpaceFor self.old.processor self.old.effect }
-        requires made { CanTake (move_in (state_of self.old.processor) self.old.effect.frames) sets }
-        requires covered { IsCovered self.old.need.writes (state_of self.old.processor)
+        requires early { IsEarly self.old.pipeline.board self.old.need }
+        requires issue { IssuesAt self.old.pipeline.board.last self.old.pipeline.board.records self.old.need issue }
+        requires ready { IsReady (state_of self.old.pipeline.processor) self.old.effect step.now.counts }
+        requires below { (state_of self.old.pipeline.processor).count + step.now.counts ≤ self.old.length }
+        requires space { HasSpaceFor self.old.pipeline.processor self.old.effect }
+        requires made { CanTake (move_in (state_of self.old.pipeline.processor) self.old.effect.frames) sets }
+        requires covered { IsCovered self.old.need.writes (state_of self.old.pipeline.processor)
             (action_for self.old self.old.effect) }
-        requires acts { CanActPlaced self.old self.old.effect }
+        requires acts { CanActPlaced self.old.pipeline self.old.need self.old.effect }
         requires lines { vec_len out.old + line_count self.old.effect step.now
             (option_copied event) ≤ vec_capacity out.old }
         requires ranges { IfSome event (λ e. IsInRange e.now) }
-        requires whole { AreWhole (cache_of self.old.processor).held }
-        ensures state { AreAlike (state_behind self.old self.old.effect step.now) (state_of self.new.processor) }
-        ensures cache { cache_of self.new.processor
-            ≡ cache_through self.old.processor (action_for self.old self.old.effect) self.new.processor }
-        ensures size { size_of self.new.processor ≡ size_with sets (size_of self.old.processor) }
+        requires whole { AreWhole (cache_of self.old.pipeline.processor).held }
+        ensures state { AreAlike
+            (state_behind (state_of self.old.pipeline.processor) self.old.effect step.now.counts)
+            (state_of self.new.pipeline.processor) }
+        ensures cache { cache_of self.new.pipeline.processor
+            ≡ cache_through self.old.pipeline.processor (action_for self.old self.old.effect)
+            self.new.pipeline.processor }
+        ensures size { size_of self.new.pipeline.processor ≡ size_with sets (size_of self.old.pipeline.processor) }
         ensures due { self.new.due ≡ step.now.due }
-        ensures keeps { contents_of self.new ≡ keeping (contents_of self.old) self.new.done (contents_of self.new) }
+        ensures rest { contents_of self.new
+            ≡ record (contents_of self.old) { pipeline = flow_of self.new.pipeline; due = self.new.due } }
+        ensures turn { self.new.pipeline.turn ≡ self.old.pipeline.turn }
         ensures answer { result ≡ step.now.answer }
-        ensures count { (state_of self.new.processor).count ≡ (state_of self.old.processor).count + step.now.counts }
-        ensures issued { (need : Need) → self.old.need ≡ waiting_until self.old.floor need
-            → IsIssued (contents_of self.old) need (action_for self.old self.old.effect) (contents_of self.new) }
+        ensures count { (state_of self.new.pipeline.processor).count
+            ≡ (state_of self.old.pipeline.processor).count + step.now.counts }
+        ensures issued { (need : Need) → self.old.need ≡ waiting_until self.old.pipeline.floor need
+            → IsIssued (flow_of self.old.pipeline) need (action_for self.old self.old.effect)
+            (flow_of self.new.pipeline) }
         ensures lines { AddsLines out.old.items out.new.items
-            (lines_of self.old.effect step.now (option_copied event.entry) (state_of self.old.processor)
-            (state_behind self.old self.old.effect step.now)) }
-        ensures no_more { AddsNoPage self.old.processor self.new.processor }
+            (lines_of self.old.effect step.now (option_copied event.entry) (state_of self.old.pipeline.processor)
+            (state_behind (state_of self.old.pipeline.processor) self.old.effect step.now.counts)) }
+        ensures no_more { AddsNoPage self.old.pipeline.processor self.new.pipeline.processor }
     {
-        let placed = self.board.place_at(&self.need, issue);
-        self.done = placed.done;
-        let landing = Landing {
-            writes: self.need.writes,
-            done: placed.done,
-            request: self.need.request,
-        };
-        put_event(event, &self.processor, out);
-        hide_under(
-            &self.processor,
-            &self.effect,
-            &self.need,
-            light,
-            placed.done,
-            &mut self.shade,
-        );
-        self.processor
-            .apply(&self.effect, light, &landing, step.counts, sets);
+        put_event(event, &self.pipeline.processor, out);
+        self.pipeline
+            .issue(&self.need, issue, &self.effect, light, step.counts, sets);
         self.due = step.due;
         put_out(self.effect.console_byte(light), out);
-        put_point(step.point, &self.processor, out);
+        put_point(step.point, &self.pipeline.processor, out);
         step.answer
     }
 
@@ -421,7 +394,7 @@ impl Machine {
         requires light { light ≡ true → PlansLight self.old }
         requires running { self.old.ended ≡ None }
         requires step { IsPlanned self.old plan.old step.now }
-        requires issue { IssuesAt self.old.board.last self.old.board.records self.old.need issue }
+        requires issue { IssuesAt self.old.pipeline.board.last self.old.pipeline.board.records self.old.need issue }
         requires come { HasCome (contents_of self.old) plan.old }
         ensures steps { Steps (stage self.old plan.old out.old) result (stage self.new plan.new out.new) }
         ensures costs { Costs (stage self.old plan.old out.old) result (stage self.new plan.new out.new) }

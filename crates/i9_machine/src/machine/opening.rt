@@ -1,6 +1,5 @@
 //! What comes next for the machine, and when.
 ghost use Rattle.std.specs.Prelude.{◌≡◌, ℕ, ◌<◌, List, None, Some, Ok, true, false, IfSome, IsNone};
-ghost use Rattle.i9_model.specs.Before.{choice_in};
 ghost use Rattle.i9_model.specs.Run.{Faulted, fault_at};
 ghost use Rattle.i9_model.specs.Standing.{stands_at, Faults};
 ghost use Rattle.i9_model.specs.declared.need.TimedNeed.{TimedNeed};
@@ -22,7 +21,7 @@ use i9_schedule::Schedule;
 
 impl Machine {
     ghost use Rattle.i9_machine.specs.Coming.{Arrives, IsReadyFor, IsNextInstruction};
-    ghost use Rattle.i9_machine.specs.Issuing.{IsEndTurn};
+    ghost use Rattle.i9_pipeline.specs.Flow.{IsEndTurn};
     ghost use Rattle.i9_machine.specs.Overtaking.{late_due, HasPace, IssuesAhead};
     ghost use Rattle.i9_machine.specs.StandsFor.{IsUnderWay};
     ghost use Rattle.i9_machine.specs.Step.{event_for};
@@ -31,11 +30,11 @@ impl Machine {
     #[inline(always)]
     fn goes_on(&self) -> bool
         ensures free { result ≡ true → (self.now.due ≡ Due.Nothing)
-            × ((state_of self.now.processor).count < self.now.length) }
+            × ((state_of self.now.pipeline.processor).count < self.now.length) }
         ensures waits { (plan : Plan) → result ≡ false → NextWaits (situation self.now) plan }
     {
         match &self.due {
-            Due::Nothing => self.processor.count() != self.length,
+            Due::Nothing => self.pipeline.processor.count() != self.length,
             Due::End(_) => false,
             Due::Entry(_) => false,
         }
@@ -48,10 +47,10 @@ impl Machine {
         ensures free { result ≡ true → IsFreeToIssue (situation self.now) }
         ensures waits { (plan : Plan) → result ≡ false → NextWaits (situation self.now) plan }
     {
-        if !self.goes_on() || self.processor.check() {
+        if !self.goes_on() || self.pipeline.processor.check() {
             return false;
         }
-        match self.processor.choose() {
+        match self.pipeline.processor.choose() {
             Ok(None) => true,
             Ok(Some(_)) => false,
             Err(_) => false,
@@ -62,15 +61,16 @@ impl Machine {
     // Few do, and this is no part of the code for the others.
     #[inline(never)]
     fn keep_faulted(&mut self, number: (u8, u16))
-        requires stands { stands_at (state_of self.old.processor) ≡ Faults (inst_in self.old.decodes) number }
-        requires located { Locates (state_of self.old.processor) self.old.decodes }
+        requires stands { stands_at (state_of self.old.pipeline.processor) ≡ Faults (inst_in self.old.decodes) number }
+        requires located { Locates (state_of self.old.pipeline.processor) self.old.decodes }
         ensures need { HasNeed (situation self.old)
-            (Faulted (Some (inst_in self.old.decodes)) (fault_at (state_of self.old.processor) number)) self.new.need }
+            (Faulted (Some (inst_in self.old.decodes)) (fault_at (state_of self.old.pipeline.processor) number))
+            self.new.need }
         ensures like { IsLike self.old self.new }
         ensures decodes { self.new.decodes ≡ self.old.decodes }
         ensures effect { self.new.effect ≡ self.old.effect }
     {
-        let need = need_faulted(&self.processor, &self.decodes, number);
+        let need = need_faulted(&self.pipeline.processor, &self.decodes, number);
         self.keep(need);
     }
 
@@ -79,16 +79,20 @@ impl Machine {
     // It is no part of the code that calls it: `proceed` would grow so large that the build would keep it apart itself.
     #[inline(never)]
     fn plan_instruction(&mut self) -> Open
-        ensures stands { OpenStands (state_of self.old.processor) self.new.decodes result }
-        ensures planned { OpenPlanned (state_of self.old.processor) self.new.decodes result self.new.effect }
+        ensures stands { OpenStands (state_of self.old.pipeline.processor) self.new.decodes result }
+        ensures planned { OpenPlanned (state_of self.old.pipeline.processor) self.new.decodes result self.new.effect }
         ensures need { HasOpenNeed (situation self.old) result self.new.decodes self.new.need }
         ensures like { IsLike self.old self.new }
     {
-        let open = plan_open(&self.processor, &mut self.decodes, &mut self.effect);
+        let open = plan_open(
+            &self.pipeline.processor,
+            &mut self.decodes,
+            &mut self.effect,
+        );
         match open {
             Open::Waits { .. } => {}
             Open::Runs => {
-                let need = need_done(&self.processor, &self.decodes, &self.effect);
+                let need = need_done(&self.pipeline.processor, &self.decodes, &self.effect);
                 self.keep(need);
             }
             Open::Faults(number) => self.keep_faulted(number),
@@ -100,12 +104,12 @@ impl Machine {
     #[inline(always)]
     pub(super) fn issue_turn(&self) -> u64
         requires pace { HasPace (contents_of self.now) }
-        requires need { HasKept self.now.floor self.now.need }
-        ensures computed { (rs : List TimedNeed) → StandsFor self.now.board rs
+        requires need { HasKept self.now.pipeline.floor self.now.need }
+        ensures computed { (rs : List TimedNeed) → StandsFor self.now.pipeline.board rs
             → result ≡ issue_turn (last_issue rs) rs self.now.need }
-        ensures least { IssuesAt self.now.board.last self.now.board.records self.now.need result }
+        ensures least { IssuesAt self.now.pipeline.board.last self.now.pipeline.board.records self.now.need result }
     {
-        self.board.next_turn(&self.need)
+        self.pipeline.board.next_turn(&self.need)
     }
 
     /// The turn at which the instruction at the instruction address would issue, as if no entry and no event
@@ -115,7 +119,7 @@ impl Machine {
         ensures like { IsLike self.old self.new }
         ensures turn { IfSome result (λ t. IssuesAhead (contents_of self.old) t) }
         ensures waits { IsNone result
-            → WaitsForAll (state_of self.old.processor) (stands_at (state_of self.old.processor)) }
+            → WaitsForAll (state_of self.old.pipeline.processor) (stands_at (state_of self.old.pipeline.processor)) }
     {
         match self.plan_instruction() {
             Open::Waits { .. } => None,
@@ -131,15 +135,15 @@ impl Machine {
     #[inline(never)]
     fn look_behind(&mut self, address: u32, until: u64) -> (u64, Coming)
         requires pace { HasPace (contents_of self.old) }
-        requires until { IsEndTurn self.old.board until }
-        requires open { self.old.turn < until }
+        requires until { IsEndTurn self.old.pipeline.board until }
+        requires open { self.old.pipeline.turn < until }
         requires late { late_due (situation self.old) ≡ Some address }
         ensures like { IsLike self.old self.new }
         ensures arrives { (plan : Plan) → Arrives (contents_of self.old) plan result.0 result.1 }
         ensures ready { (plan : Plan) → IsReadyFor (outlook self.new) plan result.0 result.1 }
     {
         match self.issue_ahead() {
-            Some(issue) if issue < self.done => (issue, Coming::Overtaking(address)),
+            Some(issue) if issue < self.pipeline.done => (issue, Coming::Overtaking(address)),
             _ => (until, Coming::Waiting { read: false }),
         }
     }
@@ -149,18 +153,18 @@ impl Machine {
     #[inline(always)]
     fn look_at(&self, until: u64, plan: &Schedule, coming: Coming) -> (u64, Coming)
         requires stands { IsUnderWay self.now plan.now }
-        requires until { IsEndTurn self.now.board until }
-        requires open { self.now.turn < until }
+        requires until { IsEndTurn self.now.pipeline.board until }
+        requires open { self.now.pipeline.turn < until }
         requires precise { late_due (situation self.now) ≡ None }
         requires next { IsNextInstruction (outlook self.now) coming }
         requires ready { (t : ℕ) → event_for (situation self.now) plan.now ≡ None
-            → IssuesAt self.now.board.last self.now.board.records self.now.need t
+            → IssuesAt self.now.pipeline.board.last self.now.pipeline.board.records self.now.need t
             → IsReadyFor (outlook self.now) plan.now t coming }
         ensures arrives { Arrives (contents_of self.now) plan.now result.0 result.1 }
         ensures ready { IsReadyFor (outlook self.now) plan.now result.0 result.1 }
     {
         let turn = self.issue_turn();
-        if standing(plan, self.processor.count(), turn).is_some() {
+        if standing(plan, self.pipeline.processor.count(), turn).is_some() {
             (until, Coming::Waiting { read: false })
         } else {
             (turn, coming)
@@ -172,8 +176,8 @@ impl Machine {
     #[inline(always)]
     fn look_open(&mut self, until: u64, plan: &Schedule) -> (u64, Coming)
         requires stands { IsUnderWay self.old plan.now }
-        requires until { IsEndTurn self.old.board until }
-        requires open { self.old.turn < until }
+        requires until { IsEndTurn self.old.pipeline.board until }
+        requires open { self.old.pipeline.turn < until }
         requires precise { late_due (situation self.old) ≡ None }
         ensures like { IsLike self.old self.new }
         ensures arrives { Arrives (contents_of self.old) plan.now result.0 result.1 }
@@ -198,8 +202,8 @@ impl Machine {
         ensures arrives { Arrives (contents_of self.old) plan.now result.0 result.1 }
         ensures ready { IsReadyFor (outlook self.new) plan.now result.0 result.1 }
     {
-        let until = self.board.all_done();
-        if until <= self.turn {
+        let until = self.pipeline.board.all_done();
+        if until <= self.pipeline.turn {
             return (until, Coming::Waiting { read: false });
         }
         if matches!(self.due, Due::Nothing) {
@@ -216,7 +220,7 @@ impl Machine {
     fn late_fault(&self) -> Option<u32>
         ensures { result ≡ late_due (situation self.now) }
     {
-        if self.processor.count() >= self.length {
+        if self.pipeline.processor.count() >= self.length {
             return None;
         }
         match &self.due {

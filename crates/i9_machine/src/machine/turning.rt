@@ -6,7 +6,7 @@ ghost use Rattle.i9_model.specs.State.{boot};
 ghost use Rattle.i9_model.specs.Run.{state_after, Finish};
 ghost use Rattle.i9_course.specs.Course.{Item, records_of, course, comes_next};
 ghost use Rattle.i9_schedule.specs.Plan.{Plan};
-ghost use Rattle.i9_raw.specs.Raw.{raw_memory};
+ghost use Rattle.i9_pipeline.specs.Raw.{raw_memory};
 ghost use Rattle.i9_machine.specs.Raw.{raw_at, IsFlushed};
 
 use super::Machine;
@@ -33,7 +33,7 @@ impl Machine {
             → AnswersAgain f result self.old self.new out.old.items out.new.items × (plan.new ≡ plan.old) }
         ensures lacking { (g : Given) (h : List Item) → StandsFor g h None self.new → Follows g h plan.new
             → result ≡ Turn.Memory
-            → HasRoom self.new.processor (vec_capacity out.new - vec_len out.new) (comes_next g h) → ⊥ }
+            → HasRoom self.new.pipeline.processor (vec_capacity out.new - vec_len out.new) (comes_next g h) → ⊥ }
     {
         match self.ended {
             Some(e) => Turn::End(e),
@@ -48,13 +48,13 @@ impl Machine {
             → Turns g h result (progress self.old plan.old out.old.items) (progress self.new plan.new out.new.items) }
         ensures lacking { (g : Given) (h : List Item) → StandsFor g h None self.new → Follows g h plan.new
             → result ≡ Turn.Memory
-            → HasRoom self.new.processor (vec_capacity out.new - vec_len out.new) (comes_next g h) → ⊥ }
+            → HasRoom self.new.pipeline.processor (vec_capacity out.new - vec_len out.new) (comes_next g h) → ⊥ }
     {
-        let begun = self.turn;
+        let begun = self.pipeline.turn;
         'steps: loop {
             match self.advance(plan, out) {
                 Turn::On => {
-                    if self.turn != begun {
+                    if self.pipeline.turn != begun {
                         return Turn::On;
                     }
                 }
@@ -67,21 +67,21 @@ impl Machine {
 
     /// The turn at which the machine stands.
     pub fn at_turn(&self) -> u64
-        ensures value { result ≡ self.now.turn }
+        ensures value { result ≡ self.now.pipeline.turn }
         ensures small { (plan : Plan) → IsUnderWay self.now plan → result < 2 ^ 62 }
     {
-        self.turn
+        self.pipeline.turn
     }
 
     /// The registers as they stand at the machine's turn, and which of them are busy.
     pub fn raw(&self) -> Raw
         ensures { (g : Given) (h : List Item) (end : Option Finish) → StandsFor g h end self.now
-            → result ≡ raw_at g h self.now.turn }
+            → result ≡ raw_at g h self.now.pipeline.turn }
     {
         Raw {
-            turn: self.turn,
-            regs: self.processor.raw_registers(self.turn),
-            busy: self.processor.busy_registers(self.turn),
+            turn: self.pipeline.turn,
+            regs: self.pipeline.processor.raw_registers(self.pipeline.turn),
+            busy: self.pipeline.processor.busy_registers(self.pipeline.turn),
         }
     }
 
@@ -90,14 +90,11 @@ impl Machine {
     /// nothing is open and no frame is live, it is the state's memory, but for soft bytes.
     pub fn raw_byte(&self, a: u32) -> u8
         ensures raw { (g : Given) (h : List Item) (end : Option Finish) → StandsFor g h end self.now
-            → result ≡ raw_memory (boot g.image).memory.bytes self.now.turn (course g h).late a }
+            → result ≡ raw_memory (boot g.image).memory.bytes self.now.pipeline.turn (course g h).late a }
         ensures flushed { (g : Given) (h : List Item) (end : Option Finish) → StandsFor g h end self.now
-            → IsFlushed g h self.now.turn a
+            → IsFlushed g h self.now.pipeline.turn a
             → result ≡ (state_after g (records_of h)).memory.bytes a }
     {
-        match self.shade.look(a, self.turn) {
-            Some(byte) => byte,
-            None => self.processor.acted_byte(a),
-        }
+        self.pipeline.raw_byte(a)
     }
 }

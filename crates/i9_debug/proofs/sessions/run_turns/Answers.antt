@@ -16,7 +16,7 @@ loop-turn-init g c =
     let some = c.requires.some in
     record {
       under_way = c.requires.stands;
-      turned = λ what h stands follows. none_turned _ what h (c.args.m.now.turn + c.args.count) c.args.out.now c.args.m.now c.args.plan.now (omega (arith, some)) stands follows;
+      turned = λ what h stands follows. none_turned _ what h (c.args.m.now.pipeline.turn + c.args.count) c.args.out.now c.args.m.now c.args.plan.now (omega (arith, some)) stands follows;
     }
 
 pub proceed_below-requires : goal.proceed_below-requires
@@ -25,35 +25,35 @@ proceed_below-requires g c = record { stands = λ none. c.loop-turn.invariant.un
 pub returns-in_default : goal.returns-in_default
 returns-in_default g c = λ what h stands follows.
     let inv = c.loop-turn.invariant.turned what h stands follows in
-    none_left _ what h (c.args.m.now.turn + c.args.count) c.args.out.now c.loop-turn.out c.loop-turn.m c.proceed_below.new.self c.loop-turn.plan c.proceed_below.new.plan inv _ _
+    none_left _ what h (c.args.m.now.pipeline.turn + c.args.count) c.args.out.now c.loop-turn.out c.loop-turn.m c.proceed_below.new.self c.loop-turn.plan c.proceed_below.new.plan inv _ _
     c.clear.new.self.items c.proceed_below.new.out.items c.proceed_below.result c.clear.ensures.items (ap (λ t. t + c.args.count) c.at_turn.ensures.value)
     (c.proceed_below.ensures.next what (steps_on inv.done h) inv.stands inv.follows) c.in_default.is
 
 pub returns-in-Write : goal.returns-in-Write
 returns-in-Write g c = λ what h stands follows.
     let inv = c.loop-turn.invariant.turned what h stands follows in
-    stops_left _ what h (c.args.m.now.turn + c.args.count) c.args.out.now c.loop-turn.out c.loop-turn.m c.proceed_below.new.self c.loop-turn.plan c.proceed_below.new.plan inv _ _
+    stops_left _ what h (c.args.m.now.pipeline.turn + c.args.count) c.args.out.now c.loop-turn.out c.loop-turn.m c.proceed_below.new.self c.loop-turn.plan c.proceed_below.new.plan inv _ _
     c.clear.new.self.items c.proceed_below.new.out.items c.proceed_below.result c.clear.ensures.items (ap (λ t. t + c.args.count) c.at_turn.ensures.value)
     (c.proceed_below.ensures.next what (steps_on inv.done h) inv.stands inv.follows) c.print_lines.new.out c.in-Some.turn c.in-Some.is Write tt (rw c.deref.ensures.value at c.in-Write.ensures)
 
 pub returns-in-Memory : goal.returns-in-Memory
 returns-in-Memory g c = λ what h stands follows.
     let inv = c.loop-turn.invariant.turned what h stands follows in
-    stops_left _ what h (c.args.m.now.turn + c.args.count) c.args.out.now c.loop-turn.out c.loop-turn.m c.proceed_below.new.self c.loop-turn.plan c.proceed_below.new.plan inv _ _
+    stops_left _ what h (c.args.m.now.pipeline.turn + c.args.count) c.args.out.now c.loop-turn.out c.loop-turn.m c.proceed_below.new.self c.loop-turn.plan c.proceed_below.new.plan inv _ _
     c.clear.new.self.items c.proceed_below.new.out.items c.proceed_below.result c.clear.ensures.items (ap (λ t. t + c.args.count) c.at_turn.ensures.value)
     (c.proceed_below.ensures.next what (steps_on inv.done h) inv.stands inv.follows) c.print_lines.new.out c.in-Some.turn c.in-Some.is Memory tt (rw c.deref.ensures.value at c.in-Memory.ensures)
 
 pub returns-in-Memory-turn : goal.returns-in-Memory-turn
 returns-in-Memory-turn g c = λ what h stands follows.
     let inv = c.loop-turn.invariant.turned what h stands follows in
-    refused_left _ what h (c.args.m.now.turn + c.args.count) c.args.out.now c.loop-turn.out c.loop-turn.m c.proceed_below.new.self c.loop-turn.plan c.proceed_below.new.plan inv _ _
+    refused_left _ what h (c.args.m.now.pipeline.turn + c.args.count) c.args.out.now c.loop-turn.out c.loop-turn.m c.proceed_below.new.self c.loop-turn.plan c.proceed_below.new.plan inv _ _
     c.clear.new.self.items c.proceed_below.new.out.items c.proceed_below.result c.clear.ensures.items (ap (λ t. t + c.args.count) c.at_turn.ensures.value)
     (c.proceed_below.ensures.next what (steps_on inv.done h) inv.stands inv.follows) c.print_lines.new.out c.in-Some.turn c.in-Some.is (rw c.deref.ensures.value at c.in-Done.ensures) c.in-Memory-turn.is
 
 pub returns-in-End : goal.returns-in-End
 returns-in-End g c = λ what h stands follows.
     let inv = c.loop-turn.invariant.turned what h stands follows in
-    ends_left _ what h (c.args.m.now.turn + c.args.count) c.args.out.now c.loop-turn.out c.loop-turn.m c.proceed_below.new.self c.loop-turn.plan c.proceed_below.new.plan inv _ _
+    ends_left _ what h (c.args.m.now.pipeline.turn + c.args.count) c.args.out.now c.loop-turn.out c.loop-turn.m c.proceed_below.new.self c.loop-turn.plan c.proceed_below.new.plan inv _ _
     c.clear.new.self.items c.proceed_below.new.out.items c.proceed_below.result c.clear.ensures.items (ap (λ t. t + c.args.count) c.at_turn.ensures.value)
     (c.proceed_below.ensures.next what (steps_on inv.done h) inv.stands inv.follows) c.print_lines.new.out c.in-Some.turn c.in-Some.is (rw c.deref.ensures.value at c.in-Done.ensures) c.in-End.field-0 c.in-End.is
 
@@ -66,7 +66,7 @@ loop-turn-preserved-in-On g c =
           (c.proceed_below.ensures.next u.given u.items u.stands u.follows) c.in-On.is;
       turned = λ what h stands follows.
           let inv = c.loop-turn.invariant.turned what h stands follows in
-          on_left _ what h (c.args.m.now.turn + c.args.count) c.args.out.now c.loop-turn.out c.loop-turn.m c.proceed_below.new.self c.loop-turn.plan c.proceed_below.new.plan inv _ _
+          on_left _ what h (c.args.m.now.pipeline.turn + c.args.count) c.args.out.now c.loop-turn.out c.loop-turn.m c.proceed_below.new.self c.loop-turn.plan c.proceed_below.new.plan inv _ _
           c.clear.new.self.items c.proceed_below.new.out.items c.proceed_below.result c.clear.ensures.items (ap (λ t. t + c.args.count) c.at_turn.ensures.value)
           (c.proceed_below.ensures.next what (steps_on inv.done h) inv.stands inv.follows) c.print_lines.new.out c.in-Some.turn c.in-Some.is (rw c.deref.ensures.value at c.in-Done.ensures) c.in-On.is;
     }
@@ -80,7 +80,7 @@ loop-turn-preserved g c =
           (c.proceed_below.ensures.next u.given u.items u.stands u.follows) c.in-Issued.field-0 c.in-Issued.is;
       turned = λ what h stands follows.
           let inv = c.loop-turn.invariant.turned what h stands follows in
-          issued_left _ what h (c.args.m.now.turn + c.args.count) c.args.out.now c.loop-turn.out c.loop-turn.m c.proceed_below.new.self c.loop-turn.plan c.proceed_below.new.plan inv _ _
+          issued_left _ what h (c.args.m.now.pipeline.turn + c.args.count) c.args.out.now c.loop-turn.out c.loop-turn.m c.proceed_below.new.self c.loop-turn.plan c.proceed_below.new.plan inv _ _
           c.clear.new.self.items c.proceed_below.new.out.items c.proceed_below.result c.clear.ensures.items (ap (λ t. t + c.args.count) c.at_turn.ensures.value)
           (c.proceed_below.ensures.next what (steps_on inv.done h) inv.stands inv.follows) c.print_lines.new.out c.in-Some.turn c.in-Some.is (rw c.deref.ensures.value at c.in-Done.ensures) c.in-Issued.field-0 c.in-Issued.is;
     }

@@ -11,7 +11,7 @@ abbrev pub invariant-loop-turn : goal.invariant-loop-turn
 invariant-loop-turn g l = record {
   under_way : IsUnderWay l.m l.plan;
   turned : (what : Given) (h : List Item) → StandsFor what h None l.fn.m → Follows what h l.fn.plan
-      → Turned (account g.K.Sink.told g.K.Sink.faults g.K.Sink.writes g.K.Sink.sure g.K.Sink.pieces) what h (l.fn.m.turn + l.fn.count) l.fn.out l.out l.m l.plan;
+      → Turned (account g.K.Sink.told g.K.Sink.faults g.K.Sink.writes g.K.Sink.sure g.K.Sink.pieces) what h (l.fn.m.pipeline.turn + l.fn.count) l.fn.out l.out l.m l.plan;
 }
 
 abbrev pub decreases-loop-turn : goal.decreases-loop-turn

@@ -7,4 +7,4 @@ use Rattle.i9_lines.proofs.place.standing_bytes.Given as goal
 use Rattle.i9_model.specs.Run.{Finish}
 
 abbrev pub invariant-loop-k : goal.invariant-loop-k
-invariant-loop-k l = (g : Given) (h : List Item) (end : Option Finish) → StandsFor g h end l.m → l.list.items ≡ raw_bytes g h l.m.turn l.a l.k
+invariant-loop-k l = (g : Given) (h : List Item) (end : Option Finish) → StandsFor g h end l.m → l.list.items ≡ raw_bytes g h l.m.pipeline.turn l.a l.k

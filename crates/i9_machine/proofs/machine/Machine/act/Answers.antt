@@ -1,68 +1,26 @@
-use Rattle.std.proofs.Common.{ℕ, ◌+◌, ◌≤◌, sym, Option, List, ◌∷◌, ◌++◌, map, refl, ap, ◌∙◌, subst, append_assoc}
-use Rattle.i9_model.specs.declared.need.Need.{Need}
-use Rattle.i9_model.specs.Turns.{StandsFor, IsAllDone, with_need, placed_record}
+use Rattle.std.proofs.Common.{ℕ, Option, List, ◌++◌, map, ap, ◌∙◌, append_assoc}
 use Rattle.std.specs.Option.{option_copied}
 use Rattle.i9_model.specs.PrintedText.{Shown, out_lines, point_lines}
 use Rattle.i9_machine.proofs.Issuing.{points_alike}
-use Rattle.i9_processor.specs.State.{state_of, cells_of}
-use Rattle.i9_model.specs.Late.{resource}
-use Rattle.i9_regs.specs.File.{issued_over}
-use Rattle.i9_machine.specs.Doing.{reached_lines, state_behind}
-use Rattle.i9_machine.specs.Issuing.{most_turns}
-use Rattle.i9_raw.specs.Raw.{shades_need}
+use Rattle.i9_processor.specs.State.{state_of}
+use Rattle.i9_pipeline.specs.Issuing.{state_behind}
+use Rattle.i9_machine.specs.Doing.{reached_lines}
 use Rattle.i9_machine.specs.Line.{shown_of}
 use Rattle.i9_machine.proofs.machine.Machine.act.Goals as goal
 
 pub returns-clause-lines : goal.returns-clause-lines
 returns-clause-lines c =
-    let s = state_of c.args.self.now.processor in
-    let after = state_behind c.args.self.now c.args.self.now.effect c.args.step.now in
+    let s = state_of c.args.self.now.pipeline.processor in
+    let after = state_behind s c.args.self.now.effect c.args.step.now.counts in
     let event = reached_lines (option_copied c.args.event) s in
     let points = point_lines (c.args.step.now.point) after in
     let bytes = out_lines c.console_byte.result in
     let old = map shown_of c.args.out.now.items in
     c.put_point.ensures
     ∙ ap (λ (ls : List Shown). map shown_of c.put_out.new.out.items ++ ls)
-    (points_alike c.args.step.now.point after (state_of c.apply.new.self) c.apply.ensures.state)
+    (points_alike c.args.step.now.point after (state_of c.issue.new.self.processor) c.issue.ensures.state)
     ∙ ap (λ (ls : List Shown). ls ++ points) c.put_out.ensures.lines
     ∙ ap (λ (ls : List Shown). (ls ++ bytes) ++ points) c.put_event.ensures.lines
     ∙ append_assoc (old ++ event) bytes points
     ∙ append_assoc old event (bytes ++ points)
     ∙ ap (λ (b : Option ℕ). old ++ (event ++ (out_lines b ++ points))) c.console_byte.ensures
-
-pub returns-clause-issued : goal.returns-clause-issued
-returns-clause-issued c = λ need fenced.
-    let m = c.args.self.now in
-    let place = c.place_at-placed in
-    let acts = c.apply.ensures in
-    let hidden = c.hide_under.ensures in
-    let request = ap (λ (n : Need). n.request) fenced in
-    record {
-      placed = place.result;
-      board = λ rs stands. subst (λ (n : Need). StandsFor place.new.self (placed_record n place.result ∷ rs)) fenced
-          (place.ensures.of_all rs stands);
-      timed = λ rs stands. subst (λ (n : Need). StandsFor place.new.self (with_need rs n)) fenced
-          (place.ensures.computed rs stands).0;
-      bound = λ b done waited.
-          subst (λ (n : ℕ). IsAllDone place.new.self (b + n)) (ap (λ (n : Need). n.cost) fenced)
-          (place.ensures.bound b done (subst (λ (n : Need). n.not_before ≤ b) (sym fenced) waited));
-      cost = subst (λ (n : Need). n.cost ≤ most_turns) fenced c.requires.turns;
-      keeps = refl;
-      hides = record {
-        bytes = λ is. hidden.bytes (ap shades_need fenced ∙ is);
-        due = λ is. hidden.due (ap shades_need fenced ∙ is);
-        keeps = λ beside. hidden.keeps (ap shades_need fenced ∙ beside);
-      };
-      acts = record {
-        cells = λ r lt. acts.cells r lt ∙ λ i. issued_over (fenced i).writes place.result.done r
-            (resource (state_of c.apply.new.self) r) (cells_of m.processor r);
-        waits = λ is. acts.waits (request ∙ is);
-        acts = λ is. acts.acts (request ∙ is);
-        still = λ is. acts.still (request ∙ is);
-      };
-    }
-
-pub apply-requires-clause-acts : goal.apply-requires-clause-acts
-apply-requires-clause-acts c =
-    let place = c.place_at-placed in
-    c.requires.acts place.result place.new.self place.ensures.of_all

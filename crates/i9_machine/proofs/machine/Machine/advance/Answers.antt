@@ -33,8 +33,8 @@ come-requires-clause-arrived c =
     let t = c.look-turn.result.0 in
     let u = c.requires.stands c.in-None-2.is in
     let arrives = c.look-turn.ensures.arrives u.given u.items u.stands u.follows in
-    let turn : (ahead u.given u.items).turn ≡ max m.turn t = arrives.turn in
-    let same : mid.turn ≡ m.turn = λ i. (c.look-turn.ensures.like i).turn in
+    let turn : (ahead u.given u.items).turn ≡ max m.pipeline.turn t = arrives.turn in
+    let same : mid.pipeline.turn ≡ m.pipeline.turn = λ i. (c.look-turn.ensures.like i).pipeline.turn in
     here_arrived u.given u.items (contents_of m) (contents_of mid) t c.args.plan.now c.look-turn.result.1 arrives
     (rw c.look-turn.ensures.like u.stands) u.follows (omega (arith, turn, same, c.if-self-turn.false))
 
@@ -43,9 +43,9 @@ returns-then-self-turn-clause-next c = λ g h stands follows.
     let m = c.args.self.now in
     let mid = c.look-turn.new.self in
     let t = c.look-turn.result.0 in
-    let turn : (ahead g h).turn ≡ max m.turn t = (c.look-turn.ensures.arrives g h stands follows).turn in
-    let same : mid.turn ≡ m.turn = λ i. (c.look-turn.ensures.like i).turn in
-    let later : mid.turn < t = c.if-self-turn.true in
+    let turn : (ahead g h).turn ≡ max m.pipeline.turn t = (c.look-turn.ensures.arrives g h stands follows).turn in
+    let same : mid.pipeline.turn ≡ m.pipeline.turn = λ i. (c.look-turn.ensures.like i).pipeline.turn in
+    let later : mid.pipeline.turn < t = c.if-self-turn.true in
     subst (λ (x : Turn). Advances g h x (progress m c.args.plan.now c.args.out.now.items)
     (progress c.wait_until.new.self c.args.plan.now c.args.out.now.items)) (sym c.wait_until.ensures.answer)
     (inl (moved g h m c.wait_until.new.self c.args.plan.now c.args.out.now.items t stands follows
@@ -69,8 +69,8 @@ returns-else-self-turn-clause-next c = λ g h stands follows.
     let out = c.args.out.now in
     let new = c.come.new in
     let arrives = c.look-turn.ensures.arrives g h stands follows in
-    let turn : (ahead g h).turn ≡ max m.turn c.look-turn.result.0 = arrives.turn in
-    let same : c.look-turn.new.self.turn ≡ m.turn = λ i. (c.look-turn.ensures.like i).turn in
+    let turn : (ahead g h).turn ≡ max m.pipeline.turn c.look-turn.result.0 = arrives.turn in
+    let same : c.look-turn.new.self.pipeline.turn ≡ m.pipeline.turn = λ i. (c.look-turn.ensures.like i).pipeline.turn in
     comes_advances g h c.come.result _ _
     (came_comes g h (progress m plan out.items) (progress new.self new.plan new.out.items) _ _ stands follows
     (omega (arith, turn, same, c.if-self-turn.false))
@@ -83,27 +83,30 @@ returns-else-self-turn-clause-lacking c = λ g h stands follows is room.
     let out = c.args.out.now in
     let costs = rw c.look-turn.ensures.like at c.come.ensures.costs in
     costs.lacking is
-    (next_room g h (contents_of m) c.args.plan.now m.processor (vec_capacity out - vec_len out) stands follows room)
+    (next_room g h (contents_of m) c.args.plan.now m.pipeline.processor (vec_capacity out - vec_len out) stands
+    follows room)
 
 pub returns-else-self-turn-clause-still_lacking : goal.returns-else-self-turn-clause-still_lacking
 returns-else-self-turn-clause-still_lacking c = λ g h stands follows is room.
     let new = c.come.new in
     c.come.ensures.costs.still_lacking is
-    (next_room g h (contents_of new.self) new.plan new.self.processor
+    (next_room g h (contents_of new.self) new.plan new.self.pipeline.processor
     (vec_capacity new.out - vec_len new.out) stands follows room)
 
 pub returns-in-None-clause-only : goal.returns-in-None-clause-only
 returns-in-None-clause-only c = λ g h stands follows.
-    none_next c.args.self.now.processor c.move_on.new.self.processor (comes_next g h) c.move_on.ensures.no_more
+    none_next c.args.self.now.pipeline.processor c.move_on.new.self.pipeline.processor (comes_next g h)
+    c.move_on.ensures.no_more
 
 pub returns-then-self-turn-clause-only : goal.returns-then-self-turn-clause-only
 returns-then-self-turn-clause-only c = λ g h stands follows.
-    let new = c.wait_until.new.self.processor in
-    subst (λ (x : Machine). AddsNextOnly x.processor new (comes_next g h)) c.look-turn.ensures.like
-    (none_next c.look-turn.new.self.processor new (comes_next g h) c.wait_until.ensures.no_more)
+    let new = c.wait_until.new.self.pipeline.processor in
+    subst (λ (x : Machine). AddsNextOnly x.pipeline.processor new (comes_next g h)) c.look-turn.ensures.like
+    (none_next c.look-turn.new.self.pipeline.processor new (comes_next g h) c.wait_until.ensures.no_more)
 
 pub returns-else-self-turn-clause-only : goal.returns-else-self-turn-clause-only
 returns-else-self-turn-clause-only c = λ g h stands follows.
     let m = c.args.self.now in
     let costs = rw c.look-turn.ensures.like at c.come.ensures.costs in
-    run_only g h (contents_of m) c.args.plan.now m.processor c.come.new.self.processor stands follows costs.only
+    run_only g h (contents_of m) c.args.plan.now m.pipeline.processor c.come.new.self.pipeline.processor stands
+    follows costs.only

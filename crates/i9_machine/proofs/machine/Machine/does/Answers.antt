@@ -21,14 +21,16 @@ returns c = λ need stands plan is_next is_need cost.
       effect = r.effect;
       point = c.point_by_name.ensures ∙ ap (λ (i : Inst). point_by_name i.op) c.inst.ensures;
       counts = refl;
-      due = c.due_by.ensures ∙ ap (action_due (state_of m.processor)) r.effect.same;
+      due = c.due_by.ensures ∙ ap (action_due (state_of m.pipeline.processor)) r.effect.same;
       reaches = refl;
       event = refl;
       tells = c.issued.ensures _
-          (subst (λ (w : Words). TellsWords (words_of inst) (state_of m.processor) w) (sym c.words.ensures) r.words);
+          (subst (λ (w : Words). TellsWords (words_of inst) (state_of m.pipeline.processor) w) (sym c.words.ensures)
+          r.words);
       is_need = is_need;
       cost = cost;
       row = λ request. r.row
-          (request_named inst (size_of m.processor) (cache_of m.processor) (state_of m.processor)
+          (request_named inst (size_of m.pipeline.processor) (cache_of m.pipeline.processor)
+          (state_of m.pipeline.processor)
           (sym (ap (λ (n : Need). n.request) is_need) ∙ request));
     }

@@ -9,8 +9,9 @@ reaches-requires-clause-stands c =
     let m = c.args.self.now in
     let r = c.requires in
     let plan = c.args.plan.now in
-    sym (timely_event (situation m) m.turn plan r.timely (record { due = r.free; below = r.below; chosen = r.chosen }))
-    ∙ (λ i. standing_by plan.events plan.place (sym c.count.ensures i) m.turn)
+    sym (timely_event (situation m) m.pipeline.turn plan r.timely
+    (record { due = r.free; below = r.below; chosen = r.chosen }))
+    ∙ (λ i. standing_by plan.events plan.place (sym c.count.ensures i) m.pipeline.turn)
     ∙ sym c.in-Some.ensures.event
 
 pub next_instruction-requires-clause-stands : goal.next_instruction-requires-clause-stands
@@ -18,6 +19,7 @@ next_instruction-requires-clause-stands c =
     let m = c.args.self.now in
     let r = c.requires in
     let plan = c.args.plan.now in
-    sym (timely_event (situation m) m.turn plan r.timely (record { due = r.free; below = r.below; chosen = r.chosen }))
-    ∙ (λ i. standing_by plan.events plan.place (sym c.count.ensures i) m.turn)
+    sym (timely_event (situation m) m.pipeline.turn plan r.timely
+    (record { due = r.free; below = r.below; chosen = r.chosen }))
+    ∙ (λ i. standing_by plan.events plan.place (sym c.count.ensures i) m.pipeline.turn)
     ∙ sym c.in-None.ensures.event

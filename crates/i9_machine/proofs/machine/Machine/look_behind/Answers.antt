@@ -11,19 +11,21 @@ pub returns-in-Some-clause-arrives : goal.returns-in-Some-clause-arrives
 returns-in-Some-clause-arrives c = λ plan g h stands follows.
     let m = c.args.self.now in
     let t = c.in-Some.issue in
-    let same : c.issue_ahead.new.self.done ≡ m.done = λ i. (c.issue_ahead.ensures.like i).done in
-    let sooner : t < c.issue_ahead.new.self.done = c.if-issue-self.true in
+    let same : c.issue_ahead.new.self.pipeline.done ≡ m.pipeline.done = λ i.
+    (c.issue_ahead.ensures.like i).pipeline.done in
+    let sooner : t < c.issue_ahead.new.self.pipeline.done = c.if-issue-self.true in
     let late = sooner_imprecise g h (contents_of m) c.args.address t stands c.in-Some.ensures.turn c.requires.late
     (omega (arith, sooner, same)) in
     let is : (ahead g h).turn ≡ t = late.1 in
-    let in_time : m.turn ≤ (ahead g h).turn = stands.lands.in_time in
+    let in_time : m.pipeline.turn ≤ (ahead g h).turn = stands.lands.in_time in
     record { turn = omega (arith, is, in_time); imprecise = late.0 }
 
 pub returns-in_default-clause-arrives : goal.returns-in_default-clause-arrives
 returns-in_default-clause-arrives c = λ plan g h stands follows.
     let m = c.args.self.now in
-    let same : c.issue_ahead.new.self.done ≡ m.done = λ i. (c.issue_ahead.ensures.like i).done in
-    let later : c.issue_ahead.new.self.done ≤ c.in-Some.issue = c.if-issue-self.false in
+    let same : c.issue_ahead.new.self.pipeline.done ≡ m.pipeline.done = λ i.
+    (c.issue_ahead.ensures.like i).pipeline.done in
+    let later : c.issue_ahead.new.self.pipeline.done ≤ c.in-Some.issue = c.if-issue-self.false in
     ends_arrive (contents_of m) plan c.args.until _ c.requires.until c.requires.open
     (due_waits (situation m) plan (late_not_nothing (situation m) c.args.address c.requires.late)) g h stands follows
     (later_precise g h (contents_of m) c.in-Some.issue stands c.in-Some.ensures.turn (omega (arith, same, later)))

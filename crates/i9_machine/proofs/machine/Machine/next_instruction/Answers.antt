@@ -25,7 +25,7 @@ returns-in-Refused-clause-next c =
     ∙ ap (next_by_standing at.state)
     (sym c.plan_here.ensures.standing ∙ ap (standing_of c.plan_here.new.decodes) c.in-Refused.is) in
     planned at c.keep.new.self c.args.plan.now _ c.need_refused-need.result _
-    (c.keep.ensures.need ∙ λ i. waiting_until (c.faults-step.ensures.like i).floor c.need_refused-need.result)
+    (c.keep.ensures.need ∙ λ i. waiting_until (c.faults-step.ensures.like i).pipeline.floor c.need_refused-need.result)
     c.keep.ensures.effect r.stands
     (c.faults-step.ensures.step c.need_refused-need.result None None c.args.plan.now refl itself
     (c.need_refused-need.ensures.need at.size at.cache) c.need_refused-need.ensures.cost)
@@ -39,7 +39,8 @@ returns-in-Faults-clause-next c =
     (sym c.plan_here.ensures.standing ∙ ap (standing_of c.plan_here.new.decodes) c.in-Faults.is) in
     planned at c.keep-in-Faults.new.self c.args.plan.now _ c.need_faulted-need.result _
     (c.keep-in-Faults.ensures.need ∙ λ i. waiting_until
-    (c.faults_by-step.ensures.like i).floor c.need_faulted-need.result) c.keep-in-Faults.ensures.effect r.stands
+    (c.faults_by-step.ensures.like i).pipeline.floor c.need_faulted-need.result) c.keep-in-Faults.ensures.effect
+    r.stands
     (c.faults_by-step.ensures.step c.need_faulted-need.result None c.args.plan.now itself
     (c.need_faulted-need.ensures.need at.size at.cache) c.need_faulted-need.ensures.cost)
 

@@ -1,5 +1,6 @@
-use Rattle.std.proofs.Common.{◌≡◌, ℕ, ◌+◌, ◌≤◌, List, ◌++◌, map, sym, ap, ◌∙◌, subst, subst₂}
+use Rattle.std.proofs.Common.{◌≡◌, ℕ, ◌+◌, ◌≤◌, List, ◌++◌, map, sym, ap, ◌∙◌, subst, subst₂, arith}
 use Rattle.i9_model.specs.declared.need.Need.{Need}
+use Rattle.i9_model.specs.declared.layout.TheConstants.{MAX_LENGTH}
 use Rattle.i9_model.specs.HeldFrames.{Cache, AreWhole, renewed, cache_acted, cache_configured}
 use Rattle.i9_model.specs.PrintedText.{Shown}
 use Rattle.i9_model.specs.State.{State}
@@ -20,9 +21,10 @@ use Rattle.i9_machine.specs.declared.step.Step.{Step}
 use Rattle.i9_machine.specs.Contents.{situation, Contents, contents_of}
 use Rattle.i9_machine.specs.Line.{shown_of}
 use Rattle.i9_machine.specs.StandsFor.{HasCome, left_after}
-use Rattle.i9_machine.specs.Issuing.{IsIssued}
+use Rattle.i9_pipeline.specs.Issuing.{IsIssued, state_behind}
+use Rattle.i9_pipeline.specs.Flow.{flow_of}
 use Rattle.i9_machine.specs.NewPages.{AddsNextOnly}
-use Rattle.i9_machine.specs.Doing.{action_for, lines_of, asks_room, HasRoomForStep, state_behind_of}
+use Rattle.i9_machine.specs.Doing.{action_for, lines_of, asks_room, HasRoomForStep}
 use Rattle.i9_machine.specs.Step.{TellsRecord, LeavesFewer, IsStep, Did, Steps, stage, left_from, left_of, event_for, next_for}
 use Rattle.i9_machine.proofs.Arriving.{kept_planned, same_planned}
 use Rattle.i9_machine.proofs.NewPages.{none_then}
@@ -53,9 +55,23 @@ act-answer-requires-clause-ready c =
       free = subst (IsFree at.state) (sym step.effect.same) free.1;
       controls = subst (λ (a : Action). CanControl (moved at.state a) mid.effect.control)
           (sym step.effect.same) step.effect.controls;
-      below = subst (λ (n : ℕ). at.state.count + n ≤ at.length) (sym step.counts)
-          (did_within at c.args.plan.now step.kind mid.below step.is_next);
+      below =
+          let below : at.state.count + c.args.step.now.counts ≤ at.length =
+          subst (λ (n : ℕ). at.state.count + n ≤ at.length) (sym step.counts)
+          (did_within at c.args.plan.now step.kind mid.below step.is_next) in
+          let short : at.length ≤ MAX_LENGTH = mid.short in
+          omega (arith, below, short);
     }
+
+pub act-answer-requires-clause-below : goal.act-answer-requires-clause-below
+act-answer-requires-clause-below c =
+    let mid = c.make_room.new.self in
+    let made = c.make_room.ensures in
+    let at = situation mid in
+    let step = (same_planned c.args.self.now mid c.args.plan.now c.args.step.now made.same made.effect made.need
+    c.requires.step).is in
+    subst (λ (n : ℕ). at.state.count + n ≤ at.length) (sym step.counts)
+    (did_within at c.args.plan.now step.kind mid.below step.is_next)
 
 pub act-answer-requires-clause-made : goal.act-answer-requires-clause-made
 act-answer-requires-clause-made c =
@@ -67,7 +83,7 @@ act-answer-requires-clause-made c =
     let free = next_free at.length at.due (event_for at c.args.plan.now) at.state
     (record_of step.kind at.state) step.is_next in
     let a = action_for mid mid.effect in
-    let made = subst (λ (k : Contents). AreMade k.sets k.at.state.memory mid.effect.control c.in-Ok.sets)
+    let made = subst (λ (k : Contents). AreMade k.sets k.pipeline.state.memory mid.effect.control c.in-Ok.sets)
     (sym room.same) c.in-Ok.ensures.made in
     made_takes mid.sets at.state.memory mid.effect.control c.in-Ok.sets a.move a.writes made
     (subst (IsFree at.state) (sym step.effect.same) free.1).controls
@@ -76,22 +92,25 @@ pub act-answer-requires-clause-cost : goal.act-answer-requires-clause-cost
 act-answer-requires-clause-cost c =
     let m = c.args.self.now in
     let kept = kept_planned (situation m) c.args.plan.now c.args.step.now m c.requires.step in
-    rw (c.make_room.ensures.need ∙ kept.fenced) (waiting_cost m.floor kept.need kept.some)
+    rw (c.make_room.ensures.need ∙ kept.fenced) (waiting_cost m.pipeline.floor kept.need kept.some)
 
 pub act-answer-requires-clause-early : goal.act-answer-requires-clause-early
 act-answer-requires-clause-early c =
     let m = c.args.self.now in
     let u = c.requires.come in
     let kept = kept_planned (situation m) c.args.plan.now c.args.step.now m c.requires.step in
-    let board : c.make_room.new.self.board ≡ m.board = λ i. (c.make_room.ensures.same i).at.board in
+    let board : c.make_room.new.self.pipeline.board ≡ m.pipeline.board = λ i.
+    (c.make_room.ensures.same i).pipeline.board in
     rw (board, c.make_room.ensures.need ∙ kept.fenced)
     (paced_early (contents_of m) (left_after u.given (records_of u.items)) kept.need u.stands.paced kept.none kept.cost)
 
 pub act-answer-requires-clause-whole : goal.act-answer-requires-clause-whole
 act-answer-requires-clause-whole c =
     let come = c.requires.come in
-    let cached = cached-after come.given (records_of come.items) (course_events come.given come.items come.stands.past) in
-    subst (λ (d : Cache). AreWhole d.held) (sym ((λ i. (c.make_room.ensures.same i).at.cache) ∙ come.stands.cache))
+    let cached = cached-after come.given (records_of come.items)
+    (course_events come.given come.items come.stands.past) in
+    subst (λ (d : Cache). AreWhole d.held) (sym ((λ i. (c.make_room.ensures.same i).pipeline.cache) ∙
+    come.stands.cache))
     cached.youngest.whole
 
 pub act-answer-requires-clause-covered : goal.act-answer-requires-clause-covered
@@ -128,15 +147,16 @@ returns-in-Ok-clause-steps c =
     let e = mid.effect in
     let lines = c.args.out.now.items in
     let after = stage new c.go_on.new.plan c.act-answer.new.out in
-    let made = subst (λ (k : Contents). AreMade k.sets k.at.state.memory e.control c.in-Ok.sets)
+    let made = subst (λ (k : Contents). AreMade k.sets k.pipeline.state.memory e.control c.in-Ok.sets)
     (sym room.same) c.in-Ok.ensures.made in
     let done : Did (record (stage old was c.args.out.now) { contents = contents_of mid }) step.answer after = record {
       done = record_of is.kind at.state;
       is_next = is.is_next;
       need = kept.need;
       is_need = is.is_need;
-      issued = subst (λ (a : Action). IsIssued (contents_of mid) kept.need a (contents_of new)) is.effect.same
+      issued = subst (λ (a : Action). IsIssued (flow_of mid.pipeline) kept.need a (flow_of new.pipeline)) is.effect.same
           (act.issued kept.need kept.fenced);
+      rest = act.rest;
       state = subst (λ (t : State). AreAlike t (situation new).state) (step_after at was step kept.need e is) act.state;
       cache = act.cache ∙ ap
           (λ (a : Action). cache_configured (situation new).state.memory (cache_acted at.size a at.cache))
@@ -150,7 +170,7 @@ returns-in-Ok-clause-steps c =
       lines =
           act.lines
           ∙ (λ i. map shown_of (room.items i) ++ lines_of e step (c.next_event-event.ensures.event i) at.state
-          (state_behind_of at.state e step))
+          (state_behind at.state e step.counts))
           ∙ ap (λ (ls : List Shown). map shown_of lines ++ ls) (step_lines at was step kept.need e is);
       tells = is.tells;
     } in
@@ -160,11 +180,11 @@ returns-in-Ok-clause-steps c =
 
 -- what was made room for is what comes next
 made_only : (m new : Machine) (plan : Plan) (step : Step) (need : Need) → IsStep (situation m) plan step need m.effect
-    → AddsActionOnly m.processor new.processor (action_for m m.effect)
-    → AddsNextOnly m.processor new.processor (next_for (situation m) plan)
+    → AddsActionOnly m.pipeline.processor new.pipeline.processor (action_for m m.effect)
+    → AddsNextOnly m.pipeline.processor new.pipeline.processor (next_for (situation m) plan)
 made_only m new plan step need is only =
-    subst (AddsNextOnly m.processor new.processor) (sym is.is_next)
-    (subst (AddsActionOnly m.processor new.processor) is.effect.same only)
+    subst (AddsNextOnly m.pipeline.processor new.pipeline.processor) (sym is.is_next)
+    (subst (AddsActionOnly m.pipeline.processor new.pipeline.processor) is.effect.same only)
 
 pub returns-in-Ok-clause-costs : goal.returns-in-Ok-clause-costs
 returns-in-Ok-clause-costs c =
@@ -178,21 +198,21 @@ returns-in-Ok-clause-costs c =
     let kept = same_planned old mid was step room.same room.effect room.need c.requires.step in
     let is = kept.is in
     let at = situation mid in
-    let keeps = (act.issued kept.need kept.fenced).keeps in
     let none = no_memory is.kind at.state in
     let before = record (stage old was c.args.out.now) { contents = contents_of mid } in
     let after = stage new c.go_on.new.plan c.act-answer.new.out in
     let less = did_fewer before after (record_of is.kind at.state) mid.below is.is_next
     (subst (λ (t : State). AreAlike t (situation new).state) (step_after at was step kept.need mid.effect is) act.state)
-    (act.due ∙ is.due) (λ i. (keeps i).at.length) (c.go_on.ensures ∙ plan_is_behind at was step kept.need mid.effect is)
-    (λ i. (keeps i).turn) in
+    (act.due ∙ is.due) (λ i. (act.rest i).length) (c.go_on.ensures ∙ plan_is_behind at was step kept.need mid.effect is)
+    act.turn in
     let fewer = fewer_by step.answer at.state is.kind (left_of before) (left_of after) is.tells less in
     record {
       lacking = λ refused. absurd (none (subst (TellsRecord is.kind at.state) (sym act.answer ∙ refused) is.tells));
       still_lacking = λ refused. absurd
           (none (subst (TellsRecord is.kind at.state) (sym act.answer ∙ refused) is.tells));
       only = made_only old new was step c.requires.step.need c.requires.step.is
-          (none_then old.processor mid.processor new.processor (action_for old old.effect) room.only act.no_more);
+          (none_then old.pipeline.processor mid.pipeline.processor new.pipeline.processor (action_for old old.effect)
+          room.only act.no_more);
       fewer = subst₂ (λ (k : Contents) (t : Turn). LeavesFewer t (left_from k was) (left_of after)) room.same
           (sym act.answer) fewer;
     }

@@ -54,12 +54,12 @@ returns-in_default-clause-next c = λ g h stands follows.
     let new = c.come.new in
     let at = c.look-turn.ensures.arrives g h stands follows in
     let come = come_passed g h m mid next t _ like at c.pass_to-in_default.ensures.passed stands in
-    let turn : (ahead g h).turn ≡ max m.turn t = at.turn in
-    let same : mid.turn ≡ m.turn = λ i. (like i).turn in
+    let turn : (ahead g h).turn ≡ max m.pipeline.turn t = at.turn in
+    let same : mid.pipeline.turn ≡ m.pipeline.turn = λ i. (like i).pipeline.turn in
     let below : IfSome c.args.until (λ u. (ahead g h).turn < u) = elim c.in_default.branch [
       | in_default-via-in-Some+else-until-max w ↦
           let late = w.if-until-max.false in
-          let at : w.max.result ≡ max t mid.turn = w.max.ensures in
+          let at : w.max.result ≡ max t mid.pipeline.turn = w.max.ensures in
           subst (λ (u : Option ℕ). IfSome u (λ u. (ahead g h).turn < u)) (sym w.in-Some.is)
           (omega (arith, late, at, turn, same))
       | in_default-via-in_default w ↦ none_below g h c.args.until w.in_default.not-Some
@@ -75,8 +75,9 @@ returns-in_default-clause-next c = λ g h stands follows.
         lacking = λ is room.
             let spare = vec_capacity out - vec_len out in
             let keeps = rw like at c.pass_to-in_default.ensures.room in
-            c.come.ensures.costs.lacking is (next_room g h (contents_of next) plan next.processor spare come.0 follows
-            (kept_room m.processor next.processor spare (comes_next g h) keeps room));
+            c.come.ensures.costs.lacking is (next_room g h (contents_of next) plan next.pipeline.processor spare
+            come.0 follows
+            (kept_room m.pipeline.processor next.pipeline.processor spare (comes_next g h) keeps room));
       },
     )
 
@@ -95,9 +96,9 @@ returns-in_default-clause-only c = λ g h stands follows.
     let like = c.look-turn.ensures.like in
     let at = c.look-turn.ensures.arrives g h stands follows in
     let come = come_passed g h m _ next c.look-turn.result.0 _ like at c.pass_to-in_default.ensures.passed stands in
-    next_behind m.processor next.processor c.come.new.self.processor (comes_next g h)
+    next_behind m.pipeline.processor next.pipeline.processor c.come.new.self.pipeline.processor (comes_next g h)
     (rw like at c.pass_to-in_default.ensures.no_more)
-    (run_only g h (contents_of next) c.args.plan.now next.processor _ come.0 follows c.come.ensures.costs.only)
+    (run_only g h (contents_of next) c.args.plan.now next.pipeline.processor _ come.0 follows c.come.ensures.costs.only)
 
 pub returns-in-Some-clause-next : goal.returns-in-Some-clause-next
 returns-in-Some-clause-next c = λ g h stands follows.
@@ -105,12 +106,12 @@ returns-in-Some-clause-next c = λ g h stands follows.
     let mid = c.look-turn.new.self in
     let next = c.pass_to.new.self in
     let u = c.in-Some.until in
-    let turn : (ahead g h).turn ≡ max m.turn c.look-turn.result.0 = (c.look-turn.ensures.arrives g h stands
+    let turn : (ahead g h).turn ≡ max m.pipeline.turn c.look-turn.result.0 = (c.look-turn.ensures.arrives g h stands
     follows).turn in
-    let same : mid.turn ≡ m.turn = λ i. (c.look-turn.ensures.like i).turn in
+    let same : mid.pipeline.turn ≡ m.pipeline.turn = λ i. (c.look-turn.ensures.like i).pipeline.turn in
     let low : u ≤ c.max.result = c.if-until-max.true in
-    let at : c.max.result ≡ max c.look-turn.result.0 mid.turn = c.max.ensures in
-    let now : next.turn ≡ max mid.turn u = passed_turn u mid next c.pass_to.ensures.passed in
+    let at : c.max.result ≡ max c.look-turn.result.0 mid.pipeline.turn = c.max.ensures in
+    let now : next.pipeline.turn ≡ max mid.pipeline.turn u = passed_turn u mid next c.pass_to.ensures.passed in
     let later : u ≤ (ahead g h).turn = omega (arith, turn, same, low, at) in
     subst (λ (x : Option ℕ). ProceedsUntil g h x None (vec_capacity c.args.out.now - vec_len c.args.out.now)
     (progress m c.args.plan.now c.args.out.now.items) (progress next c.args.plan.now c.args.out.now.items))
@@ -125,6 +126,6 @@ returns-in-Some-clause-next c = λ g h stands follows.
 
 pub returns-in-Some-clause-only : goal.returns-in-Some-clause-only
 returns-in-Some-clause-only c = λ g h stands follows.
-    let next = c.pass_to.new.self.processor in
-    none_next c.args.self.now.processor next (comes_next g h)
+    let next = c.pass_to.new.self.pipeline.processor in
+    none_next c.args.self.now.pipeline.processor next (comes_next g h)
     (rw c.look-turn.ensures.like at c.pass_to.ensures.no_more)

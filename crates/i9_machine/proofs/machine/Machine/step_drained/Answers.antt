@@ -19,12 +19,12 @@ issue_turn-issue-requires-clause-pace c =
 pub issue_turn-issue-requires-clause-need : goal.issue_turn-issue-requires-clause-need
 issue_turn-issue-requires-clause-need c =
     let mid = c.next_step.new.self in
-    subst (λ (m : Machine). HasKept m.floor mid.need) (sym c.next_step.ensures.like)
+    subst (λ (m : Machine). HasKept m.pipeline.floor mid.need) (sym c.next_step.ensures.like)
     (kept_planned (situation c.args.self.now) c.args.plan.now c.in-Ok.step mid c.in-Ok.ensures.next)
 
 pub returns-in-Err-clause-costs : goal.returns-in-Err-clause-costs
 returns-in-Err-clause-costs c =
     let before = stage c.args.self.now c.args.plan.now c.args.out.now in
     finish_costs before _ c.answer_end.result _ (end_fits before _ c.in-Err.ensures.next)
-    (c.answer_end.ensures.processor ∙ (λ i. (c.next_step.ensures.like i).processor))
+    (c.answer_end.ensures.processor ∙ (λ i. (c.next_step.ensures.like i).pipeline.processor))
     (rw c.next_step.ensures.like at c.answer_end.ensures.finishes)

@@ -14,7 +14,7 @@ does-step-requires-clause-named c light =
     let at = situation m in
     let kept = c.requires.runs.ahead.kept in
     no_barrier_named (inst_in m.decodes) at.size at.cache at.state
-    (sym (ap (λ (n : Need). n.barrier) (kept.fenced ∙ ap (waiting_until m.floor) kept.is_need)) ∙
+    (sym (ap (λ (n : Need). n.barrier) (kept.fenced ∙ ap (waiting_until m.pipeline.floor) kept.is_need)) ∙
     (c.requires.light light).barrier)
 
 pub perform-requires-clause-step : goal.perform-requires-clause-step

@@ -1,0 +1,4 @@
+pub mod Raw
+pub mod Adding
+pub mod Flow
+pub mod Issuing
