@@ -47,7 +47,7 @@ module _ {K : Type 0} (k : Account K) (g : Given) (h : List Item) (u : ℕ) wher
   turned_whole a b before m was plan inv ls d =
       let low : before.pipeline.turn < u = inv.low in
       let turn : m.pipeline.turn ≡ max before.pipeline.turn u = d.turn in
-      let begun : last_issue (late_turns (course g (steps_on inv.done h)).late) ≤ before.pipeline.turn = inv.stands.lands.begun in
+      let begun : last_issue (late_turns (course g (steps_on inv.done h)).late) ≤ before.pipeline.turn = inv.stands.flow.begun in
       record {
         text = text_of (lines_of inv.done);
         last = at (steps_on inv.done h) u;
@@ -72,7 +72,7 @@ module _ {K : Type 0} (k : Account K) (g : Given) (h : List Item) (u : ℕ) wher
       → Follows g (steps_on xs (steps_on rs h)) plan → m.pipeline.turn < u → length xs ≤ 1
       → Left (text_of (lines_of rs)) (text_of (lines_of xs)) m plan
   left_behind rs xs m plan stands follows low few =
-      let begun : last_issue (late_turns (course g (steps_on xs (steps_on rs h))).late) ≤ m.pipeline.turn = stands.lands.begun in
+      let begun : last_issue (late_turns (course g (steps_on xs (steps_on rs h))).late) ≤ m.pipeline.turn = stands.flow.begun in
       let on = turns_lead g (steps_on xs (steps_on rs h)) u (omega (arith, begun, low)) stands.past in
       let leads = turns_after g h rs u (text_of (lines_of xs) ++ on.0) on.1 (turns_after g (steps_on rs h) xs u on.0 on.1 on.2) in
       record {

@@ -23,8 +23,9 @@ use Rattle.i9_machine.specs.declared.machine.Machine.{Machine}
 use Rattle.i9_machine.specs.declared.step.Coming.{Coming}
 use Rattle.i9_machine.specs.declared.step.Coming.TheVariants.{Waiting, Overtaking}
 use Rattle.i9_machine.specs.Coming.{ArrivesAt, Arrives, HasArrived, IsAhead, IsNextInstruction, kind_of, overtaken_by}
+use Rattle.i9_pipeline.proofs.Paced.{paced_turn}
 use Rattle.i9_machine.specs.Contents.{Situation, situation, situation_in, outlook, Contents, contents_of, IsLike, at_turn, IsMovedTo, IsPassedTo}
-use Rattle.i9_pipeline.specs.Flow.{IsEndTurn}
+use Rattle.i9_pipeline.specs.Flow.{flow_of, IsEndTurn}
 use Rattle.i9_pipeline.specs.Issuing.{most_turns}
 use Rattle.i9_machine.specs.Opening.{NextWaits, HasKept, HasNeed}
 use Rattle.i9_machine.specs.Overtaking.{late_due, HasPace, IssuesAhead}
@@ -34,7 +35,7 @@ use Rattle.i9_machine.specs.declared.step.Step.{Step}
 use Rattle.i9_machine.proofs.Issuing.{waits_for_none}
 use Rattle.i9_machine.proofs.Overtaking.{calm_precise, ahead_issues}
 use Rattle.i9_machine.proofs.Stepping.{step_where, move_fewer}
-use Rattle.i9_machine.proofs.Turning.{moved_stands, waits_until, comes_at, open_turn, all_now, paced_turn}
+use Rattle.i9_machine.proofs.Turning.{moved_stands, waits_until, comes_at, open_turn, all_now}
 
 -- the need of a kind of record is kept
 keeps_need : (at : Situation) (kind : Kind) (need kept : Need) → kept ≡ waiting_until at.floor need
@@ -78,7 +79,7 @@ pub open_event : (m : Machine) (plan : Plan) (coming : Coming) (t n : ℕ) (o : 
     → n ≡ (situation m).state.count → o ≡ standing_by plan.events plan.place n t → event_for (situation m) plan ≡ o
 open_event m plan coming t n o u next turn count found =
     let rs = late.turns (course u.given u.items).late in
-    let stands = u.stands.lands.board in
+    let stands = u.stands.flow.board in
     let kept = next.kept in
     let same = open_turn (situation m) next.kind kept.need t rs stands next.free next.is_next kept.is_need
     (turn rs stands ∙ ap (issue_turn (last_issue rs) rs) kept.fenced) in
@@ -93,7 +94,7 @@ pub ends_arrive : (k : Contents) (plan : Plan) (until : ℕ) (read : Bool) → I
     → (ahead g h).imprecise ≡ None → ArrivesAt g h k.pipeline.turn until (Waiting read)
 ends_arrive k plan until read end later waits g h stands follows precise =
     let bound = waits_until k plan until end waits g h stands follows precise in
-    let is : until ≡ end_turn (late.turns (course g h).late) = end (late.turns (course g h).late) stands.lands.board in
+    let is : until ≡ end_turn (late.turns (course g h).late) = end (late.turns (course g h).late) stands.flow.board in
     let by_end : (ahead g h).turn ≤ end_turn (late.turns (course g h).late) = ahead_by_end g h in
     record { turn = omega (arith, is, by_end, later, bound); imprecise = precise }
 
@@ -110,7 +111,7 @@ pub drained_arrive : (k : Contents) (plan : Plan) (until : ℕ) → IsEndTurn k.
 drained_arrive k plan until end le g h stands follows =
     let now = all_now g h k until end le stands in
     let come : (ahead g h).turn ≤ k.pipeline.turn = now.1 in
-    let in_time : k.pipeline.turn ≤ (ahead g h).turn = stands.lands.in_time in
+    let in_time : k.pipeline.turn ≤ (ahead g h).turn = stands.in_time in
     record { turn = omega (arith, le, come, in_time); imprecise = now.0 }
 
 -- an instruction comes at its turn
@@ -124,7 +125,7 @@ pub instruction_arrives : (k : Contents) (plan : Plan) (kind : Kind) (need : Nee
 instruction_arrives k plan kind need t coming none calm is_next is_need turn g h stands follows =
     let precise = calm_precise g h k stands none in
     let is : t ≡ (ahead g h).turn = comes_at k plan kind need t is_next is_need turn g h stands follows precise in
-    let in_time : k.pipeline.turn ≤ (ahead g h).turn = stands.lands.in_time in
+    let in_time : k.pipeline.turn ≤ (ahead g h).turn = stands.in_time in
     record { turn = omega (arith, is, in_time); imprecise = precise ∙ sym calm }
 
 -- an instruction is no fault that is overtaken
@@ -178,7 +179,7 @@ pub moved_fewer : (before m : Machine) (plan : Plan) (wait : ℕ) → HasPace (c
 unfolding left_from
 moved_fewer before m plan wait pace i =
     subst (λ (k : Contents). left_from k plan < steps_left before plan) (sym i)
-    (move_fewer (contents_of before) plan (paced_turn (contents_of before) pace))
+    (move_fewer (contents_of before) plan (paced_turn (flow_of before.pipeline) pace.0 pace.1))
 
 -- and what is planned changes none of it
 pub like_left : (before mid : Machine) (plan : Plan) → IsLike before mid → steps_left mid plan ≡ steps_left before plan

@@ -62,7 +62,7 @@ late_is : (g : Given) (h : List Item) (k : Contents) → Stand g h None k
     → late_due (situation_in k) ≡ cond (nat_lt (state_after g (records_of h)).count g.length)
     (last_fault (records_of h)) None
 late_is g h k stands =
-    (λ i. cond (nat_lt (stands.state.rest i).count (stands.length i)) (late_entry (stands.due i)) None)
+    (λ i. cond (nat_lt (stands.flow.state.rest i).count (stands.length i)) (late_entry (stands.due i)) None)
     ∙ ap (λ (o : Option ℕ). cond (nat_lt (state_after g (records_of h)).count g.length) o None)
     (entry_fault (records_of h))
 
@@ -142,8 +142,8 @@ ahead_issues k need t is turn g h stands =
     let rs = turns (course g h).late in
     let c = cache_after g (records_of h) in
     let same = sym (is g.sets c) ∙ ahead_need g.sets c (state_after g (records_of h)) k.pipeline.state
-    (course_blind g h stands.past) stands.state in
-    turn rs stands.lands.board ∙ λ i. issue_turn (last_issue rs) rs (waiting_until (stands.lands.fence i) (same i))
+    (course_blind g h stands.past) stands.flow.state in
+    turn rs stands.flow.board ∙ λ i. issue_turn (last_issue rs) rs (waiting_until (stands.flow.fence i) (same i))
 
 -- where it waits for all, it overtakes nothing
 pub waits_precise : (g : Given) (h : List Item) (k : Contents) → Stand g h None k
@@ -152,7 +152,7 @@ waits_precise g h k stands waits =
     let s = state_after g (records_of h) in
     let c = cache_after g (records_of h) in
     let barrier = sym (ap (λ (n : Need). n.barrier)
-    (ahead_need g.sets c s k.pipeline.state (course_blind g h stands.past) stands.state)) ∙ waits g.sets c in
+    (ahead_need g.sets c s k.pipeline.state (course_blind g h stands.past) stands.flow.state)) ∙ waits g.sets c in
     let turn : issue_of_next g h (instruction_ahead s) ≡ end_turn (turns (course g h).late) = next_barrier g h
     (instruction_ahead s) barrier in
     let reached : last_done (course g h).late ≤ end_turn (turns (course g h).late) = last_reached (course g h).late in
@@ -164,7 +164,7 @@ pub later_precise : (g : Given) (h : List Item) (k : Contents) (t : ℕ) → Sta
     → (ahead g h).imprecise ≡ None
 later_precise g h k t stands issues le =
     let is : t ≡ issue_of_next g h (instruction_ahead (state_after g (records_of h))) = issues g h stands in
-    let last : k.pipeline.done ≡ last_done (course g h).late = stands.lands.last in
+    let last : k.pipeline.done ≡ last_done (course g h).late = stands.flow.last in
     precise_by g h (omega (arith, is, last, le))
 
 -- nor where all records are done
@@ -176,7 +176,7 @@ drained_precise g h k stands le = by_fault (ahead g h).imprecise refl
     by_fault None is = is
     by_fault (Some a) is =
         let before : (ahead g h).turn < last_done (course g h).late = (imprecise_overtaken g h a is).0 in
-        let in_time : k.pipeline.turn ≤ (ahead g h).turn = stands.lands.in_time in
+        let in_time : k.pipeline.turn ≤ (ahead g h).turn = stands.in_time in
         let reached : last_done (course g h).late ≤ end_turn (turns (course g h).late) = last_reached
         (course g h).late in
         absurd (omega (arith, before, in_time, reached, le))
@@ -188,7 +188,7 @@ pub sooner_imprecise : (g : Given) (h : List Item) (k : Contents) (a t : ℕ) �
 sooner_imprecise g h k a t stands issues late before =
     let issue = issue_of_next g h (instruction_ahead (state_after g (records_of h))) in
     let is : t ≡ issue = issues g h stands in
-    let last : k.pipeline.done ≡ last_done (course g h).late = stands.lands.last in
+    let last : k.pipeline.done ≡ last_done (course g h).late = stands.flow.last in
     let fault = late_imprecise g h k a stands late (omega (arith, is, last, before)) in
     (fault, ap (λ (o : Option ℕ). issue_of_next g h (to_issue g h o)) fault ∙ sym is)
 
@@ -223,10 +223,10 @@ same_need_at : (g : Given) (h : List Item) (k : Contents) → Stand g h None k
 same_need_at g h k stands =
     let s = state_after g (records_of h) in
     let c = cache_after g (records_of h) in
-    let size = stands.size ∙ sym (ap (sets_in g.sets) stands.state.rest) in
-    ap (λ (d : Cache). need_ahead (Some k.pipeline.size) d (instruction_ahead k.pipeline.state)) stands.cache
+    let size = stands.flow.size ∙ sym (ap (sets_in g.sets) stands.flow.state.rest) in
+    ap (λ (d : Cache). need_ahead (Some k.pipeline.size) d (instruction_ahead k.pipeline.state)) stands.flow.cache
     ∙ standing_sets g.sets k.pipeline.size c k.pipeline.state (stands_at k.pipeline.state) size
-    ∙ ahead_need g.sets c s k.pipeline.state (course_blind g h stands.past) stands.state
+    ∙ ahead_need g.sets c s k.pipeline.state (course_blind g h stands.past) stands.flow.state
 
 -- so it would issue at the same turn
 pub same_turn_at : (g : Given) (h : List Item) (k : Contents) → Stand g h None k
@@ -234,14 +234,14 @@ pub same_turn_at : (g : Given) (h : List Item) (k : Contents) → Stand g h None
 same_turn_at g h k stands =
     let rs = turns (course g h).late in
     stands-pending_turn k.pipeline.board rs (waiting_until k.pipeline.floor (need_at (situation_in k)))
-    stands.lands.board
-    ∙ λ i. issue_turn (last_issue rs) rs (waiting_until (stands.lands.fence i) (same_need_at g h k stands i))
+    stands.flow.board
+    ∙ λ i. issue_turn (last_issue rs) rs (waiting_until (stands.flow.fence i) (same_need_at g h k stands i))
 
 -- the event that stands there for contents stands there in the run
 same_event : (g : Given) (h : List Item) (k : Contents) (plan : Plan) → Stand g h None k → Follows g h plan
     → event_for (situation_in k) plan ≡ event_ahead g h
 same_event g h k plan stands follows =
-    λ i. standing_by (follows.events i) (follows.place i) (stands.state.rest i).count (same_turn_at g h k stands i)
+    λ i. standing_by (follows.events i) (follows.place i) (stands.flow.state.rest i).count (same_turn_at g h k stands i)
 
 -- what comes next for contents, beside what comes next in the run
 pub beside : (g : Given) (h : List Item) (k : Contents) (plan : Plan) → Stand g h None k → Follows g h plan
@@ -251,4 +251,4 @@ beside g h k plan stands follows =
     subst (λ (n : Next). AreNextAlike n (next_for (situation_in k) plan))
     (λ i. next_in (stands.length i) (stands.due i) (same_event g h k plan stands follows i) s)
     (next_alike k.length k.due (event_for (situation_in k) plan) s k.pipeline.state
-    (sound-after g (records_of h) (course_events g h stands.past)) (course_blind g h stands.past) stands.state)
+    (sound-after g (records_of h) (course_events g h stands.past)) (course_blind g h stands.past) stands.flow.state)

@@ -25,8 +25,11 @@ use Rattle.i9_machine.specs.Step.{TellsRecord, NeedsRoom, HasRoom, event_for, ne
 use Rattle.i9_machine.specs.StandsFor.{Stand, StandsFor, Follows, DoesNext, EndsRun, IsRefused, Comes, Advances, left_after, FollowsTo}
 use Rattle.i9_course.specs.Course.{Item, Step, records_of, event_ahead, comes_next, ahead}
 use Rattle.i9_course.specs.PipelinedRun.{end_ahead, ended_by, finish_by}
+use Rattle.i9_pipeline.specs.InRun.{IssuesNext}
+use Rattle.i9_pipeline.proofs.InRun.{flow_issued, issue_in_time}
+use Rattle.i9_pipeline.proofs.Paced.{paced_issues}
 use Rattle.i9_machine.proofs.Overtaking.{beside}
-use Rattle.i9_machine.proofs.Issuing.{same_need, waits_for_none, issued_lands, issued_shaded, left_less, issued_paced}
+use Rattle.i9_machine.proofs.Issuing.{same_need, waits_for_none, left_less}
 use Rattle.i9_model.specs.declared.need.Need.{Need}
 
 -- ---- a record
@@ -58,8 +61,8 @@ size_next : (g : Given) (h : List Item) (k : Contents) (n : ℕ) (r q : Record) 
 size_next g h k n r q stands same free size =
     let t = k.pipeline.state in
     let asked = k.sets in
-    let was : k.pipeline.size ≡ sets_in asked t = stands.size ∙ λ i. sets_in (sym stands.sets i)
-    (sym stands.state.rest i) in
+    let was : k.pipeline.size ≡ sets_in asked t = stands.flow.size ∙ λ i. sets_in (sym stands.sets i)
+    (sym stands.flow.state.rest i) in
     size
     ∙ ap (renewed asked t.memory (action_done q).control) was
     ∙ ap (λ (x : Record). renewed asked t.memory (action_by_kind q.kind x.before).control (sets_in asked t)) free.0
@@ -76,9 +79,9 @@ cache_next : (g : Given) (h : List Item) (k j : Contents) (r q : Record) → Sta
 cache_next g h k j r q stands same free regions cache =
     let memory = j.pipeline.state.memory in
     let n = sets_in g.sets r.before in
-    let sets : k.pipeline.size ≡ n = stands.size ∙ sym (ap (λ (x : Record). sets_in g.sets x.before) free.0) in
+    let sets : k.pipeline.size ≡ n = stands.flow.size ∙ sym (ap (λ (x : Record). sets_in g.sets x.before) free.0) in
     cache
-    ∙ (λ i. cache_configured memory (cache_acted (sets i) (done_alike r q same i) (stands.cache i)))
+    ∙ (λ i. cache_configured memory (cache_acted (sets i) (done_alike r q same i) (stands.flow.cache i)))
     ∙ configured_by memory r.after.memory (cache_acted n (action_done r) (cache_after g (records_of h))) regions
 
 -- the schedule behind a record
@@ -112,12 +115,8 @@ ended_stands : (g : Given) (h : List Item) (k : Contents) (f : Finish) → end_a
     → Stand g h (Some f) (record k { ended = Some f.end })
 ended_stands g h k f over stands = record {
   past = stands.past;
-  state = stands.state;
-  size = stands.size;
-  cache = stands.cache;
-  lands = (let l = stands.lands in
-      record { board = l.board; fence = l.fence; last = l.last; begun = l.begun; shows = l.shows });
-  shaded = stands.shaded;
+  flow = stands.flow;
+  in_time = tt;
   early = tt;
   paced = stands.paced;
   due = stands.due;
@@ -174,7 +173,7 @@ module _ (g : Given) (h : List Item) (before after : Progress) (x y : ℕ) (stan
   now = stage_of after y
 
   at_turn : (ahead g h).turn ≡ before.machine.pipeline.turn
-  at_turn = let in_time : before.machine.pipeline.turn ≤ (ahead g h).turn = stands.lands.in_time in omega
+  at_turn = let in_time : before.machine.pipeline.turn ≤ (ahead g h).turn = stands.in_time in omega
       (arith, come, in_time)
 
   -- a record
@@ -193,9 +192,24 @@ module _ (g : Given) (h : List Item) (before after : Progress) (x y : ℕ) (stan
       let cache = cache_next g h k j r q stands same run (ap (λ (u : State). u.memory.mcon) alike.rest) d.cache in
       let need = same_need g h k r q d.need stands same (ap (λ (x : Record). x.before) run.0)
       (ap (λ (x : Record). x.before) free.0) d.is_need in
-      let lands = issued_lands g h before.machine after.machine r q d.need stands found.1 same precise come need
-      d.issued alike cache in
-      let count : k.pipeline.state.count ≡ (state_after g rs).count = ap (λ (u : State). u.count) stands.state.rest in
+      let old = before.machine.pipeline in
+      let new = after.machine.pipeline in
+      let next : IssuesNext g h r q d.need old new = record {
+        is_next = found.1;
+        starts = ap (λ (x : Record). x.before) run.0;
+        same = same;
+        precise = precise;
+        now = come;
+        in_time = stands.in_time;
+        is_need = need;
+        issued = d.issued;
+        state = alike;
+        size = size_next g h k j.pipeline.size r q stands same free d.size;
+        cache = cache;
+      } in
+      let in_time : j.pipeline.turn ≤ (ahead g (Step r ∷ h)).turn =
+      issue_in_time g h r q d.need old new stands.flow next in
+      let count : k.pipeline.state.count ≡ (state_after g rs).count = λ i. (stands.flow.state.rest i).count in
       let below : k.pipeline.state.count ≤ k.length = before.machine.below in
       let length : k.length ≡ g.length = stands.length in
       let less = left_less g h r (omega (arith, count, below, length)) found.1 in
@@ -205,7 +219,6 @@ module _ (g : Given) (h : List Item) (before after : Progress) (x y : ℕ) (stan
       let wait : j.wait ≡ k.wait = λ i. (keeps i).wait in
       let early : k.wait ≤ (ahead g h).turn = stands.early in
       let turn : j.pipeline.turn ≡ k.pipeline.turn = λ i. (d.issued.keeps i).turn in
-      let in_time : j.pipeline.turn ≤ (ahead g (Step r ∷ h)).turn = lands.in_time in
       record {
         done = r;
         is_next = found.1;
@@ -213,14 +226,10 @@ module _ (g : Given) (h : List Item) (before after : Progress) (x y : ℕ) (stan
         turn = turn;
         stands = record {
           past = (stands.past, precise, found.1);
-          state = alike;
-          size = size_next g h k j.pipeline.size r q stands same free d.size;
-          cache = cache;
-          lands = lands;
-          shaded = issued_shaded g h before.machine after.machine r q d.need stands found.1 same precise come need
-              d.issued alike cache;
+          flow = flow_issued g h r q d.need old new stands.flow next;
+          in_time = in_time;
           early = omega (arith, wait, early, turn, come, in_time);
-          paced = issued_paced k.pipeline j.pipeline d.need (action_done q) (left_after g rs)
+          paced = paced_issues k.pipeline j.pipeline d.need (action_done q) (left_after g rs)
               (left_after g (r ∷ rs)) d.issued none less stands.paced;
           due = d.due ∙ due_alike r q same;
           length = (λ i. (keeps i).length) ∙ stands.length;
@@ -246,7 +255,7 @@ module _ (g : Given) (h : List Item) (before after : Progress) (x y : ℕ) (stan
     stands = subst (Stand g h (Some f)) (sym d.contents) (ended_stands g h was.contents f is_end stands);
     follows = follows_end g h before.plan after.plan f follows d.behind;
     lines = d.lines ∙ ap (λ (ls : List Shown). map shown_of before.lines ++ ls)
-        (end_alike (state_after g (records_of h)) was.contents.pipeline.state f stands.state);
+        (end_alike (state_after g (records_of h)) was.contents.pipeline.state f stands.flow.state);
   }
 
   ended_run : (e : End) → (ahead g h).imprecise ≡ None → Ended was e now → EndsRun g h e before after

@@ -1,5 +1,5 @@
 -- A run begins far below the largest turn.
-use Rattle.std.proofs.Common.{◌≡◌, ℕ, ◌+◌, ◌*◌, ◌^◌, ◌<◌, ◌≤◌, List, [], ◌∷◌, length, None, refl, sym, subst, arith}
+use Rattle.std.proofs.Common.{◌≡◌, ℕ, ◌+◌, ◌*◌, ◌^◌, ◌<◌, ◌≤◌, List, [], ◌∷◌, length, refl, arith}
 use Rattle.i9_model.specs.declared.event.Event.{Event}
 use Rattle.i9_model.specs.declared.event.Event.TheVariants.{Nmi}
 use Rattle.i9_model.specs.declared.event.Timed.{Timed}
@@ -8,12 +8,6 @@ use Rattle.i9_model.specs.Left.{event_work, plan_work, asked, left_in}
 use Rattle.i9_model.specs.Run.{Given}
 use Rattle.i9_model.specs.ScheduleText.{IsPlan, most_events}
 use Rattle.i9_model.specs.State.{boot, started}
-use Rattle.i9_model.specs.Late.{cell, resource, resources}
-use Rattle.i9_model.specs.Turns.{Pending, StandsFor, IsAllDone, pending_of}
-use Rattle.i9_turns.proofs.TurnStands.{stands-none}
-use Rattle.i9_course.specs.Course.{ahead}
-use Rattle.i9_course.specs.Kernel.{Kernel, Lands}
-use Rattle.i9_course.proofs.Ahead.{ahead_later}
 use Rattle.i9_machine.specs.StandsFor.{left_after}
 
 -- an event is little work
@@ -45,22 +39,3 @@ first_far g plan short =
     let none : asked (boot g.image) ≡ 0 = none_asked g.image in
     let count : (boot g.image).count ≡ 0 = none_counted g.image in
     omega (arith, work, few, none, count, short)
-
--- nothing is open at the start
-pub none_done : IsAllDone (pending_of []) 1
-none_done = record { in_order = omega arith; done = tt }
-
--- what lands late, before anything is done
-pub first_lands : (g : Given) (k : Kernel) → k.board ≡ pending_of [] → k.turn ≡ 1 → k.floor ≡ 0 → k.done ≡ 1
-    → ((r : ℕ) → r < resources → k.cells r ≡ cell (resource (boot g.image) r) None)
-    → k.bytes ≡ (boot g.image).memory.bytes → k.queue ≡ [] → Lands g [] k
-first_lands g k board turn floor done cells bytes queue =
-    let later : 1 ≤ (ahead g []).turn = ahead_later g [] in
-    record {
-      board = subst (λ (p : Pending). StandsFor p []) (sym board) stands-none;
-      fence = floor;
-      last = done;
-      begun = omega (arith, turn);
-      in_time = omega (arith, turn, later);
-      shows = record { registers = cells; memory = bytes; requests = queue };
-    }

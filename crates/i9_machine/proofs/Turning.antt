@@ -1,37 +1,32 @@
 -- The turn moves: what is planned stays, and what comes next comes at its turn.
-use Rattle.std.proofs.Common.{◌≡◌, ℕ, ◌+◌, ◌*◌, ◌^◌, ◌<◌, ◌≤◌, max, true, List, [], ◌∷◌, Some, None, refl, sym, ap, ◌∙◌, subst, inl, inr, arith, Bool, false, cond, Option}
-use Rattle.std.specs.List.{AllByRecursion, slice_get}
+use Rattle.std.proofs.Common.{◌≡◌, ℕ, ◌+◌, ◌<◌, ◌≤◌, true, List, [], Some, None, refl, sym, ap, ◌∙◌, subst, inl, inr, arith, Bool, false, cond, Option}
+use Rattle.std.specs.List.{slice_get}
 use Rattle.std.specs.Prelude.{IsTrue, nat_le}
 use Rattle.i9_model.specs.declared.need.Need.{Need}
 use Rattle.i9_model.specs.declared.need.TimedNeed.{TimedNeed}
 use Rattle.i9_model.specs.Run.{Given, Kind, Record, Does, record_of, due_after, state_after}
 use Rattle.i9_model.specs.State.{State}
 use Rattle.i9_model.specs.HeldFrames.{cache_after}
-use Rattle.i9_model.specs.Turns.{HasCost, Pending, IsAllDone, AreAllDone, last_issue, issue_turn, end_turn, done_from, waiting_until}
+use Rattle.i9_model.specs.Turns.{HasCost, last_issue, issue_turn, end_turn, waiting_until}
 use Rattle.i9_model.specs.Turns as board
-use Rattle.i9_turns.proofs.TurnOpen.{open-all_done}
 use Rattle.i9_turns.proofs.TurnPending.{stands-pending_turn}
 use Rattle.i9_model.specs.Late.{turns}
-use Rattle.i9_issue.specs.Room.{IsEarly}
 use Rattle.i9_schedule.specs.Plan.{Plan}
 use Rattle.i9_course.specs.NeedOf.{need_of, need_ahead}
 use Rattle.i9_course.specs.Course.{Item, records_of, course, need_after, issue_of_next, event_ahead, comes_next, ahead, issue_after, instruction_ahead, instruction_turn}
 use Rattle.i9_course.proofs.Ahead.{ahead_by_end, ahead_precise}
 use Rattle.i9_course.proofs.Barriers.{next_barrier, next_by_end}
 use Rattle.i9_course.proofs.Checks.{checked_waits}
-use Rattle.i9_course.proofs.Landed.{done_landed}
 use Rattle.i9_course.proofs.NeedAlike.{next_need_alike}
 use Rattle.i9_course.proofs.Placing.{next_turn}
-use Rattle.i9_course.proofs.Steps.{moves_lands}
 use Rattle.i9_agree.proofs.AlikeSteps.{does_alike}
 use Rattle.i9_agree.proofs.HeldRuns.{next_free}
 use Rattle.i9_machine.specs.declared.line.Line.{Line}
 use Rattle.i9_machine.specs.declared.machine.Machine.{Machine}
-use Rattle.i9_pipeline.specs.Flow.{kernel_of, moved_to, IsEndTurn}
-use Rattle.i9_pipeline.specs.Issuing.{most_turns}
-use Rattle.i9_pipeline.proofs.Moving.{moves_to}
+use Rattle.i9_pipeline.specs.Flow.{IsEndTurn}
+use Rattle.i9_pipeline.proofs.InRun.{flow_moves, flow_quiet}
+use Rattle.i9_pipeline.proofs.Paced.{paced_moves}
 use Rattle.i9_machine.specs.Contents.{Situation, situation_in, Contents, contents_of, at_turn, IsMovedTo}
-use Rattle.i9_machine.specs.Issuing.{IsPaced}
 use Rattle.i9_machine.specs.Step.{need_at, turn_at, next_where, next_for, event_for}
 use Rattle.i9_machine.specs.StandsFor.{Stand, StandsFor, Follows, IsUnderWay, MovesOn, left_after}
 use Rattle.i9_machine.specs.Opening.{IsFreeToIssue, NextWaits, IsTimely}
@@ -49,43 +44,19 @@ use Rattle.i9_model.specs.ScheduleText.{event_where, has_come_by, standing_by}
 
 -- ---- the turn moves
 
-done_least : (t : ℕ) (rs : List TimedNeed) (b : ℕ) → t ≤ b → AllByRecursion (λ r. r.done ≤ b) rs → done_from t rs ≤ b
-done_least t [] b le done = le
-done_least t (r ∷ rs) b le done =
-    let one : r.done ≤ b = done.0 in done_least (max t r.done) rs b (omega (arith, le, one)) done.1
-
--- all records are done by the bound
-pub ended_by : (p : Pending) (rs : List TimedNeed) (b : ℕ) → board.StandsFor p rs → IsAllDone p b → end_turn rs ≤ b
-ended_by p rs b stands done =
-    let is : AreAllDone rs b = open-all_done rs b (subst (λ (q : Pending). IsAllDone q b) stands.pending done) in
-    done_least (last_issue rs) rs b is.in_order is.done
-
 -- to a turn below which nothing comes next, so that what is paced stays so
 pub moved_stands : (g : Given) (h : List Item) (t : ℕ) (k : Contents) (wait : ℕ) → Stand g h None k
     → k.pipeline.turn ≤ t
     → t ≤ (ahead g h).turn → wait ≤ (ahead g h).turn → Stand g h None (record (at_turn t k) { wait = wait })
 moved_stands g h t k wait stands later within bound =
-    let p = stands.paced in
     let by_end : (ahead g h).turn ≤ end_turn (turns (course g h).late) = ahead_by_end g h in
-    let ended : end_turn (turns (course g h).late) ≤ p.bound = ended_by k.pipeline.board
-    (turns (course g h).late) p.bound stands.lands.board p.done in
     record {
       past = stands.past;
-      state = stands.state;
-      size = stands.size;
-      cache = stands.cache;
-      lands = moves_lands g h t (kernel_of k.pipeline) (kernel_of (moved_to t k.pipeline)) stands.lands later within
-          (moves_to t k.pipeline.floor k.pipeline later) refl;
-      shaded = stands.shaded;
+      flow = flow_moves g h t k.pipeline later stands.flow;
+      in_time = within;
       early = bound;
-      paced = record {
-        bound = p.bound;
-        far = p.far;
-        done = p.done;
-        now = omega
-            (arith, within, by_end, ended);
-        fence = p.fence;
-      };
+      paced = paced_moves k.pipeline (turns (course g h).late) t k.pipeline.floor _ stands.flow.board
+          (omega (arith, within, by_end)) (omega arith) stands.paced;
       due = stands.due;
       length = stands.length;
       sets = stands.sets;
@@ -112,37 +83,6 @@ moved g h before m plan lines wait stands follows later bound i = record {
 pub has_pace : (m : Machine) (plan : Plan) → IsUnderWay m plan → HasPace (contents_of m)
 has_pace m plan u = (left_after u.given (records_of u.items), u.stands.paced)
 
-pub paced_turn : (k : Contents) → HasPace k → k.pipeline.turn < 2 ^ 62
-paced_turn k pace =
-    let p = pace.1 in
-    let far : p.bound + 2 ^ 8 * pace.0 < 2 ^ 62 = p.far in
-    let turn : k.pipeline.turn ≤ p.bound = p.now in
-    omega (arith, far, turn)
-
--- ---- turns stay small
-
--- a need behind the last fence is early enough for the scoreboard
-pub paced_early : (k : Contents) (left : ℕ) (need : Need)
-    → IsPaced k.pipeline.board k.pipeline.turn k.pipeline.floor left
-    → need.not_before ≡ 0 → need.cost ≤ most_turns → IsEarly k.pipeline.board (waiting_until k.pipeline.floor need)
-paced_early k left need p none cost =
-    let far : p.bound + 2 ^ 8 * left < 2 ^ 62 = p.far in
-    let in_order : k.pipeline.board.last ≤ p.bound = p.done.in_order in
-    let floor : k.pipeline.floor ≤ p.bound = p.fence in
-    record {
-      last = omega (arith, far, in_order);
-      done = below k.pipeline.board.records p.done.done;
-      waited = omega (arith, far, floor, none);
-      cost = omega (arith, cost);
-    }
-  where
-    below : (rs : List TimedNeed) → AllByRecursion (λ r. r.done ≤ p.bound) rs → AllByRecursion (λ r. r.done < 2 ^ 62) rs
-    below [] h = tt
-    below (r ∷ rs) h =
-        let one : r.done ≤ p.bound = h.0 in
-        let far : p.bound + 2 ^ 8 * left < 2 ^ 62 = p.far in
-        (omega (arith, one, far), below rs h.1)
-
 -- it has a cost
 pub waiting_cost : (t : ℕ) (need : Need) → HasCost need → HasCost (waiting_until t need)
 waiting_cost t need h = record { some = h.some; plain = h.plain }
@@ -156,14 +96,14 @@ pub waits_until : (k : Contents) (plan : Plan) (until : ℕ) → IsEndTurn k.pip
     → until ≤ (ahead g h).turn
 waits_until k plan until end (inl check) g h stands follows precise =
     let rs = turns (course g h).late in
-    let is : until ≡ end_turn rs = end rs stands.lands.board in
-    let set : (state_after g (records_of h)).check ≡ true = sym (ap (λ (s : State). s.check) stands.state.rest)
+    let is : until ≡ end_turn rs = end rs stands.flow.board in
+    let set : (state_after g (records_of h)).check ≡ true = sym (ap (λ (s : State). s.check) stands.flow.state.rest)
     ∙ check in
     let turn : (ahead g h).turn ≡ end_turn rs = checked_waits g h stands.past precise set in
     omega (arith, is, turn)
 waits_until k plan until end (inr held) g h stands follows precise =
     let rs = turns (course g h).late in
-    let is : until ≡ end_turn rs = end rs stands.lands.board in
+    let is : until ≡ end_turn rs = end rs stands.flow.board in
     let o = comes_next g h in
     let need = next_need_alike g.sets (cache_after g (records_of h)) o (next_for (situation_in k) plan)
     (beside g h k plan stands follows) in
@@ -189,8 +129,8 @@ comes_at j plan k need t is_next is_need turn g h stands follows precise =
     (state_after g (records_of h)) found.0 found.1 in
     let same = same_need g h j found.0 (record_of k j.pipeline.state) need stands found.2
     (ap (λ (x : Record). x.before) run.0) refl is_need in
-    turn rs stands.lands.board
-    ∙ ap (λ (f : ℕ). issue_turn (last_issue rs) rs (waiting_until f need)) stands.lands.fence
+    turn rs stands.flow.board
+    ∙ ap (λ (f : ℕ). issue_turn (last_issue rs) rs (waiting_until f need)) stands.flow.fence
     ∙ sym (next_turn g h need precise (ap (need_ahead g.sets (cache_after g (records_of h))) found.1 ∙ same))
 
 -- an instruction that comes where no event stands would issue at the turn of the instruction ahead
@@ -209,7 +149,7 @@ pub all_now : (g : Given) (h : List Item) (k : Contents) (until : ℕ) → IsEnd
     → until ≤ k.pipeline.turn
     → Stand g h None k → ((ahead g h).imprecise ≡ None) × ((ahead g h).turn ≤ k.pipeline.turn)
 all_now g h k until end le stands =
-    let is : until ≡ end_turn (turns (course g h).late) = end (turns (course g h).late) stands.lands.board in
+    let is : until ≡ end_turn (turns (course g h).late) = end (turns (course g h).late) stands.flow.board in
     let by_end : (ahead g h).turn ≤ end_turn (turns (course g h).late) = ahead_by_end g h in
     (drained_precise g h k stands (omega (arith, is, le)), omega (arith, is, le, by_end))
 
@@ -217,8 +157,8 @@ pub all_landed : (g : Given) (h : List Item) (k : Contents) (until : ℕ) → St
     → IsEndTurn k.pipeline.board until
     → until ≤ k.pipeline.turn → k.pipeline.queue ≡ []
 all_landed g h k until stands end le =
-    let is : until ≡ end_turn (turns (course g h).late) = end (turns (course g h).late) stands.lands.board in
-    done_landed g h (kernel_of k.pipeline) stands.lands (omega (arith, is, le))
+    let is : until ≡ end_turn (turns (course g h).late) = end (turns (course g h).late) stands.flow.board in
+    (flow_quiet g h k.pipeline stands.flow (omega (arith, is, le))).waiting
 
 -- where the instruction comes next, it issues at its turn
 itself_issues : (g : Given) (h : List Item) (k : Contents) (plan : Plan) → Stand g h None k → Follows g h plan
@@ -231,7 +171,7 @@ itself_issues g h k plan stands follows free none =
     ap (issue_after (course g h))
     (sym same
     ∙ ap (need_ahead g.sets c) (ap (next_where (situation_in k)) none ∙ goes_by_itself (situation_in k) free)
-    ∙ ahead_need g.sets c (state_after g (records_of h)) k.pipeline.state (course_blind g h stands.past) stands.state)
+    ∙ ahead_need g.sets c (state_after g (records_of h)) k.pipeline.state (course_blind g h stands.past) stands.flow.state)
 
 pub is_timely : (g : Given) (h : List Item) (k : Contents) (plan : Plan) → Stand g h None k → Follows g h plan
     → end_turn (turns (course g h).late) ≤ k.pipeline.turn → IsTimely (situation_in k) k.pipeline.turn plan
@@ -242,7 +182,7 @@ is_timely g h k plan stands follows ended =
     record {
       come = omega (arith, same, by_end, ended);
       early = λ free none.
-          let in_time : k.pipeline.turn ≤ (ahead g h).turn = stands.lands.in_time in
+          let in_time : k.pipeline.turn ≤ (ahead g h).turn = stands.in_time in
           let turn : (ahead g h).turn ≡ issue_of_next g h (comes_next g h) = ahead_precise g h
           (drained_precise g h k stands ended) in
           let itself : issue_of_next g h (comes_next g h) ≡ instruction_turn g h = itself_issues g h k plan stands

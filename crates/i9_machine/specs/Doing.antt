@@ -6,17 +6,16 @@ use Rattle.std.specs.Option.{option_map}
 use Rattle.i9_model.specs.declared.event.Event.{Event}
 use Rattle.i9_model.specs.declared.event.Event.TheVariants.{Pin, Low, High, Nmi, Dma, Feed, Show}
 use Rattle.i9_model.specs.Memory.{console_byte}
-use Rattle.i9_model.specs.Free.{IsFree}
 use Rattle.i9_model.specs.State.{State}
-use Rattle.i9_model.specs.Step.{Action, moved, acted, counted}
+use Rattle.i9_model.specs.Step.{Action}
 use Rattle.i9_schedule.specs.Plan.{Plan}
 use Rattle.i9_processor.specs.State.{state_of}
 use Rattle.i9_model.specs.declared.run.Point.{Point}
 use Rattle.i9_model.specs.PrintedText.{Shown, Journal, bytes_lines, out_lines, point_lines}
 use Rattle.i9_processor.specs.declared.effect.Effect.{Effect}
 use Rattle.i9_processor.specs.declared.processor.Processor.{Processor}
-use Rattle.i9_processor.specs.Effect.{writes_in, action_in, control_in, AreRegisters, CanPost, CanChange, CanControl}
-use Rattle.i9_processor.specs.Effect.{CanMove, HasSpaceFor, IsLight, has_writes, is_restart}
+use Rattle.i9_processor.specs.Effect.{writes_in, action_in, control_in}
+use Rattle.i9_processor.specs.Effect.{HasSpaceFor, IsLight, has_writes, is_restart}
 use Rattle.i9_machine.specs.declared.machine.Machine.{Machine}
 use Rattle.i9_machine.specs.declared.step.Step.{Step}
 

@@ -2,7 +2,6 @@ pub mod Line
 pub mod Progress
 pub mod Contents
 pub mod Issue
-pub mod Issuing
 pub mod Step
 pub mod Opening
 pub mod Doing

@@ -5,8 +5,8 @@ use Rattle.i9_model.specs.declared.run.Due.{Due}
 use Rattle.i9_model.specs.declared.run.Due.TheVariants as dues
 use Rattle.i9_model.specs.Run.{Given, state_after}
 use Rattle.i9_course.specs.Course.{Item, records_of, instruction_ahead, issue_of_next}
+use Rattle.i9_pipeline.specs.Paced.{IsPaced}
 use Rattle.i9_machine.specs.Contents.{Situation, Contents}
-use Rattle.i9_machine.specs.Issuing.{IsPaced}
 use Rattle.i9_machine.specs.StandsFor.{Stand}
 
 -- the address of the instruction that raised an arithmetic fault whose entry is due
@@ -20,7 +20,7 @@ late_due at = if nat_lt at.state.count at.length then late_entry at.due else Non
 
 -- turns are small enough for the scoreboard, whatever is left of the run
 abbrev pub HasPace : Contents → Type 0
-HasPace k = (left : ℕ) × IsPaced k.pipeline.board k.pipeline.turn k.pipeline.floor left
+HasPace k = (left : ℕ) × IsPaced k.pipeline left
 
 -- the turn at which the instruction at the instruction address would issue, as if no entry and no event stood before it
 abbrev pub IssuesAhead : Contents → ℕ → Type 0

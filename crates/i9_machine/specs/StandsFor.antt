@@ -4,24 +4,16 @@ use Rattle.i9_model.specs.declared.run.End.{End}
 use Rattle.i9_model.specs.Left.{left_in}
 use Rattle.i9_model.specs.Run.{Given, Record, Does, due_after, reached_after, state_after, Finish, reached_in}
 use Rattle.i9_schedule.specs.Plan.{Plan}
-use Rattle.i9_model.specs.Alike.{AreAlike}
-use Rattle.i9_model.specs.HeldFrames.{sets_in, cache_after}
 use Rattle.i9_model.specs.PrintedText.{record_lines, end_lines}
-use Rattle.i9_model.specs.State.{boot}
-use Rattle.i9_model.specs.Turns.{last_issue}
-use Rattle.i9_model.specs.Turns as board
-use Rattle.i9_model.specs.Late.{Shows, turns as late_turns}
-use Rattle.i9_course.specs.Course.{Item, Step, records_of, course, last_done, comes_next, ahead, IsCourse}
-use Rattle.i9_course.specs.Kernel.{Kernel, Lands}
+use Rattle.i9_course.specs.Course.{Item, Step, records_of, comes_next, ahead, IsCourse}
 use Rattle.i9_course.specs.PipelinedRun.{end_ahead}
-use Rattle.i9_pipeline.specs.Flow.{kernel_of}
-use Rattle.i9_pipeline.specs.Raw.{IsShaded}
+use Rattle.i9_pipeline.specs.InRun.{IsFlowOf}
+use Rattle.i9_pipeline.specs.Paced.{IsPaced}
 use Rattle.i9_machine.specs.declared.line.Line.{Line}
 use Rattle.i9_machine.specs.declared.line.Turn.{Turn}
 use Rattle.i9_machine.specs.declared.line.Turn.TheVariants as turns
 use Rattle.i9_machine.specs.declared.machine.Machine.{Machine}
 use Rattle.i9_machine.specs.Contents.{Contents, contents_of}
-use Rattle.i9_machine.specs.Issuing.{IsPaced}
 use Rattle.i9_machine.specs.Line.{AddsLines}
 use Rattle.i9_machine.specs.Progress.{Progress}
 use Rattle.i9_machine.specs.Step.{TellsRecord, NeedsRoom, HasRoom}
@@ -51,38 +43,20 @@ abbrev pub FollowsUntil : Given → List Item → Option Finish → Plan → Typ
 FollowsUntil g h None plan = Follows g h plan
 FollowsUntil g h (Some f) plan = Unit {0}
 
--- what lands late is as the course of the items has it at the machine's turn, which is not below the last issue
-pub record HasLanded (g : Given) (h : List Item) (k : Kernel) : Type 0 where
-  pub board : board.StandsFor k.board (late_turns (course g h).late)
-  pub fence : k.floor ≡ (course g h).fence
-  pub last : k.done ≡ last_done (course g h).late
-  pub begun : last_issue (late_turns (course g h).late) ≤ k.turn
-  pub shows : Shows (boot g.image) k.turn (course g h).late k.cells k.bytes k.queue
-
--- the same, where the turn is at most that of what lies ahead as long as no end was answered
-abbrev pub IsLanding : Given → List Item → Option Finish → Kernel → Type 0
-IsLanding g h None k = Lands g h k
-IsLanding g h (Some f) k = HasLanded g h k
-
--- as long as no end was answered, nothing waits to a turn above that of what lies ahead
+-- as long as no end was answered, a turn is at most that of what lies ahead
 abbrev pub IsInTime : Given → List Item → Option Finish → ℕ → Type 0
-IsInTime g h None wait = wait ≤ (ahead g h).turn
-IsInTime g h (Some f) wait = Unit {0}
+IsInTime g h None t = t ≤ (ahead g h).turn
+IsInTime g h (Some f) t = Unit {0}
 
 -- Contents stand for the first items of the run of what is given, its records and the fences between them, with this
--- end of it answered, if any: the state is the one after them but for bytes that are not compared; there are as many
--- sets as are asked for, or as the PRCB asks for, and the frames in them and the memory behind, with all that waits,
--- are those of the run; what lands late is as the course of the items has it at the turn, which is at most that of what
--- lies ahead as long as no end was answered; and what stood under an open barrier's writes is kept.
+-- end of it answered, if any: the pipeline's flow is that of the items; as long as no end was answered, neither its
+-- turn nor the one that is waited for is above that of what lies ahead; and turns stay small, whatever is left.
 pub record Stand (g : Given) (h : List Item) (end : Option Finish) (k : Contents) : Type 0 where
   pub past : IsCourse g h
-  pub state : AreAlike (state_after g (records_of h)) k.pipeline.state
-  pub size : k.pipeline.size ≡ sets_in g.sets (state_after g (records_of h))
-  pub cache : k.pipeline.cache ≡ cache_after g (records_of h)
-  pub lands : IsLanding g h end (kernel_of k.pipeline)
-  pub shaded : IsShaded (boot g.image).memory.bytes (course g h).late k.pipeline.shade
+  pub flow : IsFlowOf g h k.pipeline
+  pub in_time : IsInTime g h end k.pipeline.turn
   pub early : IsInTime g h end k.wait
-  pub paced : IsPaced k.pipeline.board k.pipeline.turn k.pipeline.floor (left_after g (records_of h))
+  pub paced : IsPaced k.pipeline (left_after g (records_of h))
   pub due : k.due ≡ due_after (records_of h)
   pub length : k.length ≡ g.length
   pub sets : k.sets ≡ g.sets

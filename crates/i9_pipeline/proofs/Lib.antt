@@ -1,3 +1,5 @@
-pub mod Moving
 pub mod Pieces
 pub mod Landed
+pub mod InRun
+pub mod Paced
+pub mod Shown

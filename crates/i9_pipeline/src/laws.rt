@@ -1,12 +1,16 @@
 //! What is hidden along a run, and what shows of memory, as the contracts of calls that do nothing.
 ghost use Rattle.std.specs.Prelude.{◌≡◌, ◌≤◌, ◌∷◌, [], ℕ, List, true, false};
 ghost use Rattle.i9_model.specs.Late.{Late, turns, acted_memory, settled_memory};
+ghost use Rattle.i9_model.specs.declared.need.Need.{Need};
 ghost use Rattle.i9_model.specs.Alike.{is_hard};
-ghost use Rattle.i9_model.specs.Run.{Given, state_after};
+ghost use Rattle.i9_model.specs.Run.{Given, Record, state_after};
 ghost use Rattle.i9_model.specs.State.{boot};
 ghost use Rattle.i9_model.specs.Turns.{last_issue, end_turn};
-ghost use Rattle.i9_course.specs.Course.{Item, records_of, course, IsCourse};
+ghost use Rattle.i9_course.specs.Course.{Item, Step, Fence, records_of, course, IsCourse};
 ghost use Rattle.i9_shade.specs.Shade.{Kept};
+ghost use Rattle.i9_pipeline.specs.declared.pipeline.Pipeline.{Pipeline};
+ghost use Rattle.i9_pipeline.specs.Flow.{Flow, flow_of, moved_to, settled_to, IsEndTurn, IsQuiet};
+ghost use Rattle.i9_pipeline.specs.InRun.{IsFlowOf, IssuesNext};
 ghost use Rattle.i9_pipeline.specs.Raw.{raw_memory, Hides, standing, shades, IsShaded};
 
 /// Before anything is done nothing is hidden.
@@ -38,4 +42,17 @@ pub fn flushed_memory_is_raw()
     ensures { (g : Given) (h : List Item) (t a : ℕ) → IsCourse g h → end_turn (turns (course g h).late) ≤ t
         → (state_after g (records_of h)).frames.live ≡ [] → is_hard (state_after g (records_of h)).frames a ≡ true
         → raw_memory (boot g.image).memory.bytes t (course g h).late a ≡ (state_after g (records_of h)).memory.bytes a }
+{}
+
+/// A pipeline keeps to its run: as the turn moves, as a fence is set once all is done, and as what comes next issues;
+/// and it is quiet at the turn at which all is done.
+pub fn a_pipeline_keeps_to_its_run()
+    ensures moves { (g : Given) (h : List Item) (t : ℕ) (f : Flow) → f.turn ≤ t → IsFlowOf g h f
+        → IsFlowOf g h (moved_to t f) }
+    ensures fenced { (g : Given) (h : List Item) (f : Flow) (until : ℕ) → IsEndTurn f.board until → IsFlowOf g h f
+        → IsFlowOf g (Fence ∷ h) (settled_to until until f) }
+    ensures issues { (g : Given) (h : List Item) (r q : Record) (need : Need) (old new : Pipeline)
+        → IsFlowOf g h (flow_of old) → IssuesNext g h r q need old new → IsFlowOf g (Step r ∷ h) (flow_of new) }
+    ensures quiet { (g : Given) (h : List Item) (f : Flow) → IsFlowOf g h f
+        → end_turn (turns (course g h).late) ≤ f.turn → IsQuiet f }
 {}

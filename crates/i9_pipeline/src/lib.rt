@@ -5,6 +5,9 @@ mod laws;
 mod pipeline;
 mod shading;
 
-pub use laws::{a_record_hides, flushed_memory_is_raw, memory_shows, nothing_is_hidden};
+pub use laws::{
+    a_pipeline_keeps_to_its_run, a_record_hides, flushed_memory_is_raw, memory_shows,
+    nothing_is_hidden,
+};
 pub use pipeline::Pipeline;
 pub use shading::hide;

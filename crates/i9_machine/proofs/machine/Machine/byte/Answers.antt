@@ -8,4 +8,4 @@ use Rattle.i9_machine.proofs.machine.Machine.byte.Goals as goal
 pub returns : goal.returns
 returns c =
     λ g h end stands. c.overlay.ensures ∙ overlay_alike (state_after g (records_of h))
-    (state_of c.args.self.now.pipeline.processor) c.args.a stands.state
+    (state_of c.args.self.now.pipeline.processor) c.args.a stands.flow.state

@@ -19,7 +19,7 @@ step_drained-requires-clause-timely c =
     let a = c.requires.arrived in
     let end = (rw c.in-Waiting.is at c.requires.ready).0 in
     let rs = turns (course a.given a.items).late in
-    let is : c.args.turn ≡ end_turn rs = end rs a.stands.lands.board in
+    let is : c.args.turn ≡ end_turn rs = end rs a.stands.flow.board in
     is_timely a.given a.items (contents_of c.args.self.now) c.args.plan.now a.stands a.follows
     (omega (arith, is, c.requires.turn))
 

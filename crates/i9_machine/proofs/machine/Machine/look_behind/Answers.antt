@@ -17,7 +17,7 @@ returns-in-Some-clause-arrives c = λ plan g h stands follows.
     let late = sooner_imprecise g h (contents_of m) c.args.address t stands c.in-Some.ensures.turn c.requires.late
     (omega (arith, sooner, same)) in
     let is : (ahead g h).turn ≡ t = late.1 in
-    let in_time : m.pipeline.turn ≤ (ahead g h).turn = stands.lands.in_time in
+    let in_time : m.pipeline.turn ≤ (ahead g h).turn = stands.in_time in
     record { turn = omega (arith, is, in_time); imprecise = late.0 }
 
 pub returns-in_default-clause-arrives : goal.returns-in_default-clause-arrives

@@ -30,7 +30,8 @@ use Rattle.i9_machine.proofs.Arriving.{kept_planned, same_planned}
 use Rattle.i9_machine.proofs.NewPages.{none_then}
 use Rattle.i9_machine.proofs.Issuing.{step_covers, step_acts}
 use Rattle.i9_machine.proofs.Stepping.{no_memory, did_steps, step_after, step_lines, step_needs, fewer_by, did_fewer, did_within, step_within, step_room, plan_is_behind}
-use Rattle.i9_machine.proofs.Turning.{waiting_cost, paced_early}
+use Rattle.i9_pipeline.proofs.Paced.{paced_early}
+use Rattle.i9_machine.proofs.Turning.{waiting_cost}
 use Rattle.i9_machine.proofs.machine.Machine.perform.Goals as goal
 
 pub go_on-requires : goal.go_on-requires
@@ -102,7 +103,7 @@ act-answer-requires-clause-early c =
     let board : c.make_room.new.self.pipeline.board ≡ m.pipeline.board = λ i.
     (c.make_room.ensures.same i).pipeline.board in
     rw (board, c.make_room.ensures.need ∙ kept.fenced)
-    (paced_early (contents_of m) (left_after u.given (records_of u.items)) kept.need u.stands.paced kept.none kept.cost)
+    (paced_early (flow_of m.pipeline) (left_after u.given (records_of u.items)) kept.need u.stands.paced kept.none kept.cost)
 
 pub act-answer-requires-clause-whole : goal.act-answer-requires-clause-whole
 act-answer-requires-clause-whole c =
@@ -110,7 +111,7 @@ act-answer-requires-clause-whole c =
     let cached = cached-after come.given (records_of come.items)
     (course_events come.given come.items come.stands.past) in
     subst (λ (d : Cache). AreWhole d.held) (sym ((λ i. (c.make_room.ensures.same i).pipeline.cache) ∙
-    come.stands.cache))
+    come.stands.flow.cache))
     cached.youngest.whole
 
 pub act-answer-requires-clause-covered : goal.act-answer-requires-clause-covered
