@@ -53,10 +53,6 @@ bytes_of-small Word = lit≤ tt
 
 -- ---- faults
 
-pub least-none : (a : Option Fault) → least a None ≡ a
-least-none None = refl
-least-none (Some a) = refl
-
 pub least_assoc : (a b c : Option Fault) → least (least a b) c ≡ least a (least b c)
 least_assoc None b c = refl
 least_assoc (Some a) None c = refl

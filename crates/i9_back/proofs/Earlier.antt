@@ -2,7 +2,6 @@
 use Rattle.std.proofs.Common.{◌≡◌, ℕ, ◌+◌, ◌<◌, ◌≤◌, List, [], ◌∷◌, ◌++◌, Some, refl, sym, ap, ◌∙◌, subst, ◌⊎◌, inl, inr, arith}
 use Rattle.i9_past.proofs.Ends.{boot_count}
 use Rattle.i9_model.specs.Run.{Given, Kind, Instruction, Faulted, Entered, Interrupted, Reached, Record, counts_of, state_after, Finish}
-use Rattle.i9_model.specs.State.{boot, started}
 use Rattle.i9_past.proofs.Left.{counts_after}
 use Rattle.i9_course.specs.Course.{event_ahead}
 use Rattle.i9_course.specs.PipelinedRun.{steps, IsPipelinedPast, finish_after}

@@ -143,9 +143,6 @@ module _ (g : Given) where
       → FoundBetween (ChangedLast a) g from to o
   older_found from mid to a o newer older = found_joins (ChangedLast a) g (changed_joins a) from mid to None o older newer
 
-  pub follows_earlier : (c : ℕ) (m : Machine) (plan : Plan) → StandsEarlier g c m plan → FollowsEarlier g c plan
-  follows_earlier c m plan s = record { records = s.records; earlier = s.earlier; follows = s.follows }
-
   -- all that may have were watched
   pub last_found : (from n a : ℕ) (o : Option (ℕ × ℕ)) (was plan : Plan) → FoundBetween (ChangedLast a) g from n o → (from ≡ 0) ⊎ (is_some o ≡ true)
       → FollowsEarlier g n was → plan.events ≡ was.events → plan.place ≡ was.place → IsLastChange g n a o plan

@@ -6,15 +6,15 @@ use Rattle.i9_isa.specs.declared.inst.Inst.{Inst}
 use Rattle.i9_isa.specs.declared.inst.BadWord.{BadWord}
 use Rattle.i9_isa.specs.Words.{words_of, decoded}
 use Rattle.i9_statement.proofs.StatementWords.{one_or_two}
-use Rattle.i9_model.specs.Image.{Part, upwards, pairs_of, AreParts}
+use Rattle.i9_model.specs.Image.{Part, pairs_of}
 use Rattle.i9_hex.specs.Writing.{with_line_feed}
 use Rattle.i9_asm.specs.Source.{most_bytes}
 use Rattle.i9_asm.specs.Laws.{Reassembles}
 use Rattle.i9_asm.specs.Listing.{word_at, whole_size, is_single, line_size, first_line, Lists, lists_none, lists_line, org_line, ListsAll, lists_all, lists_run, IsListing}
 use Rattle.i9_asm.proofs.ReadListing.{line_size-le, text_is_assembly}
 use Rattle.i9_dis.specs.Printed.{AddsRuns}
-use Rattle.i9_hex.specs.Runs.{IsLow, bytes_in, AreRunsOf, AreRuns}
-use Rattle.i9_hex.proofs.Rising.{ArePlaced, in_order, in_order_rises, in_order_placed, in_order_says}
+use Rattle.i9_hex.specs.Runs.{bytes_in, AreRunsOf, AreRuns}
+use Rattle.i9_hex.proofs.Rising.{in_order, in_order_rises, in_order_placed, in_order_says}
 use Rattle.i9_hex.proofs.Joining.{joined, joined_runs, runs_once}
 use Rattle.i9_hex.proofs.Placed.{image_placed}
 

@@ -1,7 +1,7 @@
 -- A text that is printed line by line, cut at its first line feed each time.
-use Rattle.std.proofs.Common.{◌≡◌, ℕ, suc, ◌+◌, ◌<◌, Bool, true, false, List, [], ◌∷◌, ◌++◌, length, take, drop, Some, None, refl, sym, ap, ◌∙◌, subst, arith, append_assoc}
+use Rattle.std.proofs.Common.{◌≡◌, ℕ, suc, ◌+◌, ◌<◌, Bool, true, false, List, [], ◌∷◌, ◌++◌, length, take, drop, Some, None, refl, ap, ◌∙◌, subst, arith, append_assoc}
 use Rattle.std.specs.List.{position, position_or_len}
-use Rattle.std.proofs.lemmas.List.{append-nil, take-append-drop}
+use Rattle.std.proofs.lemmas.List.{take-append-drop}
 use Rattle.i9_text.specs.Text.{is_line_feed}
 use Rattle.i9_text.proofs.Cuts.{position_or_len-found, position_or_len-missing}
 use Rattle.i9_lines.specs.declared.print.Printed.{Printed}
@@ -62,11 +62,6 @@ module _ {K : Type 0} (k : Account K) where
         prints_same k answer a c _ text (joined text p.front rest n p.whole)
         (prints_stop k answer a c (p.front ++ take n rest) (drop n rest) (closed_join p.front (take n rest) p.closed (closed_line (take n rest) line)) stops
         (prints_then k answer a b c p.front (take n rest) p.closed p.prints q))
-
-  -- nothing is left
-  pub text_ends : (a b : K) (text rest : List ℕ) → length rest ≡ 0 → PrintedUpTo a b text rest → Prints Done k a b text
-  text_ends a b text [] none p = prints_same k Done a b p.front text (sym (append-nil p.front) ∙ p.whole) p.prints
-  text_ends a b text (x ∷ xs) none p = absurd (omega (arith, none))
 
   -- or what is left is printed too
   pub rest_printed : (answer : Printed) (a b c : K) (text rest : List ℕ) → PrintedUpTo a b text rest → Prints answer k b c rest → Prints answer k a c text

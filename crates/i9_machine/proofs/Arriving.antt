@@ -29,7 +29,7 @@ use Rattle.i9_pipeline.specs.Flow.{flow_of, IsEndTurn}
 use Rattle.i9_pipeline.specs.Issuing.{most_turns}
 use Rattle.i9_machine.specs.Opening.{NextWaits, HasKept, HasNeed}
 use Rattle.i9_machine.specs.Overtaking.{late_due, HasPace, IssuesAhead}
-use Rattle.i9_machine.specs.StandsFor.{Stand, StandsFor, Follows, IsUnderWay, HasCome}
+use Rattle.i9_machine.specs.StandsFor.{Stand, StandsFor, Follows, IsUnderWay}
 use Rattle.i9_machine.specs.Step.{event_for, next_for, left_from, steps_left, LeavesFewer, IsStepIn, IsStep, IsPlannedIn, IsPlanned}
 use Rattle.i9_machine.specs.declared.step.Step.{Step}
 use Rattle.i9_machine.proofs.Issuing.{waits_for_none}
@@ -215,18 +215,6 @@ same_planned m mid plan step same effect need p = record {
   fenced = need ∙ p.fenced ∙ λ i. waiting_until (sym same i).pipeline.floor p.need;
   is = subst₂ (λ (at : Situation) (e : Effect). IsStep at plan step p.need e) (λ i. situation_in (sym same i))
       (sym effect) p.is;
-}
-
--- what comes next, and overtakes no fault, has come
-pub arrived_come : (k : Contents) (plan : Plan) (coming : Coming) → overtaken_by coming ≡ None
-    → HasArrived k plan coming → HasCome k plan
-arrived_come k plan coming calm a = record {
-  given = a.given;
-  items = a.items;
-  stands = a.stands;
-  follows = a.follows;
-  precise = a.imprecise ∙ calm;
-  now = a.now;
 }
 
 -- it comes at the turn that was passed to

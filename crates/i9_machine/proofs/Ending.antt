@@ -23,7 +23,7 @@ use Rattle.i9_machine.specs.Coming.{Overtakes}
 use Rattle.i9_machine.specs.Contents.{situation_in, Situation}
 use Rattle.i9_machine.specs.NewPages.{AddsNextOnly}
 use Rattle.i9_machine.specs.Overtaking.{late_entry, late_due}
-use Rattle.i9_machine.specs.Step.{NeedsRoom, HasRoom, event_for, Stage, next_of, Finished, Finishes, Refused, Steps, Costs}
+use Rattle.i9_machine.specs.Step.{NeedsRoom, HasRoom, event_for, Stage, next_of, Finished, Finishes, Refused, Costs}
 use Rattle.i9_machine.proofs.NewPages.{same_next}
 
 -- ---- an end of the run
@@ -46,12 +46,6 @@ refused before after same needed = record {
   same = (λ i. record (same i) { processor = after.processor; spare = after.spare });
   needed = needed;
 }
-
-pub finish_steps : (before : Stage) (f : Finish) (answer : Turn) (after : Stage) → next_of before ≡ Ends f
-    → Finishes before f answer after → Steps before answer after
-finish_steps before f (turns.End e) after is d = record { finish = f; answers = d.0; is_end = is; finished = d.1 }
-finish_steps before f turns.Memory after is d = refused before after d.same (subst NeedsRoom (sym is) tt)
-finish_steps before f _ after is d = absurd d
 
 -- where room is lacking, it is lacking still
 still_costs : (before after : Stage) → after ≡ before → AddsNextOnly before.processor after.processor (next_of before)

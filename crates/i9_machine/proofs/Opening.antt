@@ -3,8 +3,6 @@ use Rattle.std.proofs.Common.{◌≡◌, ◌≢◌, ℕ, Bool, true, false, ◌&
 use Rattle.std.specs.Prelude.{IsTrue}
 use Rattle.std.proofs.lemmas.Bool.{cases_Bool, both_ways}
 use Rattle.i9_isa.specs.declared.inst.Inst.{Inst}
-use Rattle.i9_isa.specs.declared.op.Op.{Op}
-use Rattle.i9_isa.specs.declared.op.Op.TheVariants.{Flushreg, Syncf}
 use Rattle.i9_model.specs.declared.event.Event.{Event}
 use Rattle.i9_model.specs.declared.faults.Entry.{Entry}
 use Rattle.i9_model.specs.declared.faults.FaultStop.{FaultStop}
@@ -17,7 +15,7 @@ use Rattle.i9_model.specs.Before.{Received, choice_in, interrupt_in, received_in
 use Rattle.i9_model.specs.HeldFrames.{Cache}
 use Rattle.i9_model.specs.Needs.{is_request_name, is_barrier_name}
 use Rattle.i9_model.specs.State.{State}
-use Rattle.i9_model.specs.Run.{Kind, Instruction, Faulted, Next, entry_in, next_by_entry, next_by_event, next_by_interrupt, next_by_choice, next_in, next_by_received, point_by_name}
+use Rattle.i9_model.specs.Run.{Kind, Instruction, Faulted, Next, entry_in, next_by_entry, next_by_event, next_by_interrupt, next_by_choice, next_in, next_by_received}
 use Rattle.i9_schedule.specs.Plan.{Plan}
 use Rattle.i9_course.specs.NeedOf.{need_of, need_ahead}
 use Rattle.i9_course.proofs.Barriers.{kind_barrier}
@@ -119,11 +117,6 @@ no_barrier_named i n c s none =
           (both_ways (need_of n c s (Instruction i)).barrier none (kind_barrier n c s (Instruction i) barrier))
       | inr other ↦ other
     ]
-
-pub no_point : (op : Op) → is_barrier_name op ≡ false → None ≡ point_by_name op
-no_point Flushreg none = absurd (cc none)
-no_point Syncf none = absurd (cc none)
-no_point _ none = refl
 
 -- an instruction is one by its name alone
 pub request_named : (i : Inst) (n : ℕ) (c : Cache) (s : State) → (need_of n c s (Instruction i)).request ≡ true

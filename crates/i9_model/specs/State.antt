@@ -106,12 +106,9 @@ start_trace u = record {
   };
 }
 
--- The machine of runs reads a soft byte as 0. It may as well read it as memory holds it: no difference is seen.
+-- the machine of runs reads a soft byte as 0
 abbrev pub as_zero : ℕ → ℕ
 as_zero b = 0
-
-abbrev pub as_held : ℕ → ℕ
-as_held b = b
 
 -- The state that start-up leaves, from the registers, the count and the low pins before it, and the memory and the
 -- frames behind it.

@@ -1,15 +1,10 @@
 -- What is fixed of an instruction does not depend on its second word, and tells which instructions are stores.
-use Rattle.std.proofs.Common.{◌≡◌, ℕ, true, refl, sym, ap, ◌∙◌}
+use Rattle.std.proofs.Common.{◌≡◌, true, sym, ap, ◌∙◌}
 use Rattle.std.specs.Option.{is_some}
-use Rattle.i9_isa.specs.declared.inst.Inst.{Inst}
 use Rattle.i9_model.specs.declared.need.Facts.{Facts}
 use Rattle.i9_need.specs.declared.fixed.FixedNeed.{FixedNeed}
-use Rattle.i9_need.specs.Fixed.{fixed_need, AreFactsBy}
+use Rattle.i9_need.specs.Fixed.{AreFactsBy}
 use Rattle.i9_need.proofs.Sets.{stores_access}
-
--- the displacement is the second word
-pub second_free : (i : Inst) (v : ℕ) → fixed_need (record i { ea = record i.ea { disp = v } }) ≡ fixed_need i
-second_free i v = refl
 
 -- a store has a data access
 pub store_known : (k : FixedNeed) (f : Facts) → AreFactsBy k f → k.store ≡ true → is_some f.access ≡ true

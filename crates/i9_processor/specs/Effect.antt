@@ -15,7 +15,7 @@ use Rattle.i9_model.specs.Interrupts.{posted, posted_nmi, cleared}
 use Rattle.i9_ints.specs.Ints.{with_level}
 use Rattle.i9_model.specs.Hazards.{save_hazard}
 use Rattle.i9_model.specs.Tables.{tables_hazard, group_hazard}
-use Rattle.i9_model.specs.HeldFrames.{Cache, renewed, cache_acted, cache_configured}
+use Rattle.i9_model.specs.HeldFrames.{Cache, cache_acted, cache_configured}
 use Rattle.i9_model.specs.Controls as plain_controls
 use Rattle.i9_model.specs.Step as plain
 use Rattle.i9_frames.specs.Sets.{Held, held}
@@ -276,10 +276,6 @@ IsEmptied c (controls.LoadsGroup group) = c.held ≡ []
 -- what is held and what is behind after an action, with the configuration words that memory has then
 abbrev pub cache_through : Processor → plain.Action → Processor → Cache
 cache_through old a new = cache_configured (state_of new).memory (cache_acted (size_of old) a (cache_of old))
-
--- the number of sets after an action, where so many are asked for or none
-abbrev pub size_through : Option ℕ → Processor → plain.Action → ℕ
-size_through asked old a = renewed asked (state_of old).memory a.control (size_of old)
 
 -- New sets are made where the processor starts anew: as many as are asked for, or as the PRCB asks for that is read
 -- in a memory.

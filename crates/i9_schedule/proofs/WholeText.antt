@@ -1,18 +1,18 @@
 -- What the reader of a text answers: the version and the events that the lines say, or the first fault.
-use Rattle.std.proofs.Common.{◌≡◌, ℕ, Bool, true, false, cond, List, [], ◌∷◌, Option, Some, None, Result, Ok, Err, refl, sym, ap, subst, inl, inr, IfOk, IfErr, codes}
+use Rattle.std.proofs.Common.{◌≡◌, ℕ, true, false, List, [], ◌∷◌, Option, Some, None, Result, Ok, Err, refl, sym, ap, subst, inl, inr, IfOk, IfErr, codes}
 use Rattle.std.specs.Str.{bytes_eq}
 use Rattle.i9_text.specs.Text.{lines_of, words_of}
 use Rattle.i9_text.proofs.FirstFault.{read_from, SaysAll-read, read_from-says, read_from-refused, refused-read}
 use Rattle.std.proofs.lemmas.Bool.{cases_Bool}
 use Rattle.std.proofs.lemmas.Slice.Eq.{bytes_eq-Decides}
-use Rattle.i9_model.specs.Events.{Words, one_of}
-use Rattle.i9_model.specs.ScheduleText.{levels_version, version_in, heading, heading_by, heading_of, event_said, opening_of, said_of, SoFar, nothing_yet, Contents, contents_of, is_ascii, is_skipped, timed_of, line_of, fault_of_said, fault_of, Says, says_nothing, says_version, says_event, nothing_missing, IsSchedule, IsRefused}
+use Rattle.i9_model.specs.Events.{Words}
+use Rattle.i9_model.specs.ScheduleText.{levels_version, version_in, heading, heading_of, event_said, opening_of, said_of, SoFar, nothing_yet, Contents, contents_of, is_ascii, is_skipped, timed_of, line_of, fault_of_said, fault_of, Says, says_nothing, says_version, says_event, nothing_missing, IsSchedule, IsRefused}
 use Rattle.i9_model.specs.declared.event.Timed.{Timed}
 use Rattle.i9_model.specs.declared.event.Said.{Said}
 use Rattle.i9_model.specs.declared.event.Said.TheVariants as said
 use Rattle.i9_replay.proofs.EventForms.{timed_case, timed_is}
 use Rattle.i9_schedule.specs.Lines.{with_said, with_line}
-use Rattle.i9_schedule.specs.Reading.{Reads, Refuses, IfBad, place_of}
+use Rattle.i9_schedule.specs.Reading.{Reads, IfBad, place_of}
 use Rattle.i9_schedule.specs.declared.error.LineError.{LineError}
 use Rattle.i9_schedule.specs.declared.error.LineError.TheVariants as errors
 

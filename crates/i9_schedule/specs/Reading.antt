@@ -1,5 +1,5 @@
 -- What the reader of a text answers.
-use Rattle.std.specs.Prelude.{◌≡◌, ℕ, List, Option, Some, None, Result, Ok, Err}
+use Rattle.std.specs.Prelude.{◌≡◌, ℕ, Option, Some, None, Result, Ok, Err}
 use Rattle.i9_model.specs.ScheduleText as texts
 use Rattle.i9_schedule.specs.declared.reading.SoFar.{SoFar}
 use Rattle.i9_schedule.specs.declared.error.LineFault.{LineFault}

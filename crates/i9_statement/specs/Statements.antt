@@ -10,7 +10,7 @@ use Rattle.i9_isa.specs.declared.inst.Operand.TheVariants.{Reg}
 use Rattle.i9_isa.specs.declared.inst.Inst.{Inst}
 use Rattle.i9_isa.specs.Operands.{no_address}
 use Rattle.i9_decode.specs.Ignored.{ignored_bits}
-use Rattle.i9_text.specs.Text.{space, is_blank, is_in_word, number_of}
+use Rattle.i9_text.specs.Text.{space, is_blank, number_of}
 use Rattle.i9_text.specs.Text as text
 use Rattle.i9_statement.specs.declared.fault.Noted.{Noted}
 use Rattle.i9_statement.specs.declared.statements.Statement.{Statement}

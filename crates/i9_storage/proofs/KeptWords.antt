@@ -7,8 +7,6 @@ use Rattle.std.proofs.lemmas.List.{get_or-replicate}
 use Rattle.i9_model.specs.Writes.{wrapped}
 use Rattle.i9_model.specs.Frames.{in_bytes}
 use Rattle.i9_model.proofs.Places.{in_bytes-above}
-use Rattle.i9_storage.specs.declared.words.Words.{Words}
-use Rattle.i9_storage.specs.Words.{KeepsNoOther}
 use Rattle.i9_storage.specs.Places.{IsNamed, AreWithin, IsBeside}
 
 -- a byte so far above the run's address is beside it
@@ -31,10 +29,6 @@ none_named addresses a none named =
     let here : get_or (replicate 256 4294967296) (a / 4 % 256) 0 ≡ a = ap (λ (ns : List ℕ). get_or ns (a / 4 % 256) 0) (sym none) ∙ named.1 in
     let there = get_or-replicate {A = ℕ} 256 (a / 4 % 256) 4294967296 0 (omega arith) in
     omega (arith, here, there, named.0)
-
--- a word that is not kept still is not
-pub still_gone : (old new : Words) (a : ℕ) → KeepsNoOther old new → (IsNamed old.places.value.addresses a → ⊥) → IsNamed new.places.value.addresses a → ⊥
-still_gone old new a others gone named = gone (others a (get_or new.places.value.words (a / 4 % 256) 0) (named, refl)).0
 
 -- where none of the words of a run is kept, the run is beside those that are
 pub beside_words : (addresses : List ℕ) (low end a n x : ℕ) → AreWithin addresses low end → IsNamed addresses x → a < 2 ^ 32 → n ≤ 2 ^ 32

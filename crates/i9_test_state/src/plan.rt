@@ -1,8 +1,9 @@
 //! Plans in a state that is worked out by hand.
 ghost use Rattle.std.specs.Prelude.{IfOk};
+ghost use Rattle.i9_model.specs.Events.{IsInRange};
 ghost use Rattle.i9_processor.specs.State.{IsDrained};
 
-use crate::check::{must_at, same, same_at};
+use crate::check::{same, same_at};
 use crate::plan_state::{PC, changes, ready};
 use crate::plan_told::{effect_text, next_text};
 use crate::rows::{columns, hex_words, rows_hold};
@@ -13,6 +14,7 @@ use i9_model::{Cause, Chosen, Event};
 use i9_plan::{DecodeCache, plan_entry, plan_event, plan_faulting, plan_interrupt};
 use i9_processor::{DmaChange, Effect, Processor};
 use std::alloc::Global;
+use std::process::Abort;
 use std::test::Fail;
 
 /// The processor that is about to do the words of a row. Its columns are a statement, which is for the reader; the
@@ -193,18 +195,40 @@ fn told(alloc: Global, planned: Result<Effect, u32>) -> Result<String, Fail> {
     }
 }
 
+/// What is planned of an event is what is wanted of it.
+fn plans(
+    rt: &impl Abort,
+    alloc: Global,
+    p: &Processor,
+    event: &Event,
+    wanted: &str,
+) -> Result<(), Fail>
+    requires drained { IsDrained p.now }
+    requires range { IsInRange event.now }
+{
+    same(rt, told(alloc, plan_event(p, event))?.as_str(), wanted);
+    Ok(())
+}
+
 #[test]
 fn plans_events(rt: HostRuntime) -> Result<(), Fail> {
     let p = ready(rt.alloc(), 0x1000, (0, 0), 1, PC)?;
-    let pin = told(rt.alloc(), plan_event(&p, &Event::Pin(3)))?;
-    same(&rt, pin.as_str(), "1 1F2002 0 1000, Pin(3)");
-    let nmi = told(rt.alloc(), plan_event(&p, &Event::Nmi))?;
-    same(&rt, nmi.as_str(), "1 1F2002 0 1000, Nmi");
-    let idle = told(rt.alloc(), plan_event(&p, &Event::Dma(1)))?;
-    same(&rt, idle.as_str(), "1 1F2002 0 1000");
-    let shown = told(rt.alloc(), plan_event(&p, &Event::Show(0x3000, 4)))?;
-    same(&rt, shown.as_str(), "1 1F2002 0 1000");
-    Ok(())
+    plans(
+        &rt,
+        rt.alloc(),
+        &p,
+        &Event::Pin(3),
+        "1 1F2002 0 1000, Pin(3)",
+    )?;
+    plans(&rt, rt.alloc(), &p, &Event::Nmi, "1 1F2002 0 1000, Nmi")?;
+    plans(&rt, rt.alloc(), &p, &Event::Dma(1), "1 1F2002 0 1000")?;
+    plans(
+        &rt,
+        rt.alloc(),
+        &p,
+        &Event::Show(0x3000, 4),
+        "1 1F2002 0 1000",
+    )
 }
 
 /// A processor whose channel 0 moves four bytes from 4000 to a target, with an interrupt at the end.
@@ -226,27 +250,12 @@ fn with_channel(alloc: Global, target: u32) -> Result<Processor, Fail>
 #[test]
 fn plans_units(rt: HostRuntime) -> Result<(), Fail> {
     let p = with_channel(rt.alloc(), 0x5000)?;
-    match plan_event(&p, &Event::Dma(0)) {
-        Ok(effect) => {
-            let text = effect_text(rt.alloc(), &effect)?;
-            let wanted = "1 1F2002 0 1000, 5000 21 87 43 65, Dma(0), Passes(0)";
-            same(&rt, text.as_str(), wanted);
-        }
-        Err(_) => must_at(&rt, false, "a hazard"),
-    }
+    let moved = "1 1F2002 0 1000, 5000 21 87 43 65, Dma(0), Passes(0)";
+    plans(&rt, rt.alloc(), &p, &Event::Dma(0), moved)?;
     // The channel has its bytes from memory.
-    match plan_event(&p, &Event::Feed(0, ArrayVec::from([9; 16]))) {
-        Ok(effect) => {
-            same(
-                &rt,
-                effect_text(rt.alloc(), &effect)?.as_str(),
-                "1 1F2002 0 1000",
-            );
-        }
-        Err(_) => must_at(&rt, false, "a hazard"),
-    }
+    let fed = Event::Feed(0, ArrayVec::from([9; 16]));
+    plans(&rt, rt.alloc(), &p, &fed, "1 1F2002 0 1000")?;
     // The frame at 3000 is live.
     let p = with_channel(rt.alloc(), 0x300D)?;
-    same(&rt, plan_event(&p, &Event::Dma(0)).err(), Some(0x300D));
-    Ok(())
+    plans(&rt, rt.alloc(), &p, &Event::Dma(0), "meets 300D")
 }

@@ -200,15 +200,15 @@ fn configure(storage: &mut Storage, region: u8, words: [u32; 2]) -> Result<(), F
 
 /// Begins anew.
 fn begins(alloc: Global, storage: &mut Storage, name: &str) -> Result<(), Fail> {
-    match name {
-        "zeros" => *storage = fresh(alloc, "", 2)?,
-        "entries" => *storage = fresh(alloc, ENTRIES, 1)?,
-        "requests" => *storage = fresh(alloc, REQUESTS, 1)?,
-        "tables" => *storage = fresh(alloc, TABLES, 2)?,
-        "waiting" => *storage = with_waiting(alloc)?,
-        "marked_waiting" => *storage = with_marked_waiting(alloc)?,
+    *storage = match name {
+        "zeros" => fresh(alloc, "", 2)?,
+        "entries" => fresh(alloc, ENTRIES, 1)?,
+        "requests" => fresh(alloc, REQUESTS, 1)?,
+        "tables" => fresh(alloc, TABLES, 2)?,
+        "waiting" => with_waiting(alloc)?,
+        "marked_waiting" => with_marked_waiting(alloc)?,
         _ => return Err("no such step".into()),
-    }
+    };
     Ok(())
 }
 
@@ -217,28 +217,36 @@ pub(crate) fn does(alloc: Global, storage: &mut Storage, step: &str) -> Result<(
     let (name, numbers) = named(step);
     let numbers = hex_words(alloc, numbers)?;
     match (name, numbers.as_slice()) {
-        ("", []) => {}
-        ("save", &[fp, first]) => save(storage, fp, first, 0)?,
-        ("save_marked", &[fp, first]) => save(storage, fp, first, WORDS_3_AND_8)?,
-        ("return", []) => storage.restore_frame(),
-        ("flush", []) => flush(storage)?,
-        ("restart", &[sets]) => restart(alloc, storage, u8::try_from(sets)?)?,
+        ("", []) => Ok(()),
+        ("save", &[fp, first]) => save(storage, fp, first, 0),
+        ("save_marked", &[fp, first]) => save(storage, fp, first, WORDS_3_AND_8),
+        ("return", []) => {
+            storage.restore_frame();
+            Ok(())
+        }
+        ("flush", []) => flush(storage),
+        ("restart", &[sets]) => restart(alloc, storage, u8::try_from(sets)?),
         ("store_half", &[a, v]) => {
             let bytes = storage.half_bytes(a, u16::try_from(v)?);
-            store(storage, a, &bytes, 0)?;
+            store(storage, a, &bytes, 0)
         }
         ("store_word", &[a, v]) => {
             let bytes = storage.word_bytes(a, v);
-            store(storage, a, &bytes, 0)?;
+            store(storage, a, &bytes, 0)
         }
         ("store_marked", &[a, v, stale]) => {
             let bytes = storage.word_bytes(a, v);
-            store(storage, a, &bytes, u16::try_from(stale)?)?;
+            store(storage, a, &bytes, u16::try_from(stale)?)
         }
-        ("keep", &[a]) => storage.keep_word(a),
-        ("land", &[turn]) => storage.land(u64::from(turn)),
-        ("configure", &[region, v, w]) => configure(storage, u8::try_from(region)?, [v, w])?,
-        _ => begins(alloc, storage, name)?,
+        ("keep", &[a]) => {
+            storage.keep_word(a);
+            Ok(())
+        }
+        ("land", &[turn]) => {
+            storage.land(u64::from(turn));
+            Ok(())
+        }
+        ("configure", &[region, v, w]) => configure(storage, u8::try_from(region)?, [v, w]),
+        _ => begins(alloc, storage, name),
     }
-    Ok(())
 }

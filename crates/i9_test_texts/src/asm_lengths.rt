@@ -63,19 +63,10 @@ const FAULTS: &str = "1 1 % 1
 /// The same with a byte too many.
 const TOO_MANY: &str = "5 8 .space 1048576|.space 1048576|.space 1048576|.space 1048576|%: .byte 1";
 
-/// So many times the same character.
-fn repeated(alloc: Global, character: char, count: usize) -> Result<String, Fail> {
-    let mut text = String::new(alloc);
-    for _ in 0..count {
-        text.push(character)?;
-    }
-    Ok(text)
-}
-
 #[test]
 fn assembles_lines_of_each_length(rt: HostRuntime) -> Result<(), Fail> {
     for length in 1..200 {
-        let blanks = repeated(rt.alloc(), ' ', length)?;
+        let blanks = " ".repeat(rt.alloc(), length)?;
         for row in LINES.lines() {
             let row = row.replace(rt.alloc(), "~", blanks.as_str())?;
             must_at(&rt, is_assembled(rt.alloc(), row.as_str())?, row);
@@ -87,7 +78,7 @@ fn assembles_lines_of_each_length(rt: HostRuntime) -> Result<(), Fail> {
 #[test]
 fn assembles_names_of_each_length(rt: HostRuntime) -> Result<(), Fail> {
     for length in 1..64 {
-        let name = repeated(rt.alloc(), 'n', length)?;
+        let name = "n".repeat(rt.alloc(), length)?;
         for row in NAMES.lines() {
             let row = row.replace(rt.alloc(), "%", name.as_str())?;
             must_at(&rt, is_assembled(rt.alloc(), row.as_str())?, row);
@@ -99,14 +90,14 @@ fn assembles_names_of_each_length(rt: HostRuntime) -> Result<(), Fail> {
 #[test]
 fn refuses_names_of_each_length(rt: HostRuntime) -> Result<(), Fail> {
     for length in 1..64 {
-        let name = repeated(rt.alloc(), 'n', length)?;
+        let name = "n".repeat(rt.alloc(), length)?;
         for row in FAULTS.lines() {
             let row = row.replace(rt.alloc(), "%", name.as_str())?;
             must_at(&rt, is_refused_source(rt.alloc(), row.as_str())?, row);
         }
     }
     for length in [1, 63] {
-        let name = repeated(rt.alloc(), 'n', length)?;
+        let name = "n".repeat(rt.alloc(), length)?;
         let row = TOO_MANY.replace(rt.alloc(), "%", name.as_str())?;
         must_at(&rt, is_refused_source(rt.alloc(), row.as_str())?, row);
     }

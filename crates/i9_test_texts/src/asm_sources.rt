@@ -1,24 +1,10 @@
 //! Sources against images and faults that were worked out by hand.
 use crate::check::{must, same};
+use crate::segments::segments_text;
 use i9_asm::{AsmError, AsmFault, assemble};
-use i9_hex::{Segment, Segments, write};
+use i9_hex::write;
 use std::alloc::Global;
 use std::test::Fail;
-
-/// Whether an image has these segments.
-pub(crate) fn has(image: &Segments, wanted: &[(u32, &[u8])]) -> bool {
-    let segments = image.as_slice();
-    if segments.len() != wanted.len() {
-        return false;
-    }
-    for (index, segment) in segments.iter().enumerate() {
-        let (address, bytes) = wanted[index];
-        if segment.address != address || segment.bytes.as_slice() != bytes {
-            return false;
-        }
-    }
-    true
-}
 
 /// The line and kind that a source is refused for.
 fn refusal(alloc: Global, source: &[u8]) -> Option<(u64, u8)> {
@@ -64,46 +50,12 @@ FFFFFFFC 01 00 00 00, 8 00 00 00 00;.org 0xFFFFFFFC|.word 1|end:|.org 8|.word en
 0 07 0E A0 5C;\tmov\t7 ,\tg4 \t# seven
 0 00 00 00 0A 00 00 00 0A;x:ret\r|  y:\t ret # again\r";
 
-/// Whether a segment has the address and the bytes of a text.
-fn is_segment(alloc: Global, segment: &Segment, wanted: &str) -> Result<bool, Fail> {
-    let Some((address, digits)) = wanted.split_once(" ") else {
-        return Ok(false);
-    };
-    let mut bytes = Vec::new(alloc);
-    for byte in digits.split_whitespace() {
-        bytes.push(u8::from_str_radix(byte, 16)?)?;
-    }
-    Ok(
-        segment.address == u32::from_str_radix(address, 16)?
-            && segment.bytes.as_slice() == bytes.as_slice(),
-    )
-}
-
-/// Whether an image has the segments of a text.
-fn has_segments(alloc: Global, image: &Segments, wanted: &str) -> Result<bool, Fail> {
-    let segments = image.as_slice();
-    if wanted == "none" {
-        return Ok(segments.is_empty());
-    }
-    for (index, part) in wanted.split(", ").enumerate() {
-        let Some(segment) = segments.get(index) else {
-            return Ok(false);
-        };
-        if !is_segment(alloc, segment, part)? {
-            return Ok(false);
-        }
-    }
-    Ok(segments.len() == wanted.split(", ").count())
-}
-
 /// Whether the source of a row has its segments.
 pub(crate) fn is_assembled(alloc: Global, row: &str) -> Result<bool, Fail> {
-    let Some((wanted, lines)) = row.split_once(";") else {
-        return Ok(false);
-    };
+    let (wanted, lines) = row.split_once(";").unwrap_or((row, ""));
     let source = lines.replace(alloc, "|", "\n")?;
     let image = assemble(alloc, source.as_bytes())?;
-    has_segments(alloc, &image, wanted)
+    Ok(segments_text(alloc, &image)?.as_str() == wanted)
 }
 
 #[test]
@@ -469,18 +421,12 @@ const REFUSALS: &str = "2 1 mov 1, g4|frob|frob
 
 /// Whether the source of a row is refused for its line and kind.
 pub(crate) fn is_refused_source(alloc: Global, row: &str) -> Result<bool, Fail> {
-    let Some((line, rest)) = row.split_once(" ") else {
-        return Ok(false);
-    };
-    let Some((kind, lines)) = rest.split_once(" ") else {
-        return Ok(false);
-    };
+    let (line, rest) = row.split_once(" ").unwrap_or((row, ""));
+    let (kind, lines) = rest.split_once(" ").unwrap_or((rest, ""));
+    let line = u64::from_str_radix(line, 10)?;
+    let kind = u8::from_str_radix(kind, 10)?;
     let source = lines.replace(alloc, "|", "\n")?;
-    let wanted = Some((
-        u64::from_str_radix(line, 10)?,
-        u8::from_str_radix(kind, 10)?,
-    ));
-    Ok(refusal(alloc, source.as_bytes()) == wanted)
+    Ok(refusal(alloc, source.as_bytes()) == Some((line, kind)))
 }
 
 #[test]

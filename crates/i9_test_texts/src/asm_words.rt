@@ -1,6 +1,6 @@
 //! Statements against words that were worked out by hand from the instruction formats.
-use crate::asm_sources::has;
 use crate::check::must;
+use crate::segments::has;
 use i9_asm::assemble;
 use std::alloc::Global;
 use std::test::Fail;

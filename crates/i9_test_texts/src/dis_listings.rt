@@ -1,6 +1,7 @@
 //! Listings that were worked out by hand, and what they assemble to.
 use crate::check::{must, must_at};
 use crate::dis::{PRINTED, REFUSED_WORDS};
+use crate::segments::segments_of;
 use i9_asm::assemble;
 use i9_dis::{listing, one_listing};
 use i9_hex::Segments;
@@ -167,17 +168,6 @@ FFFFFFFC:0030A88C000000E0
 .org 0xFFFFFFFC
 .word 0x8CA83000 # FFFFFFFC 8CA83000";
 
-/// An image of segments, each of them `ADDRESS:BYTES`.
-fn image(alloc: Global, text: &str) -> Result<Segments, Fail> {
-    let mut segments = Segments::new(alloc);
-    for segment in text.split(" ") {
-        let (address, bytes) = segment.split_once(":").unwrap_or((segment, ""));
-        let address = u32::from_str_radix(address, 16)?;
-        segments.push(address, hex::decode(alloc, bytes.as_bytes())?)?;
-    }
-    Ok(segments)
-}
-
 /// The bytes of an image by their addresses.
 fn bytes_of(alloc: Global, image: &Segments) -> Result<BTreeMap<u32, u8>, Fail> {
     let mut bytes = BTreeMap::new(alloc);
@@ -230,7 +220,7 @@ fn lists_images(rt: HostRuntime) -> Result<(), Fail> {
         let wanted = format!(in rt.alloc(); "{lines}\n")?;
         must_at(
             &rt,
-            is_listed(rt.alloc(), &image(rt.alloc(), segments)?, &wanted)?,
+            is_listed(rt.alloc(), &segments_of(rt.alloc(), segments)?, &wanted)?,
             row,
         );
     }

@@ -4,8 +4,9 @@ ghost use Rattle.i9_model.specs.Image.{pairs_of};
 ghost use Rattle.i9_model.specs.HexText.{most_bytes};
 
 use crate::check::{must, must_at, same};
+use crate::segments::segments_text;
 use i9_elf::{ElfError, WriteError, has_magic, one_answer, read, write};
-use i9_hex::{Segment, Segments, runs_of};
+use i9_hex::{Segments, runs_of};
 use i9_isa::NoMemory;
 use std::alloc::Global;
 use std::test::Fail;
@@ -87,32 +88,6 @@ fn bytes_of(alloc: Global, text: &str) -> Result<Vec<u8>, Fail> {
     Ok(bytes)
 }
 
-/// Whether a run has the address and the bytes of a text.
-fn is_run(alloc: Global, run: &Segment, wanted: &str) -> Result<bool, Fail> {
-    let (address, digits) = wanted.split_once(" ").unwrap_or((wanted, ""));
-    let bytes = bytes_of(alloc, digits)?;
-    let same = run.bytes.as_slice() == bytes.as_slice();
-    Ok(same && run.address == u32::from_str_radix(address, 16)?)
-}
-
-/// Whether an image has the runs of a text.
-fn has_runs(alloc: Global, image: &Segments, wanted: &str) -> Result<bool, Fail> {
-    let runs = runs_of(alloc, image)?;
-    let segments = runs.as_slice();
-    if wanted == "none" {
-        return Ok(segments.is_empty());
-    }
-    for (index, text) in wanted.split(", ").enumerate() {
-        let Some(run) = segments.get(index) else {
-            return Ok(false);
-        };
-        if !is_run(alloc, run, text)? {
-            return Ok(false);
-        }
-    }
-    Ok(segments.len() == wanted.split(", ").count())
-}
-
 /// The file of a row: a front of `FILE`, with other bytes at some places.
 fn file_of(alloc: Global, words: &str) -> Result<Vec<u8>, Fail> {
     let (length, edits) = words.split_once(" ").unwrap_or((words, ""));
@@ -135,7 +110,7 @@ fn is_answered(alloc: Global, row: &str) -> Result<bool, Fail> {
         return Ok(false);
     }
     match read(alloc, &file) {
-        Ok(image) => has_runs(alloc, &image, wanted),
+        Ok(image) => Ok(segments_text(alloc, &runs_of(alloc, &image)?)?.as_str() == wanted),
         Err(ElfError::Bad(kind)) => Ok(format!(in alloc; "{kind}")?.as_str() == wanted),
         Err(ElfError::Memory) => Ok(false),
     }

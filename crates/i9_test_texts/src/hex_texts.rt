@@ -1,22 +1,8 @@
 use crate::check::{must, same};
+use crate::segments::has;
 use i9_hex::{HexError, HexFault, Segments, read, write};
 use std::alloc::{AllocError, Global};
 use std::test::Fail;
-
-/// Whether the image has these segments.
-fn has(image: &Segments, wanted: &[(u32, &[u8])]) -> bool {
-    let segments = image.as_slice();
-    if segments.len() != wanted.len() {
-        return false;
-    }
-    for (index, segment) in segments.iter().enumerate() {
-        let (address, bytes) = wanted[index];
-        if segment.address != address || segment.bytes.as_slice() != bytes {
-            return false;
-        }
-    }
-    true
-}
 
 /// The line and kind that a text is refused for.
 fn refusal(alloc: Global, text: &[u8]) -> Option<(u64, u8)> {

@@ -43,6 +43,8 @@ mod schedule;
 #[cfg(test)]
 mod script;
 #[cfg(test)]
+mod segments;
+#[cfg(test)]
 mod text;
 #[cfg(test)]
 mod tune;

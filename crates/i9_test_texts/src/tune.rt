@@ -1,6 +1,6 @@
 //! Blocks whose turns and orders were worked out by hand from the rules, and blocks at fault.
 use crate::check::{must, same};
-use i9_hex::Segments;
+use crate::segments::segments_of;
 use i9_tune::{BlockError, allowed, block_in, block_line, span, tune, tuning};
 use std::alloc::Global;
 use std::test::Fail;
@@ -97,24 +97,13 @@ mov 1, g4 # 00001004 5CA00E01
 1000 1 1000:0001A8B0
 #block kind 2 00001000";
 
-/// An image of segments, each of them `ADDRESS:BYTES`.
-fn image(alloc: Global, text: &str) -> Result<Segments, Fail> {
-    let mut segments = Segments::new(alloc);
-    for segment in text.split(" ") {
-        let (address, bytes) = segment.split_once(":").unwrap_or((segment, ""));
-        let address = u32::from_str_radix(address, 16)?;
-        segments.push(address, hex::decode(alloc, bytes.as_bytes())?)?;
-    }
-    Ok(segments)
-}
-
 /// What is printed of a block: its address, the number of its instructions, and the image where it stands.
 fn printed(alloc: Global, given: &str) -> Result<Vec<u8>, Fail> {
     let (address, rest) = given.split_once(" ").unwrap_or((given, ""));
     let (count, segments) = rest.split_once(" ").unwrap_or((rest, ""));
     let address = u32::from_str_radix(address, 16)? / 4 * 4;
     let count = u8::from_str_radix(count, 10)?.min(64);
-    match block_in(alloc, &image(alloc, segments)?, address, count) {
+    match block_in(alloc, &segments_of(alloc, segments)?, address, count) {
         Ok(block) => Ok(tuning(alloc, address, &block)?),
         Err(BlockError::Bad(fault)) => Ok(block_line(alloc, &fault)?),
         Err(BlockError::Memory) => Err(Fail::from(i9_isa::NoMemory)),
@@ -136,7 +125,7 @@ fn prints_blocks(rt: HostRuntime) -> Result<(), Fail> {
 #[test]
 fn tunes_a_block(rt: HostRuntime) -> Result<(), Fail> {
     let alloc = rt.alloc();
-    let image = image(alloc, "1000:8318917012809C59010EA05C020EA85C")?;
+    let image = segments_of(alloc, "1000:8318917012809C59010EA05C020EA85C")?;
     let Ok(block) = block_in(alloc, &image, 0x1000, 4) else {
         return Err(Fail::from(i9_isa::NoMemory));
     };

@@ -1,5 +1,5 @@
 -- What a source assembles to are bytes.
-use Rattle.std.proofs.Common.{◌≡◌, ℕ, zero, suc, ◌+◌, ◌<◌, Bool, true, false, not, cond, eqb, List, [], ◌∷◌, ◌++◌, take, drop, flat_map, Option, Some, None, refl, sym, subst, arith}
+use Rattle.std.proofs.Common.{◌≡◌, ℕ, zero, suc, ◌+◌, ◌<◌, Bool, true, false, not, cond, eqb, List, [], ◌∷◌, ◌++◌, flat_map, Option, Some, None, refl, sym, subst, arith}
 use Rattle.i9_asm.proofs.ReadListing.{low_take, low_drop}
 use Rattle.std.specs.Prelude.{IfSome, codes}
 use Rattle.std.specs.List.{AllByRecursion, list_all, position_or_len}

@@ -3,7 +3,7 @@ use Rattle.std.proofs.Common.{◌≡◌, ℕ, ◌+◌, ◌<◌, ◌≤◌, true,
 use Rattle.i9_past.proofs.Unique.{does_is}
 use Rattle.i9_model.specs.Late.{turns as late_turns}
 use Rattle.i9_model.specs.PrintedText.{text_of, lines_of}
-use Rattle.i9_model.specs.Run.{Given, Record, Does, Finish}
+use Rattle.i9_model.specs.Run.{Given, Record, Finish}
 use Rattle.i9_model.specs.Turns.{last_issue}
 use Rattle.i9_course.specs.Course.{Item, course, ahead, IsCourse}
 use Rattle.i9_course.specs.PipelinedRun.{end_ahead, finish_by, ended_by}

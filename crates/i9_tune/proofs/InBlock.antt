@@ -17,15 +17,6 @@ put_all block (Err fault) = Err fault
 abbrev pub IsRead : (ℕ → Option ℕ) → ℕ → ℕ → ℕ → List Inst → ℕ → Type 0
 IsRead loaded n a k block at = block_at loaded n a ≡ put_all block (block_at loaded (n - k) at)
 
-put_none : (r : Result (List Inst) BlockFault) → r ≡ put_all [] r
-put_none (Ok is) = refl
-put_none (Err fault) = refl
-
-pub none_read : (loaded : ℕ → Option ℕ) (n a : ℕ) → IsRead loaded n a 0 [] a
-none_read loaded n a =
-    let all : n ≡ n - 0 = omega arith in
-    put_none (block_at loaded n a) ∙ ap (λ (m : ℕ). put_all [] (block_at loaded m a)) all
-
 put_more : (block : List Inst) (i : Inst) (r : Result (List Inst) BlockFault) → put_all block (put_first i r) ≡ put_all (block ++ i ∷ []) r
 put_more block i (Ok is) = ap (λ (js : List Inst). Ok js) (sym (append_assoc block (i ∷ []) is))
 put_more block i (Err fault) = refl

@@ -27,10 +27,6 @@ use Rattle.i9_tune.specs.Tuning.{IsCodeOf, one_word, two_words, AreCodes, no_cod
 
 -- ---- the line of an instruction that is whole
 
--- what stands before its words
-abbrev head_of : ℕ → Inst → List ℕ
-head_of a i = statement_text a i 0 ++ space ∷ hash ∷ space ∷ word_text a
-
 -- these bytes are those of the instruction
 pub record IsWhole (a : ℕ) (i : Inst) (bs : List ℕ) (w : ℕ) : Type 0 where
   pub single : is_single a bs ≡ false

@@ -27,9 +27,6 @@ early_by p n m done lt waited cost =
 pub done_later : (p : Pending) (m k : ℕ) → m ≤ k → IsAllDone p m → IsAllDone p k
 done_later p m k le done = let last = done.in_order in record { in_order = omega (arith, last, le); done = each-done m k p.records le done.done }
 
-pub none_done : (p : Pending) → StandsFor p [] → IsAllDone p 1
-none_done p stands = subst (λ (q : Pending). IsAllDone q 1) (sym stands.pending) (record { in_order = omega arith; done = tt })
-
 -- ---- one more instruction of a block
 
 pub reverse_more : (xs : List Inst) (k : ℕ) (d : Inst) → k < length xs → reverse (take (k + 1) xs) ≡ slice_index_or xs k d ∷ reverse (take k xs)

@@ -1,8 +1,6 @@
 use Rattle.std.proofs.Common.{ℕ, sym, ap, ◌∙◌}
 use Rattle.i9_isa.specs.Words.{decoded}
 use Rattle.i9_isa.proofs.Decoding.{refusal_free}
-use Rattle.i9_model.specs.Memory.{word_in}
-use Rattle.i9_model.specs.Hazards.{read_hazard}
 use Rattle.i9_model.specs.Step.{next_word}
 use Rattle.i9_processor.specs.State.{state_of}
 use Rattle.i9_plan.proofs.Fetching.{short_read, refused_fetch_by}

@@ -1,5 +1,4 @@
-use Rattle.std.proofs.Common.{◌≡◌, List, ◌∷◌, Option, None, Some}
-use Rattle.i9_model.specs.declared.run.End.{End}
+use Rattle.std.proofs.Common.{List, ◌∷◌, Option, None, Some}
 use Rattle.i9_model.specs.Run.{Given, Finish}
 use Rattle.i9_schedule.specs.Plan.{Plan}
 use Rattle.i9_course.specs.Course.{Item, Fence}
