@@ -221,12 +221,8 @@ fn goes_far_back(rt: HostRuntime) -> Result<(), Fail> {
 // As many commands as a script may have: one turn on, and one instruction back.
 #[test]
 fn goes_back_as_often_as_a_script_may(rt: HostRuntime) -> Result<(), Fail> {
-    let mut script = String::new(rt.alloc());
-    let mut text = String::new(rt.alloc());
-    for _ in 0..50_000 {
-        script.push_str("turn 1\nback 1\n")?;
-        text.push_str("#turn 2 2\n#turn 1 1\n")?;
-    }
+    let script = "turn 1\nback 1\n".repeat(rt.alloc(), 50_000)?;
+    let text = "#turn 2 2\n#turn 1 1\n".repeat(rt.alloc(), 50_000)?;
     let image = image_of(rt.alloc(), LONG)?;
     let (answer, sink) = session_of(rt.alloc(), &image, 0, "", &script, 0)?;
     same(&rt, answer, SessionEnd::Done);

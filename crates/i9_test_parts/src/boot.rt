@@ -196,7 +196,10 @@ fn configures_after_all_words(rt: HostRuntime) -> Result<(), Fail> {
         } else {
             reinit(&mut memory, &watch, 0x1230, 0x2000)
         };
-        same(&rt, setup.map(|s| s.control), Ok(control));
+        let Ok(setup) = setup else {
+            return Err("a hazard".into());
+        };
+        same(&rt, setup.control, control);
         let held = (memory.big(0), memory.word(0x3024), memory.word(0x306C));
         same(&rt, held, (true, 0x0403_0201, 0x0807_0605));
     }
