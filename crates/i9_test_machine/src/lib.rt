@@ -1,5 +1,4 @@
-//! The tests of i9_pipeline, i9_machine, i9_back, i9_tracer, i9_lines and i9_debug, and of i9_outside and i9_system,
-//! whose public calls they make.
+//! The tests of i9_pipeline, i9_machine, i9_back, i9_tracer, i9_lines and i9_debug, whose public calls they make.
 #![tactic(auto)]
 
 #[cfg(test)]
@@ -19,19 +18,11 @@ mod machine_memory;
 #[cfg(test)]
 mod machine_turns;
 #[cfg(test)]
-mod outside;
-#[cfg(test)]
 mod raw;
 #[cfg(test)]
 mod run;
 #[cfg(test)]
 mod script;
-#[cfg(test)]
-mod system_calls;
-#[cfg(test)]
-mod system_disk;
-#[cfg(test)]
-mod system_files;
 #[cfg(test)]
 mod told;
 #[cfg(test)]

@@ -5,6 +5,7 @@ use i9_asm::{
     read_line,
 };
 use i9_statement::Fault;
+use std::alloc::Global;
 use std::test::Fail;
 
 /// Lines, their labels, and what they say behind them.
@@ -64,11 +65,16 @@ fn reads_lines(rt: HostRuntime) -> Result<(), Fail> {
     Ok(())
 }
 
+/// The text of an error.
+fn told(alloc: Global, error: &AsmError) -> Result<String, Fail> {
+    Ok(format!(in alloc; "{error}")?)
+}
+
 #[test]
 fn tells_what_is_wrong(rt: HostRuntime) -> Result<(), Fail> {
     let refused = AsmError::Bad(AsmFault { line: 1, kind: 2 });
-    for (error, wanted) in [(refused, "refused"), (AsmError::Memory, "no memory")] {
-        same(&rt, format!(in rt.alloc(); "{error}")?.as_str(), wanted);
-    }
+    same(&rt, told(rt.alloc(), &refused)?.as_str(), "refused");
+    let memory = told(rt.alloc(), &AsmError::Memory)?;
+    same(&rt, memory.as_str(), "no memory");
     Ok(())
 }
