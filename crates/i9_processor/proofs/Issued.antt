@@ -129,10 +129,10 @@ module _ (olds news : File) (writes done flags ac : ℕ) (sets : List (ℕ × �
         ∙ sym (written-last (registers_of olds) sets r)
   ]
 
-  pub registers_issued : registers_of news ≡ written (registers_of olds) sets
+  registers_issued : registers_of news ≡ written (registers_of olds) sets
   registers_issued = λ i r. register_issued r i
 
-  pub arithmetic_issued : arithmetic_of (ac - ac % 8) news ≡ ac
+  arithmetic_issued : arithmetic_of (ac - ac % 8) news ≡ ac
   unfolding arithmetic_of
   arithmetic_issued = let code = code_latest in omega (arith, code)
 
@@ -144,7 +144,7 @@ module _ (olds news : File) (writes done flags ac : ℕ) (sets : List (ℕ × �
       let low : r < 32 = grind (arith, nat_tests, few, is) in
       sym (registers_at news r low ∙ register_latest r low)
 
-  pub cells_issued : ((r : ℕ) → r < resources → cell_in news r ≡ issued_over writes done r (value_of r) (cell_in olds r))
+  cells_issued : ((r : ℕ) → r < resources → cell_in news r ≡ issued_over writes done r (value_of r) (cell_in olds r))
       → IsIssued writes done (ac - ac % 8) olds news
   cells_issued cells = record {
     each = λ r few.
@@ -173,7 +173,7 @@ module _ (olds news : File) (writes done flags ac : ℕ) (sets : List (ℕ × �
             ∙ sym (issued_none writes done r (value_of r) (cell_in firsts r) none)
       ]
 
-  pub cells_amended : (firsts : File) (flags0 : ℕ) → IsIssued writes done flags0 firsts olds
+  cells_amended : (firsts : File) (flags0 : ℕ) → IsIssued writes done flags0 firsts olds
       → ((r : ℕ) → r < resources → cell_in news r ≡ issued_cell writes done r (value_of r) (cell_in olds r))
       → IsIssued writes done (ac - ac % 8) firsts news
   cells_amended firsts flags0 first cells = record {
@@ -182,12 +182,8 @@ module _ (olds news : File) (writes done flags ac : ℕ) (sets : List (ℕ × �
         ∙ ap (λ (v : ℕ). issued_over writes done r v (cell_in firsts r)) (value_is r (eqb r CONDITION_CODE) few refl);
   }
 
--- the latest values are the same, planned over what was or not
-pub latest_issued : (writes done r v : ℕ) (c d : Cell) → d ≡ issued_over writes done r v c
-    → latest d ≡ latest (issued_over writes done r v c)
-latest_issued writes done r v c d = ap latest
-
-pub latest_amended : (writes done r v : ℕ) (c d : Cell) → d ≡ issued_cell writes done r v c
+-- the latest values are the same over what was planned before
+latest_amended : (writes done r v : ℕ) (c d : Cell) → d ≡ issued_cell writes done r v c
     → latest d ≡ latest (issued_over writes done r v c)
 latest_amended writes done r v c d is = elim (cases_bit writes r) [
   | inl one ↦
@@ -195,6 +191,41 @@ latest_amended writes done r v c d is = elim (cases_bit writes r) [
   | inr none ↦
       ap latest (is ∙ amended_none writes done r v c none) ∙ sym (ap latest (issued_none writes done r v c none))
 ]
+
+-- what is left behind cells that were planned, anew or over what the same record had planned
+pub record Leaves (olds news : File) (ac : ℕ) (sets : List (ℕ × ℕ)) (Issued : Type 0) : Type 0 where
+  pub registers : registers_of news ≡ written (registers_of olds) sets
+  pub controls : arithmetic_of (ac - ac % 8) news ≡ ac
+  pub issued : Issued
+
+module _ (olds news : File) (writes done flags ac : ℕ) (sets : List (ℕ × ℕ))
+    (past : (r : ℕ) → 32 ≤ r → last_put sets r ≡ None)
+    (covered : AreCovered writes sets)
+    (kept : IsCodeCovered writes (arithmetic_of flags olds) ac) where
+  abbrev planned : ℕ → ℕ
+  planned r = cond (eqb r CONDITION_CODE) (ac % 8) (written (latest_of olds) sets r)
+
+  pub issued_by : ((r : ℕ) → r < resources → cell_in news r ≡ issued_over writes done r (planned r) (cell_in olds r))
+      → Leaves olds news ac sets (IsIssued writes done (ac - ac % 8) olds news)
+  issued_by cells =
+      let all = λ (r : ℕ) (few : r < resources). ap latest (cells r few) in
+      record {
+        registers = registers_issued olds news writes done flags ac sets past covered kept all;
+        controls = arithmetic_issued olds news writes done flags ac sets past covered kept all;
+        issued = cells_issued olds news writes done flags ac sets past covered kept all cells;
+      }
+
+  pub amended_by : (flags0 : ℕ)
+      → ((r : ℕ) → r < resources → cell_in news r ≡ issued_cell writes done r (planned r) (cell_in olds r))
+      → Leaves olds news ac sets ((firsts : File) → IsIssued writes done flags0 firsts olds
+      → IsIssued writes done (ac - ac % 8) firsts news)
+  amended_by flags0 cells =
+      let all = λ (r : ℕ) (few : r < resources). latest_amended writes done r (planned r) (cell_in olds r) (cell_in news r) (cells r few) in
+      record {
+        registers = registers_issued olds news writes done flags ac sets past covered kept all;
+        controls = arithmetic_issued olds news writes done flags ac sets past covered kept all;
+        issued = λ firsts first. cells_amended olds news writes done flags ac sets past covered kept all firsts flags0 first cells;
+      }
 
 -- ---- the first frame
 

@@ -16,26 +16,18 @@ other c =
     subst (Answers c.args.file.now) (sym c.from_hex.ensures)
     (by_hex c.args.file.now c.read-else-has_magic.result none c.read-else-has_magic.ensures.found c.read-else-has_magic.ensures.only c.read-else-has_magic.ensures.refused c.read-else-has_magic.ensures.first)
 
-pub returns-then-has_magic-clause-found : goal.returns-then-has_magic-clause-found
-returns-then-has_magic-clause-found c = (begun c).found
+pub returns-then-has_magic : goal.returns-then-has_magic
+returns-then-has_magic c = record {
+  found = (begun c).found;
+  only = (begun c).only;
+  refused = (begun c).refused;
+  first = (begun c).first;
+}
 
-pub returns-then-has_magic-clause-only : goal.returns-then-has_magic-clause-only
-returns-then-has_magic-clause-only c = (begun c).only
-
-pub returns-then-has_magic-clause-refused : goal.returns-then-has_magic-clause-refused
-returns-then-has_magic-clause-refused c = (begun c).refused
-
-pub returns-then-has_magic-clause-first : goal.returns-then-has_magic-clause-first
-returns-then-has_magic-clause-first c = (begun c).first
-
-pub returns-else-has_magic-clause-found : goal.returns-else-has_magic-clause-found
-returns-else-has_magic-clause-found c = (other c).found
-
-pub returns-else-has_magic-clause-only : goal.returns-else-has_magic-clause-only
-returns-else-has_magic-clause-only c = (other c).only
-
-pub returns-else-has_magic-clause-refused : goal.returns-else-has_magic-clause-refused
-returns-else-has_magic-clause-refused c = (other c).refused
-
-pub returns-else-has_magic-clause-first : goal.returns-else-has_magic-clause-first
-returns-else-has_magic-clause-first c = (other c).first
+pub returns-else-has_magic : goal.returns-else-has_magic
+returns-else-has_magic c = record {
+  found = (other c).found;
+  only = (other c).only;
+  refused = (other c).refused;
+  first = (other c).first;
+}

@@ -19,14 +19,10 @@ returns-in-Some-clause-refused c = refused c.args.file.now (Err (Bad c.in-Some.k
 pub returns-in-Some-clause-first : goal.returns-in-Some-clause-first
 returns-in-Some-clause-first c = first c.args.file.now (Err (Bad c.in-Some.kind)) (by_fault c)
 
-pub returns-in-None-clause-found : goal.returns-in-None-clause-found
-returns-in-None-clause-found c = found c.args.file.now c.load_all.result c.requires (by_loads c)
-
-pub returns-in-None-clause-only : goal.returns-in-None-clause-only
-returns-in-None-clause-only c = only c.args.file.now c.load_all.result (by_loads c)
-
-pub returns-in-None-clause-refused : goal.returns-in-None-clause-refused
-returns-in-None-clause-refused c = refused c.args.file.now c.load_all.result (by_loads c)
-
-pub returns-in-None-clause-first : goal.returns-in-None-clause-first
-returns-in-None-clause-first c = first c.args.file.now c.load_all.result (by_loads c)
+pub returns-in-None : goal.returns-in-None
+returns-in-None c = record {
+  found = found c.args.file.now c.load_all.result c.requires (by_loads c);
+  only = only c.args.file.now c.load_all.result (by_loads c);
+  refused = refused c.args.file.now c.load_all.result (by_loads c);
+  first = first c.args.file.now c.load_all.result (by_loads c);
+}

@@ -1,14 +1,10 @@
 use Rattle.i9_hex.proofs.OneAnswer.{some_answer, image_apart, one_image, one_fault}
 use Rattle.i9_hex.proofs.laws.one_answer.Goals as goal
 
-pub returns-clause-some : goal.returns-clause-some
-returns-clause-some c = some_answer
-
-pub returns-clause-apart : goal.returns-clause-apart
-returns-clause-apart c = image_apart
-
-pub returns-clause-one_image : goal.returns-clause-one_image
-returns-clause-one_image c = one_image
-
-pub returns-clause-one_fault : goal.returns-clause-one_fault
-returns-clause-one_fault c = one_fault
+pub returns : goal.returns
+returns c = record {
+  some = some_answer;
+  apart = image_apart;
+  one_image = one_image;
+  one_fault = one_fault;
+}

@@ -47,14 +47,10 @@ returns-in-Err-clause-refused c = refused c.args.text.now (Err c.at.result) (at_
 pub returns-in-Err-clause-first : goal.returns-in-Err-clause-first
 returns-in-Err-clause-first c = first c.args.text.now (Err c.at.result) (at_line c)
 
-pub returns-clause-found : goal.returns-clause-found
-returns-clause-found c = found c.args.text.now c.finish.result (at_end c)
-
-pub returns-clause-only : goal.returns-clause-only
-returns-clause-only c = only c.args.text.now c.finish.result (at_end c)
-
-pub returns-clause-refused : goal.returns-clause-refused
-returns-clause-refused c = refused c.args.text.now c.finish.result (at_end c)
-
-pub returns-clause-first : goal.returns-clause-first
-returns-clause-first c = first c.args.text.now c.finish.result (at_end c)
+pub returns : goal.returns
+returns c = record {
+  found = found c.args.text.now c.finish.result (at_end c);
+  only = only c.args.text.now c.finish.result (at_end c);
+  refused = refused c.args.text.now c.finish.result (at_end c);
+  first = first c.args.text.now c.finish.result (at_end c);
+}

@@ -14,15 +14,14 @@ returns-then-raises_range-clause-standing c =
     let faults = ap (λ (b : Bool). is_fault_name i.op && b) (sym c.jump_of-jump.ensures.taken) ∙ sym c.raises_range.ensures ∙ c.if-raises_range.true in
     sym (branch_stands i s c.requires.branch (c.results_by_name.ensures i _ _ _ _) ∙ ap (λ (b : Bool). cond b (Faults i (CONSTRAINT, RANGE)) (Runs i)) faults)
 
-pub returns-else-raises_range-clause-standing : goal.returns-else-raises_range-clause-standing
-returns-else-raises_range-clause-standing c =
+pub returns-else-raises_range : goal.returns-else-raises_range
+returns-else-raises_range c =
     let i = c.args.i.now in
     let s = state_of c.args.p.now in
-    let runs = ap (λ (b : Bool). is_fault_name i.op && b) (sym c.jump_of-jump.ensures.taken) ∙ sym c.raises_range.ensures ∙ c.if-raises_range.false in
-    sym (branch_stands i s c.requires.branch (c.results_by_name.ensures i _ _ _ _) ∙ ap (λ (b : Bool). cond b (Faults i (CONSTRAINT, RANGE)) (Runs i)) runs)
-
-pub returns-else-raises_range-clause-effect : goal.returns-else-raises_range-clause-effect
-returns-else-raises_range-clause-effect c =
-    let i = c.args.i.now in
-    let s = state_of c.args.p.now in
-    subst (λ (a : Action). IsEffect s a c.branching.new.effect) (branch_does i s c.requires.branch) c.branching.ensures
+    record {
+      standing =
+          let runs = ap (λ (b : Bool). is_fault_name i.op && b) (sym c.jump_of-jump.ensures.taken) ∙ sym c.raises_range.ensures ∙ c.if-raises_range.false in
+          sym (branch_stands i s c.requires.branch (c.results_by_name.ensures i _ _ _ _) ∙ ap (λ (b : Bool). cond b (Faults i (CONSTRAINT, RANGE)) (Runs i)) runs);
+      effect =
+          subst (λ (a : Action). IsEffect s a c.branching.new.effect) (branch_does i s c.requires.branch) c.branching.ensures;
+    }

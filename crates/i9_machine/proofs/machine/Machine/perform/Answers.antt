@@ -1,4 +1,4 @@
-use Rattle.std.proofs.Common.{◌≡◌, ℕ, ◌+◌, ◌≤◌, List, ◌++◌, map, sym, ap, ◌∙◌, subst, subst₂, arith}
+use Rattle.std.proofs.Common.{rules, ◌≡◌, ℕ, ◌+◌, ◌≤◌, List, ◌++◌, map, sym, ap, ◌∙◌, subst, subst₂, arith}
 use Rattle.i9_model.specs.declared.need.Need.{Need}
 use Rattle.i9_model.specs.declared.layout.TheConstants.{MAX_LENGTH}
 use Rattle.i9_model.specs.HeldFrames.{Cache, AreWhole, renewed, cache_acted, cache_configured}
@@ -39,99 +39,59 @@ go_on-requires c = λ reaches.
     let step = c.requires.step.is in
     step_within (situation c.args.self.now) c.args.plan.now step.kind step.is_next (sym step.reaches ∙ reaches)
 
-pub act-answer-requires-clause-ready : goal.act-answer-requires-clause-ready
-act-answer-requires-clause-ready c =
+pub act-answer-requires : goal.act-answer-requires
+act-answer-requires c =
+    let m = c.args.self.now in
     let mid = c.make_room.new.self in
-    let made = c.make_room.ensures in
-    let at = situation mid in
-    let step = (same_planned c.args.self.now mid c.args.plan.now c.args.step.now made.same made.effect made.need
-    c.requires.step).is in
-    let free = next_free at.length at.due (event_for at c.args.plan.now) at.state
-    (record_of step.kind at.state) step.is_next in
-    record {
-      registers = step.effect.registers;
-      posts = step.effect.posts;
-      changes = step.effect.changes;
-      moves = step.effect.moves;
-      free = subst (IsFree at.state) (sym step.effect.same) free.1;
-      controls = subst (λ (a : Action). CanControl (moved at.state a) mid.effect.control)
-          (sym step.effect.same) step.effect.controls;
-      below =
-          let below : at.state.count + c.args.step.now.counts ≤ at.length =
-          subst (λ (n : ℕ). at.state.count + n ≤ at.length) (sym step.counts)
-          (did_within at c.args.plan.now step.kind mid.below step.is_next) in
-          let short : at.length ≤ MAX_LENGTH = mid.short in
-          omega (arith, below, short);
-    }
-
-pub act-answer-requires-clause-below : goal.act-answer-requires-clause-below
-act-answer-requires-clause-below c =
-    let mid = c.make_room.new.self in
-    let made = c.make_room.ensures in
-    let at = situation mid in
-    let step = (same_planned c.args.self.now mid c.args.plan.now c.args.step.now made.same made.effect made.need
-    c.requires.step).is in
-    subst (λ (n : ℕ). at.state.count + n ≤ at.length) (sym step.counts)
-    (did_within at c.args.plan.now step.kind mid.below step.is_next)
-
-pub act-answer-requires-clause-made : goal.act-answer-requires-clause-made
-act-answer-requires-clause-made c =
-    let mid = c.make_room.new.self in
+    let plan = c.args.plan.now in
     let room = c.make_room.ensures in
-    let at = situation mid in
-    let step = (same_planned c.args.self.now mid c.args.plan.now c.args.step.now room.same room.effect room.need
-    c.requires.step).is in
-    let free = next_free at.length at.due (event_for at c.args.plan.now) at.state
-    (record_of step.kind at.state) step.is_next in
-    let a = action_for mid mid.effect in
-    let made = subst (λ (k : Contents). AreMade k.sets k.pipeline.state.memory mid.effect.control c.in-Ok.sets)
-    (sym room.same) c.in-Ok.ensures.made in
-    made_takes mid.sets at.state.memory mid.effect.control c.in-Ok.sets a.move a.writes made
-    (subst (IsFree at.state) (sym step.effect.same) free.1).controls
-
-pub act-answer-requires-clause-cost : goal.act-answer-requires-clause-cost
-act-answer-requires-clause-cost c =
-    let m = c.args.self.now in
-    let kept = kept_planned (situation m) c.args.plan.now c.args.step.now m c.requires.step in
-    rw (c.make_room.ensures.need ∙ kept.fenced) (waiting_cost m.pipeline.floor kept.need kept.some)
-
-pub act-answer-requires-clause-early : goal.act-answer-requires-clause-early
-act-answer-requires-clause-early c =
-    let m = c.args.self.now in
-    let u = c.requires.come in
-    let kept = kept_planned (situation m) c.args.plan.now c.args.step.now m c.requires.step in
-    let board : c.make_room.new.self.pipeline.board ≡ m.pipeline.board = λ i.
-    (c.make_room.ensures.same i).pipeline.board in
-    rw (board, c.make_room.ensures.need ∙ kept.fenced)
-    (paced_early (flow_of m.pipeline) (left_after u.given (records_of u.items)) kept.need u.stands.paced kept.none kept.cost)
-
-pub act-answer-requires-clause-whole : goal.act-answer-requires-clause-whole
-act-answer-requires-clause-whole c =
     let come = c.requires.come in
-    let cached = cached-after come.given (records_of come.items)
-    (course_events come.given come.items come.stands.past) in
-    subst (λ (d : Cache). AreWhole d.held) (sym ((λ i. (c.make_room.ensures.same i).pipeline.cache) ∙
-    come.stands.flow.cache))
-    cached.youngest.whole
-
-pub act-answer-requires-clause-covered : goal.act-answer-requires-clause-covered
-act-answer-requires-clause-covered c =
-    let mid = c.make_room.new.self in
-    let plan = c.args.plan.now in
-    let step = c.args.step.now in
-    let made = c.make_room.ensures in
-    let kept = same_planned c.args.self.now mid plan step made.same made.effect made.need c.requires.step in
-    rw kept.fenced (step_covers (situation mid) plan step kept.need mid.effect kept.is)
-
-pub act-answer-requires-clause-acts : goal.act-answer-requires-clause-acts
-act-answer-requires-clause-acts c =
-    let mid = c.make_room.new.self in
-    let plan = c.args.plan.now in
-    let step = c.args.step.now in
-    let made = c.make_room.ensures in
-    let kept = same_planned c.args.self.now mid plan step made.same made.effect made.need c.requires.step in
-    step_acts mid plan step kept.need mid.effect kept.fenced
-    (subst (λ (k : Contents). HasCome k plan) (sym made.same) c.requires.come) kept.is
+    let at = situation mid in
+    let first = kept_planned (situation m) plan c.args.step.now m c.requires.step in
+    let kept = same_planned m mid plan c.args.step.now room.same room.effect room.need c.requires.step in
+    let step = kept.is in
+    let free = subst (IsFree at.state) (sym step.effect.same)
+    (next_free at.length at.due (event_for at plan) at.state (record_of step.kind at.state) step.is_next).1 in
+    let below : at.state.count + c.args.step.now.counts ≤ at.length =
+    subst (λ (n : ℕ). at.state.count + n ≤ at.length) (sym step.counts)
+    (did_within at plan step.kind mid.below step.is_next) in
+    let short : at.length ≤ MAX_LENGTH = mid.short in
+    let a = action_for mid mid.effect in
+    let board : mid.pipeline.board ≡ m.pipeline.board = λ i. (room.same i).pipeline.board in
+    record {
+      light = search rules;
+      cost = rw (room.need ∙ first.fenced) (waiting_cost m.pipeline.floor first.need first.some);
+      turns = search rules;
+      early = rw (board, room.need ∙ first.fenced)
+          (paced_early (flow_of m.pipeline) (left_after come.given (records_of come.items)) first.need
+          come.stands.paced first.none first.cost);
+      issue = search rules;
+      ready = record {
+        registers = step.effect.registers;
+        posts = step.effect.posts;
+        changes = step.effect.changes;
+        moves = step.effect.moves;
+        free = free;
+        controls = subst (λ (x : Action). CanControl (moved at.state x) mid.effect.control) (sym step.effect.same)
+            step.effect.controls;
+        below = omega (arith, below, short);
+      };
+      below = below;
+      space = search rules;
+      made = made_takes mid.sets at.state.memory mid.effect.control c.in-Ok.sets a.move a.writes
+          (subst (λ (k : Contents). AreMade k.sets k.pipeline.state.memory mid.effect.control c.in-Ok.sets)
+          (sym room.same) c.in-Ok.ensures.made) free.controls;
+      covered = rw kept.fenced (step_covers at plan c.args.step.now kept.need mid.effect step);
+      acts = step_acts mid plan c.args.step.now kept.need mid.effect kept.fenced
+          (subst (λ (k : Contents). HasCome k plan) (sym room.same) come) step;
+      lines = search rules;
+      ranges = search rules;
+      whole =
+          let cached = cached-after come.given (records_of come.items)
+          (course_events come.given come.items come.stands.past) in
+          subst (λ (d : Cache). AreWhole d.held) (sym ((λ i. (room.same i).pipeline.cache) ∙ come.stands.flow.cache))
+          cached.youngest.whole;
+    }
 
 pub returns-in-Ok-clause-steps : goal.returns-in-Ok-clause-steps
 returns-in-Ok-clause-steps c =

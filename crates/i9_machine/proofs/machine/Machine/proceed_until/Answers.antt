@@ -42,8 +42,9 @@ come-requires-clause-running c =
     c.pass_to-in_default.ensures.passed
     ∙ (λ i. (c.look-turn.ensures.like i).ended) ∙ c.requires.running
 
-pub returns-in_default-clause-next : goal.returns-in_default-clause-next
-returns-in_default-clause-next c = λ g h stands follows.
+pub returns-in_default : goal.returns-in_default
+returns-in_default c = record {
+  next = λ g h stands follows.
     let m = c.args.self.now in
     let mid = c.look-turn.new.self in
     let next = c.pass_to-in_default.new.self in
@@ -79,18 +80,14 @@ returns-in_default-clause-next c = λ g h stands follows.
             come.0 follows
             (kept_room m.pipeline.processor next.pipeline.processor spare (comes_next g h) keeps room));
       },
-    )
-
-pub returns-in_default-clause-fewer : goal.returns-in_default-clause-fewer
-returns-in_default-clause-fewer c =
-    let less = passed_left c.look-turn.result.0 c.look-turn.new.self c.pass_to-in_default.new.self c.args.plan.now
-    c.pass_to-in_default.ensures.passed in
-    let same = like_left c.args.self.now c.look-turn.new.self c.args.plan.now c.look-turn.ensures.like in
-    fewer_from c.come.result _ _ (steps_left c.come.new.self c.come.new.plan)
-    (omega (arith, less, same)) c.come.ensures.costs.fewer
-
-pub returns-in_default-clause-only : goal.returns-in_default-clause-only
-returns-in_default-clause-only c = λ g h stands follows.
+    );
+  fewer =
+      let less = passed_left c.look-turn.result.0 c.look-turn.new.self c.pass_to-in_default.new.self c.args.plan.now
+      c.pass_to-in_default.ensures.passed in
+      let same = like_left c.args.self.now c.look-turn.new.self c.args.plan.now c.look-turn.ensures.like in
+      fewer_from c.come.result _ _ (steps_left c.come.new.self c.come.new.plan)
+      (omega (arith, less, same)) c.come.ensures.costs.fewer;
+  only = λ g h stands follows.
     let m = c.args.self.now in
     let next = c.pass_to-in_default.new.self in
     let like = c.look-turn.ensures.like in
@@ -98,7 +95,8 @@ returns-in_default-clause-only c = λ g h stands follows.
     let come = come_passed g h m _ next c.look-turn.result.0 _ like at c.pass_to-in_default.ensures.passed stands in
     next_behind m.pipeline.processor next.pipeline.processor c.come.new.self.pipeline.processor (comes_next g h)
     (rw like at c.pass_to-in_default.ensures.no_more)
-    (run_only g h (contents_of next) c.args.plan.now next.pipeline.processor _ come.0 follows c.come.ensures.costs.only)
+    (run_only g h (contents_of next) c.args.plan.now next.pipeline.processor _ come.0 follows c.come.ensures.costs.only);
+}
 
 pub returns-in-Some-clause-next : goal.returns-in-Some-clause-next
 returns-in-Some-clause-next c = λ g h stands follows.
