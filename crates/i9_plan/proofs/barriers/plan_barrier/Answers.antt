@@ -18,64 +18,34 @@ pub plan_message-requires-clause-message : goal.plan_message-requires-clause-mes
 plan_message-requires-clause-message c = sysctl_message c.args.i.now _ _ _ _ _ c.in-Sysctl.is c.requires.calm
 
 pub returns-in-Atadd : goal.returns-in-Atadd
-returns-in-Atadd c =
-    let i = c.args.i.now in
-    let s = state_of c.args.p.now in
-    by_name Atadd i s _ c.in-Atadd.is c.plan_atadd.ensures
+returns-in-Atadd c = by_name Atadd _ _ _ c.in-Atadd.is c.plan_atadd.ensures
 
 pub returns-in-Atmod : goal.returns-in-Atmod
-returns-in-Atmod c =
-    let i = c.args.i.now in
-    let s = state_of c.args.p.now in
-    by_name Atmod i s _ c.in-Atmod.is c.plan_atmod.ensures
+returns-in-Atmod c = by_name Atmod _ _ _ c.in-Atmod.is c.plan_atmod.ensures
 
 pub returns-in-Calls : goal.returns-in-Calls
-returns-in-Calls c =
-    let i = c.args.i.now in
-    let s = state_of c.args.p.now in
-    by_name Calls i s _ c.in-Calls.is c.plan_calls.ensures
+returns-in-Calls c = by_name Calls _ _ _ c.in-Calls.is c.plan_calls.ensures
 
 pub returns-in-Ret : goal.returns-in-Ret
-returns-in-Ret c =
-    let i = c.args.i.now in
-    let s = state_of c.args.p.now in
-    by_name Ret i s _ c.in-Ret.is c.plan_return.ensures
+returns-in-Ret c = by_name Ret _ _ _ c.in-Ret.is c.plan_return.ensures
 
 pub returns-in-Sysctl : goal.returns-in-Sysctl
-returns-in-Sysctl c =
-    let i = c.args.i.now in
-    let s = state_of c.args.p.now in
-    by_name Sysctl i s _ c.in-Sysctl.is c.plan_message.ensures
+returns-in-Sysctl c = by_name Sysctl _ _ _ c.in-Sysctl.is c.plan_message.ensures
 
 pub returns-in-Sdma : goal.returns-in-Sdma
-returns-in-Sdma c =
-    let i = c.args.i.now in
-    let s = state_of c.args.p.now in
-    by_name Sdma i s (Ok c.plan_sdma.result) c.in-Sdma.is (refl, c.plan_sdma.ensures)
+returns-in-Sdma c = by_name Sdma _ _ (Ok c.plan_sdma.result) c.in-Sdma.is (refl, c.plan_sdma.ensures)
 
 pub returns-in-Modac : goal.returns-in-Modac
-returns-in-Modac c =
-    let i = c.args.i.now in
-    let s = state_of c.args.p.now in
-    by_name Modac i s (Ok c.plan_modac.result) c.in-Modac.is (refl, c.plan_modac.ensures)
+returns-in-Modac c = by_name Modac _ _ (Ok c.plan_modac.result) c.in-Modac.is (refl, c.plan_modac.ensures)
 
 pub returns-in-Modtc : goal.returns-in-Modtc
-returns-in-Modtc c =
-    let i = c.args.i.now in
-    let s = state_of c.args.p.now in
-    by_name Modtc i s (Ok c.plan_modtc.result) c.in-Modtc.is (refl, c.plan_modtc.ensures)
+returns-in-Modtc c = by_name Modtc _ _ (Ok c.plan_modtc.result) c.in-Modtc.is (refl, c.plan_modtc.ensures)
 
 pub returns-in-Modpc : goal.returns-in-Modpc
-returns-in-Modpc c =
-    let i = c.args.i.now in
-    let s = state_of c.args.p.now in
-    by_name Modpc i s (Ok c.plan_modpc.result) c.in-Modpc.is (refl, c.plan_modpc.ensures)
+returns-in-Modpc c = by_name Modpc _ _ (Ok c.plan_modpc.result) c.in-Modpc.is (refl, c.plan_modpc.ensures)
 
 pub returns-in-Flushreg : goal.returns-in-Flushreg
-returns-in-Flushreg c =
-    let i = c.args.i.now in
-    let s = state_of c.args.p.now in
-    by_name Flushreg i s (Ok c.flushing.result) c.in-Flushreg.is (refl, c.flushing.ensures)
+returns-in-Flushreg c = by_name Flushreg _ _ (Ok c.flushing.result) c.in-Flushreg.is (refl, c.flushing.ensures)
 
 pub returns-in-Call : goal.returns-in-Call
 returns-in-Call c =

@@ -9,10 +9,7 @@ use Rattle.i9_plan.proofs.Outcomes.{plain_own, other_plan, by_name}
 use Rattle.i9_plan.proofs.outcome.plan_plain.Goals as goal
 
 pub returns-in-Lda : goal.returns-in-Lda
-returns-in-Lda c =
-    let i = c.args.i.now in
-    let s = state_of c.args.p.now in
-    by_name Lda i s (Ok c.plan_lda.result) c.in-Lda.is (refl, c.plan_lda.ensures)
+returns-in-Lda c = by_name Lda _ _ (Ok c.plan_lda.result) c.in-Lda.is (refl, c.plan_lda.ensures)
 
 pub returns-in-Bx : goal.returns-in-Bx
 returns-in-Bx c =
