@@ -20,28 +20,23 @@ returns-then-stands_apart-clause-stands c =
     let apart = sym (c.stands_apart.ensures (inst_in m) c.need.ensures.need) ∙ c.if-stands_apart.true in
     (barrier_waits (state_of c.args.p.now) m c.in_default.ensures.fetched apart, λ is. c.in_default.ensures.fetched)
 
-pub returns-in-Runs-clause-stands : goal.returns-in-Runs-clause-stands
-returns-in-Runs-clause-stands c =
+pub returns-in-Runs : goal.returns-in-Runs
+returns-in-Runs c =
     let s = state_of c.args.p.now in
     let m = c.locate-moving.new.self in
     let read = still_read s c.fetch.new.decodes m c.locate-moving.ensures.same c.in_default.ensures.fetched in
     let same = c.need.ensures.need ∙ sym (ap (λ (k : Kept). fixed_need k.inst) c.locate-moving.ensures.same) in
     let apart = no_barrier (inst_in m) (sym (c.stands_apart.ensures (inst_in m) same) ∙ c.if-stands_apart.false) in
     let runs = outcome_stands s m c.inst-inst.result.now outcomes.Runs read c.inst-inst.ensures c.in-Runs.ensures.standing in
-    (runs, apart)
+    record {
+      stands = (runs, apart);
+      needs = runs_needs (inst_in m) s runs apart;
+      planned = search rules;
+      located = search rules;
+    }
 
-pub returns-in-Runs-clause-needs : goal.returns-in-Runs-clause-needs
-returns-in-Runs-clause-needs c =
-    let s = state_of c.args.p.now in
-    let m = c.locate-moving.new.self in
-    let read = still_read s c.fetch.new.decodes m c.locate-moving.ensures.same c.in_default.ensures.fetched in
-    let same = c.need.ensures.need ∙ sym (ap (λ (k : Kept). fixed_need k.inst) c.locate-moving.ensures.same) in
-    let apart = no_barrier (inst_in m) (sym (c.stands_apart.ensures (inst_in m) same) ∙ c.if-stands_apart.false) in
-    let runs = outcome_stands s m c.inst-inst.result.now outcomes.Runs read c.inst-inst.ensures c.in-Runs.ensures.standing in
-    runs_needs (inst_in m) s runs apart
-
-pub returns-else-number-ne-ARITHMETIC-clause-stands : goal.returns-else-number-ne-ARITHMETIC-clause-stands
-returns-else-number-ne-ARITHMETIC-clause-stands c =
+pub returns-else-number-ne-ARITHMETIC : goal.returns-else-number-ne-ARITHMETIC
+returns-else-number-ne-ARITHMETIC c =
     let s = state_of c.args.p.now in
     let m = c.locate-moving.new.self in
     let read = still_read s c.fetch.new.decodes m c.locate-moving.ensures.same c.in_default.ensures.fetched in
@@ -50,17 +45,12 @@ returns-else-number-ne-ARITHMETIC-clause-stands c =
     let o = outcomes.Faults c.in-Faults.number in
     let arithmetic : c.in-Faults.number.0 ≡ ARITHMETIC = search rules in
     let faults = outcome_stands s m c.inst-inst.result.now o read c.inst-inst.ensures c.in-Faults.ensures.standing in
-    (faults, arithmetic, apart)
-
-pub returns-else-number-ne-ARITHMETIC-clause-needs : goal.returns-else-number-ne-ARITHMETIC-clause-needs
-returns-else-number-ne-ARITHMETIC-clause-needs c =
-    let s = state_of c.args.p.now in
-    let m = c.locate-moving.new.self in
-    let read = still_read s c.fetch.new.decodes m c.locate-moving.ensures.same c.in_default.ensures.fetched in
-    let o = outcomes.Faults c.in-Faults.number in
-    let arithmetic : c.in-Faults.number.0 ≡ ARITHMETIC = search rules in
-    let faults = outcome_stands s m c.inst-inst.result.now o read c.inst-inst.ensures c.in-Faults.ensures.standing in
-    faults_needs (inst_in m) s c.in-Faults.number faults arithmetic
+    record {
+      stands = (faults, arithmetic, apart);
+      needs = faults_needs (inst_in m) s c.in-Faults.number faults arithmetic;
+      planned = search rules;
+      located = search rules;
+    }
 
 pub returns-then-number-ne-ARITHMETIC-clause-stands : goal.returns-then-number-ne-ARITHMETIC-clause-stands
 returns-then-number-ne-ARITHMETIC-clause-stands c =
