@@ -55,7 +55,7 @@ ahead_can g h e = next_can g h (ahead g h).next
 
 -- ---- which faults are imprecise
 
-some_both : (b : Bool) (o : Option ℕ) (a : ℕ) → cond b o None ≡ Some a → (b ≡ true) × (o ≡ Some a)
+pub some_both : (b : Bool) (o : Option ℕ) (a : ℕ) → cond b o None ≡ Some a → (b ≡ true) × (o ≡ Some a)
 some_both true o a h = (refl, h)
 some_both false o a h = absurd (cc h)
 

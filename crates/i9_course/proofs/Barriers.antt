@@ -84,14 +84,12 @@ barrier_after g h n b none =
     barrier_turn (waiting_until (course g h).fence n) (turns (course g h).late) (course_timed g h) (course_costs g h) b
     (omega (arith, none, reached))
 
-need_unbound : (n : ℕ) (c : Cache) (s : State) (k : Kind) → (need_of n c s k).not_before ≡ 0
+-- no record waits for a turn of its own
+pub need_unbound : (n : ℕ) (c : Cache) (s : State) (k : Kind) → (need_of n c s k).not_before ≡ 0
 unfolding need_of
-need_unbound n c s (Instruction i) = refl
 need_unbound n c s (Faulted None fault) = refl
 need_unbound n c s (Faulted (Some i) fault) = refl
-need_unbound n c s (Entered e) = refl
-need_unbound n c s (Interrupted x e) = refl
-need_unbound n c s (Reached e u) = refl
+need_unbound n c s _ = refl
 
 next_unbound : (g : Given) (h : List Item) (o : Next) → (need_after g h o).not_before ≡ 0
 next_unbound g h (Does r) = need_unbound (sets_in g.sets r.before) (cache_after g (records_of h)) r.before r.kind

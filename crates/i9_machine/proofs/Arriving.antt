@@ -32,7 +32,7 @@ use Rattle.i9_machine.specs.Overtaking.{late_due, HasPace, IssuesAhead}
 use Rattle.i9_machine.specs.StandsFor.{Stand, StandsFor, Follows, IsUnderWay}
 use Rattle.i9_machine.specs.Step.{event_for, next_for, left_from, steps_left, LeavesFewer, IsStepIn, IsStep, IsPlannedIn, IsPlanned}
 use Rattle.i9_machine.specs.declared.step.Step.{Step}
-use Rattle.i9_machine.proofs.Issuing.{waits_for_none}
+use Rattle.i9_course.proofs.Barriers.{need_unbound}
 use Rattle.i9_machine.proofs.Overtaking.{calm_precise, ahead_issues}
 use Rattle.i9_machine.proofs.Stepping.{step_where, move_fewer}
 use Rattle.i9_machine.proofs.Turning.{moved_stands, waits_until, comes_at, open_turn, all_now}
@@ -45,7 +45,7 @@ keeps_need at kind need kept fenced is cost = record {
   fenced = fenced;
   some = subst HasCost (sym is) (need_cost at.size at.cache at.state kind);
   cost = cost;
-  none = ap (λ (n : Need). n.not_before) is ∙ waits_for_none at.size at.cache at.state kind;
+  none = ap (λ (n : Need). n.not_before) is ∙ need_unbound at.size at.cache at.state kind;
 }
 
 -- so is that of the instruction ahead

@@ -2,9 +2,9 @@
 use Rattle.std.proofs.Common.{◌≡◌, ℕ, ◌<◌, ◌≤◌, Bool, true, false, List, [], ◌∷◌, length, length-append, drop, None, Some, refl, sym, ap, ◌∙◌, subst, inl, inr, Option, ◌⊎◌}
 use Rattle.i9_model.specs.declared.need.Need.{Need}
 use Rattle.i9_model.specs.Alike.{AreAlike, AreRecordsAlike}
-use Rattle.i9_model.specs.HeldFrames.{Cache, sets_in, cache_after}
+use Rattle.i9_model.specs.HeldFrames.{sets_in, cache_after}
 use Rattle.i9_model.specs.Left.{left_in}
-use Rattle.i9_model.specs.Run.{Given, Kind, Faulted, Record, Does, due_by, reached_by, due_after, reached_after, state_after, record_of}
+use Rattle.i9_model.specs.Run.{Given, Record, Does, due_by, reached_by, due_after, reached_after, state_after, record_of}
 use Rattle.i9_model.specs.State.{State}
 use Rattle.i9_model.specs.Turns.{waiting_until}
 use Rattle.i9_agree.proofs.AlikeSteps.{does_alike, view_alike}
@@ -51,13 +51,6 @@ same_need g h k r q need stands same old own is =
     sym (need_alike n c r.before q.before r.kind same.before)
     ∙ (λ i. need_of (size i) (cache i) (own i) (sym same.kind i))
     ∙ sym is
-
--- no record waits for a turn of its own
-pub waits_for_none : (n : ℕ) (c : Cache) (s : State) (k : Kind) → (need_of n c s k).not_before ≡ 0
-unfolding need_of
-waits_for_none n c s (Faulted None fault) = refl
-waits_for_none n c s (Faulted (Some i) fault) = refl
-waits_for_none n c s _ = refl
 
 -- ---- what is left
 

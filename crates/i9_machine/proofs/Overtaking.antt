@@ -22,7 +22,7 @@ use Rattle.i9_agree.proofs.AgreeStands.{stands-same}
 use Rattle.i9_agree.proofs.BlindRuns.{blind-after}
 use Rattle.i9_course.specs.NeedOf.{need_of, need_ahead}
 use Rattle.i9_course.specs.Course.{Item, IsCourse, records_of, course, instruction_ahead, issue_of_next, late_fault, last_fault, last_done, to_issue, ahead, instruction_turn, event_ahead, comes_next}
-use Rattle.i9_course.proofs.Ahead.{imprecise_overtaken, precise_by}
+use Rattle.i9_course.proofs.Ahead.{some_both, imprecise_overtaken, precise_by}
 use Rattle.i9_course.proofs.Barriers.{next_barrier, last_reached}
 use Rattle.i9_course.proofs.NeedAlike.{need_alike}
 use Rattle.i9_course.proofs.Orderly.{course_events}
@@ -78,17 +78,13 @@ calm_precise g h k stands none =
     none_by (nat_lt (state_after g (records_of h)).count g.length) _ (last_fault (records_of h))
     (sym (late_is g h k stands) ∙ none)
 
-both_some : (b : Bool) (o : Option ℕ) (a : ℕ) → cond b o None ≡ Some a → (b ≡ true) × (o ≡ Some a)
-both_some true o a h = (refl, h)
-both_some false o a h = absurd (cc h)
-
 -- where one is due, it is imprecise if it is overtaken
 late_imprecise : (g : Given) (h : List Item) (k : Contents) (a : ℕ) → Stand g h None k
     → late_due (situation_in k) ≡ Some a
     → issue_of_next g h (instruction_ahead (state_after g (records_of h))) < last_done (course g h).late
     → (ahead g h).imprecise ≡ Some a
 late_imprecise g h k a stands late before =
-    let both = both_some (nat_lt (state_after g (records_of h)).count g.length) (last_fault (records_of h)) a
+    let both = some_both (nat_lt (state_after g (records_of h)).count g.length) (last_fault (records_of h)) a
     (sym (late_is g h k stands) ∙ late) in
     let issue = issue_of_next g h (instruction_ahead (state_after g (records_of h))) in
     ap (λ (b : Bool). cond (b && nat_lt issue (last_done (course g h).late)) (last_fault (records_of h)) None) both.0

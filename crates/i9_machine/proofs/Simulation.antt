@@ -29,7 +29,8 @@ use Rattle.i9_pipeline.specs.InRun.{IssuesNext}
 use Rattle.i9_pipeline.proofs.InRun.{flow_issued, issue_in_time}
 use Rattle.i9_pipeline.proofs.Paced.{paced_issues}
 use Rattle.i9_machine.proofs.Overtaking.{beside}
-use Rattle.i9_machine.proofs.Issuing.{same_need, waits_for_none, left_less}
+use Rattle.i9_course.proofs.Barriers.{need_unbound}
+use Rattle.i9_machine.proofs.Issuing.{same_need, left_less}
 use Rattle.i9_model.specs.declared.need.Need.{Need}
 
 -- ---- a record
@@ -214,7 +215,7 @@ module _ (g : Given) (h : List Item) (before after : Progress) (x y : ℕ) (stan
       let length : k.length ≡ g.length = stands.length in
       let less = left_less g h r (omega (arith, count, below, length)) found.1 in
       let none = ap (λ (n : Need). n.not_before) d.is_need
-      ∙ waits_for_none k.pipeline.size k.pipeline.cache k.pipeline.state q.kind in
+      ∙ need_unbound k.pipeline.size k.pipeline.cache k.pipeline.state q.kind in
       let keeps = d.rest in
       let wait : j.wait ≡ k.wait = λ i. (keeps i).wait in
       let early : k.wait ≤ (ahead g h).turn = stands.early in
