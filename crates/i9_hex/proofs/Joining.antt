@@ -9,8 +9,9 @@ use Rattle.i9_model.specs.Image.{Part, address_count, upwards, pairs_of_part, pa
 use Rattle.i9_hex.specs.Shown.{part_of}
 use Rattle.i9_hex.specs.declared.segments.Segment.{Segment}
 use Rattle.i9_hex.specs.Put.{next_address, ends_before, with_byte, with_pair}
+use Rattle.i9_hex.proofs.Each.{all_push, all_weaker}
 use Rattle.i9_hex.proofs.PartLemmas.{pairs_of-with_pair}
-use Rattle.i9_hex.specs.Runs.{IsLow, IsRun, SaySameBytes, AreApart, AreRunsOf}
+use Rattle.i9_hex.specs.Runs.{IsRun, SaySameBytes, AreApart, AreRunsOf}
 use Rattle.i9_hex.proofs.Rising.{Rises, rises-from, rises_once, ArePlaced, are_placed, kept, kept_rises, kept_placed, kept_says, climbs_sorted}
 use Rattle.i9_hex.specs.Pairs.{IsPlaced, AreInOrder}
 
@@ -33,14 +34,6 @@ record Stand (n : ℕ) (runs : List Part) : Type 0 where
 stand-rest : (n : ℕ) (run : Part) (runs : List Part) → Stand n (run ∷ runs) → Stand n runs
 stand-rest n run runs h = record { each = h.each.1; apart = h.apart.1; ends = h.ends.1 }
 
-ends-later : (m n : ℕ) (runs : List Part) → m ≤ n → AllByRecursion (EndsBy m) runs → AllByRecursion (EndsBy n) runs
-ends-later m n [] le h = tt
-ends-later m n (run ∷ runs) le h = (omega (arith, h.0), ends-later m n runs le h.1)
-
-low_push : (bs : List ℕ) (b : ℕ) → IsLow bs → b < 256 → IsLow (bs ++ b ∷ [])
-low_push [] b h small = (small, tt)
-low_push (x ∷ bs) b h small = (h.0, low_push bs b h.1 small)
-
 -- the last run grows
 later_grown : (end b : ℕ) (runs : List Part) → AllByRecursion (λ later. end < later.address) runs → AllByRecursion (λ later. end < later.address) (with_byte runs b)
 later_grown end b [] h = tt
@@ -56,7 +49,7 @@ stand_grown n a b (p ∷ []) h le small byte ends =
     let len = length-append p.bytes (b ∷ []) in
     let end : p.address + length p.bytes ≡ a = omega arith in
     record {
-      each = (record { inside = omega arith; some = omega arith; low = low_push p.bytes b run.low byte }, tt);
+      each = (record { inside = omega arith; some = omega arith; low = all_push (λ x. x < 256) p.bytes b run.low byte }, tt);
       apart = (tt, tt);
       ends = (omega arith, tt);
     }
@@ -83,29 +76,17 @@ ends_apart n a (p ∷ q ∷ runs) h le small begins =
     let by = h.ends.1.0 in
     (omega arith, ends_apart n a (q ∷ runs) (stand-rest n p (q ∷ runs) h) le small begins)
 
-each_push : (runs : List Part) (run : Part) → AllByRecursion IsRun runs → IsRun run → AllByRecursion IsRun (runs ++ run ∷ [])
-each_push [] run h new = (new, tt)
-each_push (p ∷ runs) run h new = (h.0, each_push runs run h.1 new)
-
-later_push : (end : ℕ) (runs : List Part) (run : Part) → AllByRecursion (λ later. end < later.address) runs → end < run.address → AllByRecursion (λ later. end < later.address) (runs ++ run ∷ [])
-later_push end [] run h lt = (lt, tt)
-later_push end (p ∷ runs) run h lt = (h.0, later_push end runs run h.1 lt)
-
 apart_push : (runs : List Part) (run : Part) → AreApart runs → AllByRecursion (λ r. r.address + length r.bytes < run.address) runs → AreApart (runs ++ run ∷ [])
 apart_push [] run h ends = (tt, tt)
-apart_push (p ∷ runs) run h ends = (later_push (p.address + length p.bytes) runs run h.0 ends.0, apart_push runs run h.1 ends.1)
-
-ends_push : (n : ℕ) (runs : List Part) (run : Part) → AllByRecursion (EndsBy n) runs → EndsBy n run → AllByRecursion (EndsBy n) (runs ++ run ∷ [])
-ends_push n [] run h new = (new, tt)
-ends_push n (p ∷ runs) run h new = (h.0, ends_push n runs run h.1 new)
+apart_push (p ∷ runs) run h ends = (all_push (λ later. p.address + length p.bytes < later.address) runs run h.0 ends.0, apart_push runs run h.1 ends.1)
 
 stand_begun : (n a b : ℕ) (runs : List Part) → Stand n runs → n ≤ a → a < address_count → b < 256 → ends_before runs a ≡ false → Stand (a + 1) (runs ++ record { address = a; bytes = b ∷ [] } ∷ [])
 stand_begun n a b runs h le small byte begins =
     let run : Part = record { address = a; bytes = b ∷ [] } in
     record {
-      each = each_push runs run h.each (record { inside = omega arith; some = omega arith; low = (byte, tt) });
+      each = all_push IsRun runs run h.each (record { inside = omega arith; some = omega arith; low = (byte, tt) });
       apart = apart_push runs run h.apart (ends_apart n a runs h le small begins);
-      ends = ends_push (a + 1) runs run (ends-later n (a + 1) runs (omega arith) h.ends) (omega arith);
+      ends = all_push (EndsBy (a + 1)) runs run (all_weaker (EndsBy n) (EndsBy (a + 1)) (λ r by. omega (arith, le, by)) runs h.ends) (omega arith);
     }
 
 stand_more : (n a b : ℕ) (runs : List Part) → Stand n runs → n ≤ a → a < address_count → b < 256 → Stand (a + 1) (with_pair runs a b)
@@ -160,18 +141,10 @@ unfolding pairs_of
 rises_runs n [] each apart from = tt
 rises_runs n (run ∷ runs) each apart from =
     rises_run n run.address run.bytes (pairs_of runs) from.0 each.0.inside
-    (rises_runs (run.address + length run.bytes) runs each.1 apart.1 (from-end (run.address + length run.bytes) runs apart.0))
-  where
-    from-end : (end : ℕ) (rest : List Part) → AllByRecursion (λ later. end < later.address) rest → AllByRecursion (λ later. end ≤ later.address) rest
-    from-end end [] h = tt
-    from-end end (later ∷ rest) h = (omega (arith, h.0), from-end end rest h.1)
-
-from-zero : (runs : List Part) → AllByRecursion (λ run. 0 ≤ run.address) runs
-from-zero [] = tt
-from-zero (run ∷ runs) = (omega arith, from-zero runs)
+    (rises_runs (run.address + length run.bytes) runs each.1 apart.1 (all_weaker _ _ (λ later lt. omega (arith, lt)) runs apart.0))
 
 pub runs_rise : (runs : List Part) → AllByRecursion IsRun runs → AreApart runs → Rises 0 (pairs_of runs)
-runs_rise runs each apart = rises_runs 0 runs each apart (from-zero runs)
+runs_rise runs each apart = rises_runs 0 runs each apart (all_weaker IsRun (λ run. 0 ≤ run.address) (λ run is. omega arith) runs each)
 
 -- the last of these runs
 ends_behind : (front : List Part) (run : Part) (a : ℕ) → ends_before (front ++ run ∷ []) a ≡ eqb (next_address run) a

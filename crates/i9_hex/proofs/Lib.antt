@@ -1,3 +1,4 @@
+pub mod Each
 pub mod Joining
 pub mod OneAnswer
 pub mod OneLine

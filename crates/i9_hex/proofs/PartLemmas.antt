@@ -6,6 +6,7 @@ use Rattle.std.proofs.lemmas.Bool.{eqb-true, cases_Bool}
 use Rattle.std.proofs.lemmas.List.{append-nil, map_push, take_more, length-take-le}
 use Rattle.std.proofs.lemmas.Grind.{flat_map-append}
 use Rattle.i9_model.specs.Image.{address_count, Part, pairs_at, wrapped, pairs_of_part, pairs_of, IsPart, AreParts}
+use Rattle.i9_hex.proofs.Each.{all_push}
 use Rattle.i9_hex.specs.Put.{next_address, ends_before, with_byte, with_pair}
 use Rattle.i9_hex.specs.Shown.{part_of}
 use Rattle.i9_hex.specs.declared.segments.Segment.{Segment}
@@ -94,24 +95,16 @@ one_pair_more ps qs a b small is = ap pairs_of is ∙ pairs_of-with_pair ps a b 
 
 -- ---- the invariant
 
-AreBytes-push : (xs : List ℕ) (b : ℕ) → AllByRecursion (λ x. x < 256) xs → b < 256 → AllByRecursion (λ x. x < 256) (xs ++ b ∷ [])
-AreBytes-push [] b h small = (small, tt)
-AreBytes-push (x ∷ xs) b h small = (h.0, AreBytes-push xs b h.1 small)
-
 AreParts-with_byte : (ps : List Part) (b : ℕ) → b < 256 → AreParts ps → AreParts (with_byte ps b)
 AreParts-with_byte [] b small h = tt
-AreParts-with_byte (p ∷ []) b small h = (record { address = h.0.address; bytes = AreBytes-push p.bytes b h.0.bytes small }, tt)
+AreParts-with_byte (p ∷ []) b small h = (record { address = h.0.address; bytes = all_push (λ x. x < 256) p.bytes b h.0.bytes small }, tt)
 AreParts-with_byte (p ∷ q ∷ ps) b small h = (h.0, AreParts-with_byte (q ∷ ps) b small h.1)
-
-pub AreParts-push : (ps : List Part) (p : Part) → AreParts ps → IsPart p → AreParts (ps ++ p ∷ [])
-AreParts-push [] p h new = (new, tt)
-AreParts-push (q ∷ ps) p h new = (h.0, AreParts-push ps p h.1 new)
 
 pub AreParts-with_pair : (ps : List Part) (a b : ℕ) → a < address_count → b < 256 → AreParts ps → AreParts (with_pair ps a b)
 unfolding with_pair
 AreParts-with_pair ps a b small byte h = elim (cases_Bool (ends_before ps a)) [
   | inl joins ↦ rw joins (AreParts-with_byte ps b byte h)
-  | inr begins ↦ rw begins (AreParts-push ps (record { address = a; bytes = b ∷ [] }) h (record { address = small; bytes = (byte, tt) }))
+  | inr begins ↦ rw begins (all_push IsPart ps (record { address = a; bytes = b ∷ [] }) h (record { address = small; bytes = (byte, tt) }))
 ]
 
 -- ---- a segment more
@@ -123,5 +116,5 @@ AreBytes-from (x ∷ xs) h = (h 0 (omega arith), AreBytes-from xs (λ k lt. h (s
 -- where a push went well or not
 pub AreParts-pushed : (well : Bool) (old new : List Segment) (s : Segment) → new ≡ cond well (old ++ s ∷ []) old → s.address < address_count → ((k : ℕ) → k < length s.bytes.items → get_or s.bytes.items k 0 < 256) → AreParts (map part_of old) → AreParts (map part_of new)
 AreParts-pushed true old new s is small low h =
-    subst (λ (ps : List Part). AreParts ps) (sym (ap (map part_of) is ∙ map_push part_of old s)) (AreParts-push (map part_of old) (part_of s) h (record { address = small; bytes = AreBytes-from s.bytes.items low }))
+    subst (λ (ps : List Part). AreParts ps) (sym (ap (map part_of) is ∙ map_push part_of old s)) (all_push IsPart (map part_of old) (part_of s) h (record { address = small; bytes = AreBytes-from s.bytes.items low }))
 AreParts-pushed false old new s is small low h = subst (λ (xs : List Segment). AreParts (map part_of xs)) (sym is) h

@@ -14,26 +14,11 @@ use Rattle.i9_model.specs.Image.{address_count, wrapped, Part, pairs_at, upwards
 use Rattle.i9_model.specs.HexText.{most_bytes, data_type, end_type, upper_type, Upper, address_in, HexState, start, IsRecord, Says, says_nothing, says_bytes, says_end, says_upper, IsImage}
 use Rattle.i9_hex.specs.Writing.{check_of, front_of, record_line, piece_len, cut, pieces_of, upper_lines, piece_lines, body_lines, upper_after, end_line, hex_lines, hex_text}
 use Rattle.i9_model.proofs.Reading.{length-pairs_at}
+use Rattle.i9_hex.proofs.Each.{all_append, all_take, all_drop}
 use Rattle.i9_hex.proofs.PartLemmas.{pairs_at-append}
 
 abbrev AreBytes : List ℕ → Type 0
 AreBytes xs = AllByRecursion (λ b. b < 256) xs
-
-AreBytes-append : (xs ys : List ℕ) → AreBytes xs → AreBytes ys → AreBytes (xs ++ ys)
-AreBytes-append [] ys h g = g
-AreBytes-append (x ∷ xs) ys h g = (h.0, AreBytes-append xs ys h.1 g)
-
-AreBytes-take : (n : ℕ) (xs : List ℕ) → AreBytes xs → AreBytes (take n xs)
-AreBytes-take zero [] h = tt
-AreBytes-take zero (x ∷ xs) h = tt
-AreBytes-take (suc n) [] h = tt
-AreBytes-take (suc n) (x ∷ xs) h = (h.0, AreBytes-take n xs h.1)
-
-AreBytes-drop : (n : ℕ) (xs : List ℕ) → AreBytes xs → AreBytes (drop n xs)
-AreBytes-drop zero [] h = tt
-AreBytes-drop zero (x ∷ xs) h = h
-AreBytes-drop (suc n) [] h = tt
-AreBytes-drop (suc n) (x ∷ xs) h = AreBytes-drop n xs h.1
 
 IsBytes-recursion : (bs : List ℕ) → AreBytes bs → IsBytes bs
 IsBytes-recursion [] h i = omega arith
@@ -51,7 +36,7 @@ record Fits (record_type address : ℕ) (content : List ℕ) : Type 0 where
 
 all_bytes : (record_type address : ℕ) (content : List ℕ) → Fits record_type address content → AreBytes (front_of record_type address content ++ check_of (front_of record_type address content) ∷ [])
 all_bytes record_type address content h =
-    AreBytes-append (front_of record_type address content) (check_of (front_of record_type address content) ∷ [])
+    all_append (λ b. b < 256) (front_of record_type address content) (check_of (front_of record_type address content) ∷ [])
     (h.content_short, (omega (arith, h.address_small), (omega arith, (h.type_small, h.content_bytes)))) (omega arith, tt)
 
 check_whole : (s : ℕ) → (s + (256 - s % 256) % 256) % 256 ≡ 0
@@ -148,8 +133,8 @@ unfolding cut
 are_pieces zero a bs small h = tt
 are_pieces (suc n) a [] small h = tt
 are_pieces (suc n) a (b ∷ bs) small h = (
-  record { piece_address = small; piece_short = omega (arith, length-take (piece_len a) (b ∷ bs)); piece_bytes = AreBytes-take (piece_len a) (b ∷ bs) h },
-  are_pieces n ((a + piece_len a) % address_count) (drop (piece_len a) (b ∷ bs)) (omega arith) (AreBytes-drop (piece_len a) (b ∷ bs) h),
+  record { piece_address = small; piece_short = omega (arith, length-take (piece_len a) (b ∷ bs)); piece_bytes = all_take (λ b. b < 256) (piece_len a) (b ∷ bs) h },
+  are_pieces n ((a + piece_len a) % address_count) (drop (piece_len a) (b ∷ bs)) (omega arith) (all_drop (λ b. b < 256) (piece_len a) (b ∷ bs) h),
 )
 
 upwards-same : (a c : ℕ) (bs : List ℕ) → a % address_count ≡ c % address_count → upwards a bs ≡ upwards c bs
@@ -183,10 +168,6 @@ pairs-cut (suc n) a (b ∷ bs) le =
 
 abbrev pieces : List Part → List Part
 pieces parts = flat_map pieces_of parts
-
-all_append : {X : Type 0} (P : X → Type 0) (xs ys : List X) → AllByRecursion P xs → AllByRecursion P ys → AllByRecursion P (xs ++ ys)
-all_append P [] ys h g = g
-all_append P (x ∷ xs) ys h g = (h.0, all_append P xs ys h.1 g)
 
 all_pieces : (parts : List Part) → AreParts parts → AllByRecursion IsPiece (pieces parts)
 all_pieces [] h = tt
