@@ -1,3 +1,4 @@
+pub mod Orders
 pub mod Inputs
 pub mod Marked
 pub mod Sources

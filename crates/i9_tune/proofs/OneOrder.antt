@@ -4,22 +4,6 @@ use Rattle.std.proofs.lemmas.List.{append_assoc, append-nil}
 use Rattle.i9_isa.specs.declared.inst.Inst.{Inst}
 use Rattle.i9_tune.specs.Greedy.{is_free, next_issue, AllFree, IsChosen, IsGreedy, better, IsTuned}
 
-head_or : Inst → List Inst → Inst
-head_or d [] = d
-head_or d (x ∷ xs) = x
-
-rest_of : List Inst → List Inst
-rest_of [] = []
-rest_of (x ∷ xs) = xs
-
-same_head : (x y : Inst) (xs ys : List Inst) → x ∷ xs ≡ y ∷ ys → x ≡ y
-unfolding head_or
-same_head x y xs ys e = ap (head_or x) e
-
-same_rest : (x y : Inst) (xs ys : List Inst) → x ∷ xs ≡ y ∷ ys → xs ≡ ys
-unfolding rest_of
-same_rest x y xs ys e = ap rest_of e
-
 -- one list, split at two places: the places are the same, or one is before the other
 data AreSplits (b : List Inst) (x : Inst) (a c : List Inst) (y : Inst) (d : List Inst) : Type 0 where
   same : b ≡ c → x ≡ y → a ≡ d → AreSplits b x a c y d
@@ -27,16 +11,15 @@ data AreSplits (b : List Inst) (x : Inst) (a c : List Inst) (y : Inst) (d : List
   second : (e : List Inst) → b ≡ c ++ y ∷ e → d ≡ e ++ x ∷ a → AreSplits b x a c y d
 
 under : (i j : Inst) (b : List Inst) (x : Inst) (a c : List Inst) (y : Inst) (d : List Inst) → i ≡ j → AreSplits b x a c y d → AreSplits (i ∷ b) x a (j ∷ c) y d
-under i j b x a c y d e (same p q r) = same (ap (λ (k : Inst). k ∷ b) e ∙ ap (λ (is : List Inst). j ∷ is) p) q r
-under i j b x a c y d e (first f p q) = first f (ap (λ (k : Inst). k ∷ c) (sym e) ∙ ap (λ (is : List Inst). i ∷ is) p) q
-under i j b x a c y d e (second f p q) = second f (ap (λ (k : Inst). k ∷ b) e ∙ ap (λ (is : List Inst). j ∷ is) p) q
+under i j b x a c y d e (same p q r) = same (cc) q r
+under i j b x a c y d e (first f p q) = first f (cc) q
+under i j b x a c y d e (second f p q) = second f (cc) q
 
 splits : (b : List Inst) (x : Inst) (a c : List Inst) (y : Inst) (d : List Inst) → b ++ x ∷ a ≡ c ++ y ∷ d → AreSplits b x a c y d
-splits [] x a [] y d e = same refl (same_head x y a d e) (same_rest x y a d e)
-splits [] x a (j ∷ c) y d e = first c (ap (λ (k : Inst). k ∷ c) (sym (same_head x j a (c ++ y ∷ d) e))) (same_rest x j a (c ++ y ∷ d) e)
-splits (i ∷ b) x a [] y d e = second b (ap (λ (k : Inst). k ∷ b) (same_head i y (b ++ x ∷ a) d e)) (sym (same_rest i y (b ++ x ∷ a) d e))
-splits (i ∷ b) x a (j ∷ c) y d e =
-    under i j b x a c y d (same_head i j (b ++ x ∷ a) (c ++ y ∷ d) e) (splits b x a c y d (same_rest i j (b ++ x ∷ a) (c ++ y ∷ d) e))
+splits [] x a [] y d e = same refl (cc) (cc)
+splits [] x a (j ∷ c) y d e = first c (cc) (cc)
+splits (i ∷ b) x a [] y d e = second b (cc) (cc)
+splits (i ∷ b) x a (j ∷ c) y d e = under i j b x a c y d (cc) (splits b x a c y d (cc))
 
 free_at : (P : Inst → Type 0) (before is : List Inst) (y : Inst) (js : List Inst) → AllFree P before (is ++ y ∷ js) → is_free (before ++ is) y ≡ true → P y
 free_at P before [] y js h e = h.0 (subst (λ (b : List Inst). is_free b y ≡ true) (append-nil before) e)
@@ -61,9 +44,9 @@ same_orders : (taken left : List Inst) (x y : Inst) (p q : List Inst) (g : IsGre
     → ((t is : List Inst) → IsGreedy t is p → IsGreedy t is q → p ≡ q) → AreSplits g.0 x g.1 h.0 y h.1 → x ∷ p ≡ y ∷ q
 same_orders taken left x y p q g h later (same e f k) =
     let there = subst (λ (z : Inst). IsGreedy (z ∷ taken) (g.0 ++ g.1) p) f g.4 in
-    let left_same : g.0 ++ g.1 ≡ h.0 ++ h.1 = ap (λ (b : List Inst). b ++ g.1) e ∙ ap (λ (b : List Inst). h.0 ++ b) k in
+    let left_same : g.0 ++ g.1 ≡ h.0 ++ h.1 = cc in
     let rest = later (y ∷ taken) (h.0 ++ h.1) (subst (λ (is : List Inst). IsGreedy (y ∷ taken) is p) left_same there) h.4 in
-    ap (λ (z : Inst). z ∷ p) f ∙ ap (λ (is : List Inst). y ∷ is) rest
+    cc
 same_orders taken left x y p q g h later (first e f k) = absurd (none_first taken g.0 x g.1 h.0 y h.1 e f k g.3 h.3)
 same_orders taken left x y p q g h later (second e f k) = absurd (none_first taken h.0 y h.1 g.0 x g.1 e f k h.3 g.3)
 

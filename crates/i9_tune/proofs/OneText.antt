@@ -30,8 +30,9 @@ use Rattle.i9_tune.specs.Blocks.{is_allowed}
 use Rattle.i9_tune.specs.Greedy.{AreTunable, IsTuned}
 use Rattle.i9_tune.specs.Reading.{IsFitting, fitting, by_second, is_long, by_first, word_of, word_at, inst_at, put_first, block_by, block_at}
 use Rattle.i9_tune.specs.Tuning.{IsCodeOf, one_word, two_words, AreCodes, no_codes, more_codes, code_lines, spans_line, IsText, IsTuning}
-use Rattle.i9_tune.proofs.Depend.{order_tunable}
+use Rattle.i9_tune.proofs.Depend.{IsTunable}
 use Rattle.i9_tune.proofs.OneOrder.{one_tuned}
+use Rattle.i9_tune.proofs.Orders.{order_keeps}
 use Rattle.i9_tune.proofs.SomeOrder.{some_tuned}
 use Rattle.i9_tune.proofs.Tuned.{tuned_order}
 
@@ -85,7 +86,7 @@ some_codes (i ∷ is) ok =
 -- ---- the text
 
 tuned_tunable : (block tuned : List Inst) → AreTunable block → IsTuned block tuned → AreTunable tuned
-tuned_tunable block tuned ok is = order_tunable block tuned ok (tuned_order block tuned ok is)
+tuned_tunable block tuned ok is = order_keeps IsTunable block tuned (tuned_order block tuned ok is) ok
 
 text_once : (a : ℕ) (block tuned : List Inst) (t u : List ℕ) → AreTunable tuned → IsText a block tuned t → IsText a block tuned u → t ≡ u
 text_once a block tuned t u ok x y =

@@ -1,13 +1,12 @@
 -- A block has a greedy order.
-use Rattle.std.proofs.Common.{◌≡◌, ℕ, zero, suc, Bool, true, false, List, [], ◌∷◌, ◌++◌, length, refl, sym, ap, subst, arith}
+use Rattle.std.proofs.Common.{◌≡◌, ℕ, zero, suc, Bool, true, false, List, [], ◌∷◌, ◌++◌, length, refl, sym, ap, ◌∙◌, subst, arith}
 use Rattle.std.specs.Prelude.{nat_lt}
 use Rattle.std.proofs.lemmas.Bool.{both_ways}
 use Rattle.std.proofs.lemmas.Bool.Decides.{nat_tests}
-use Rattle.std.proofs.lemmas.List.{append-nil, append_assoc}
+use Rattle.std.proofs.lemmas.List.{append-nil, append_assoc, length-append}
 use Rattle.i9_isa.specs.declared.inst.Inst.{Inst}
 use Rattle.i9_tune.specs.Greedy.{is_free, next_issue, IsGreedy, IsTuned, better}
 use Rattle.i9_tune.proofs.Chosen.{IsBest, first_best, best_stays, best_changes}
-use Rattle.i9_tune.proofs.Tuned.{one_less}
 
 -- the one that is to be taken, wherever it stands
 record SomeBest (taken xs : List Inst) : Type 0 where
@@ -42,9 +41,8 @@ some_greedy n taken [] long = ([], refl)
 some_greedy zero taken (x ∷ left) long = absurd (cc long)
 some_greedy (suc n) taken (x ∷ left) long =
     let b = (some_best taken (x ∷ []) left (record { place = 0; turn = next_issue taken x; best = first_best taken x (next_issue taken x) refl })).best in
-    let fewer = one_less b.before b.x b.behind in
-    let same = ap length b.split in
-    let rest = some_greedy n (b.x ∷ taken) (b.before ++ b.behind) (omega (arith, long, fewer, same)) in
+    let same : length (b.before ++ b.x ∷ b.behind) ≡ suc n = ap length (sym b.split) ∙ long in
+    let rest = some_greedy n (b.x ∷ taken) (b.before ++ b.behind) (simp length-append (omega (arith, simp length-append at same))) in
     (b.x ∷ rest.0, (b.before, b.behind, b.split, b.chosen, rest.1))
 
 pub some_tuned : (block : List Inst) → (tuned : List Inst) × IsTuned block tuned

@@ -6,16 +6,9 @@ use Rattle.i9_model.specs.State.{State}
 use Rattle.i9_tune.specs.Blocks.{is_allowed, AreApart}
 use Rattle.i9_tune.specs.Passes.{stepped, port_bytes, ArePassed, AreAsGood}
 use Rattle.i9_tune.specs.Orders.{IsOrder, AreAllowed}
+use Rattle.i9_tune.proofs.Orders.{parts_of}
 use Rattle.i9_tune.proofs.Sources.{allowed_parts}
 use Rattle.i9_tune.proofs.Swaps.{swap}
-
-pub one_there : (before : List Inst) (x : Inst) (rest : List Inst) → AreAllowed (before ++ x ∷ rest) → is_allowed x ≡ true
-one_there [] x rest h = h.0
-one_there (i ∷ before) x rest h = one_there before x rest h.1
-
-pub others_there : (before : List Inst) (x : Inst) (rest : List Inst) → AreAllowed (before ++ x ∷ rest) → AreAllowed (before ++ rest)
-others_there [] x rest h = h.1
-others_there (i ∷ before) x rest h = (h.0, others_there before x rest h.1)
 
 -- one comes to the front, past those that it is apart from
 to_front : (area : ℕ × ℕ) (before : List Inst) (x : Inst) (rest : List Inst) (s : State) → AreAllowed (before ++ x ∷ rest) → AllByRecursion (λ i. AreApart i x) before → ArePassed area (before ++ x ∷ rest) s
@@ -23,7 +16,8 @@ to_front : (area : ℕ × ℕ) (before : List Inst) (x : Inst) (rest : List Inst
 to_front area [] x rest s ok apart passed = record { passed = passed; state = refl; port = refl }
 to_front area (i ∷ before) x rest s ok apart passed =
     let inner = to_front area before x rest (stepped i s) ok.1 apart.1 passed.1 in
-    let outer = swap area i x (before ++ rest) s (allowed_parts i ok.0) (allowed_parts x (one_there before x rest ok.1)) apart.0 (passed.0, inner.passed) in
+    let parts = parts_of (λ j. is_allowed j ≡ true) before x rest ok.1 in
+    let outer = swap area i x (before ++ rest) s (allowed_parts i ok.0) (allowed_parts x parts.1) apart.0 (passed.0, inner.passed) in
     record { passed = outer.passed; state = outer.state ∙ inner.state; port = outer.port ∙ ap (λ (ps : List (ℕ × ℕ)). port_bytes i s ++ ps) inner.port }
 
 pub order_good : (area : ℕ × ℕ) (block order : List Inst) (s : State) → AreAllowed block → IsOrder block order → ArePassed area block s → AreAsGood area block order s
@@ -34,7 +28,8 @@ order_good area block (x ∷ order) s ok taken passed =
     let rest = taken.1 in
     let ok_there = subst AreAllowed taken.2 ok in
     let first = to_front area before x rest s ok_there taken.3 (subst (λ (is : List Inst). ArePassed area is s) taken.2 passed) in
-    let later = order_good area (before ++ rest) order (stepped x s) (others_there before x rest ok_there) taken.4 first.passed.1 in
+    let others = (parts_of (λ j. is_allowed j ≡ true) before x rest ok_there).2 in
+    let later = order_good area (before ++ rest) order (stepped x s) others taken.4 first.passed.1 in
     subst (λ (is : List Inst). AreAsGood area is (x ∷ order) s) (sym taken.2) (record {
       passed = (first.passed.0, later.passed);
       state = later.state ∙ first.state;
