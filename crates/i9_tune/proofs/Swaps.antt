@@ -74,6 +74,12 @@ stepped_by i s d e = ap (λ (a : Action). counted 1 (acted s a)) e
 pub same_here : (i : Inst) (s : State) → Agree i s s
 same_here i s = record { regs = λ k h. refl; marks = λ k h. refl; code = λ h. refl; beside = record { mask = refl; orders = refl; bytes = λ a n e k h. refl; soft = λ a n e k h. refl } }
 
+pub own_deed : (i : Inst) (s : State) → IsAllowed i → DoesSame i s s
+own_deed i s ok = does_same i s s ok (same_here i s)
+
+pub own_step : (i : Inst) (s : State) (ok : IsAllowed i) → stepped i s ≡ after_deed i s (own_deed i s ok).deed
+own_step i s ok = stepped_by i s (own_deed i s ok).deed (own_deed i s ok).here
+
 -- ---- what it leaves
 
 -- bit 12 of the arithmetic controls is no part of the condition code, and not the overflow flag
