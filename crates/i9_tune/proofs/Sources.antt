@@ -175,9 +175,12 @@ pub named : (op : Op) (i : Inst) (s : State) → action_by_name op i s ≡ cond 
 named Addi i s = refl
 named _ i s = refl
 
-pub still : (op : Op) (i : Inst) (s : State) → access_by_name op i s ≡ cond (is_allowed_name op) NoAccess (access_by_name op i s)
+still : (op : Op) (i : Inst) (s : State) → access_by_name op i s ≡ cond (is_allowed_name op) NoAccess (access_by_name op i s)
 still Addi i s = refl
 still _ i s = refl
+
+pub no_access : (i : Inst) (s : State) → IsAllowed i → transfer_of i.op ≡ None → access_of i s ≡ NoAccess
+no_access i s ok e = ap (λ (o : Option Transfer). access_by o i s) e ∙ still i.op i s ∙ cond-true _ _ _ ok.name
 
 no_range : (op : Op) → is_fault_name op ≡ cond (is_allowed_name op) false (is_fault_name op)
 no_range Addi = refl
@@ -381,14 +384,11 @@ fault_agree i s t ok same =
     ∙ ap (λ (f : Option (ℕ × ℕ)). first_fault (answer_fault (answer_in i t)) f) (range_none i s ok ∙ sym (range_none i t ok))
 
 access_agree : (i : Inst) (s t : State) → IsAllowed i → Agree i s t → access_of i s ≡ access_of i t
-access_agree i s t ok same = by_transfer (transfer_of i.op)
+access_agree i s t ok same = by_transfer (transfer_of i.op) refl
   where
-    none : (u : State) → access_by_name i.op i u ≡ NoAccess
-    none u = still i.op i u ∙ cond-true _ _ _ ok.name
-
-    by_transfer : (o : Option Transfer) → access_by o i s ≡ access_by o i t
-    by_transfer (Some m) = ap (λ (a : ℕ). moved_access m.direction a (byte_count m.size)) (address_same i s t ok same)
-    by_transfer None = none s ∙ sym (none t)
+    by_transfer : (o : Option Transfer) → transfer_of i.op ≡ o → access_of i s ≡ access_of i t
+    by_transfer (Some m) e = rw e (ap (λ (a : ℕ). moved_access m.direction a (byte_count m.size)) (address_same i s t ok same))
+    by_transfer None e = no_access i s ok e ∙ sym (no_access i t ok e)
 
 result_does : (i : Inst) (s t : State) → IsAllowed i → Agree i s t → transfer_of i.op ≡ None → is_result_name i.op ≡ true → DoesSame i s t
 unfolding action_of
