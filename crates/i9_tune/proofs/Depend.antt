@@ -8,7 +8,7 @@ use Rattle.std.proofs.lemmas.Nat.Bits.{bit_at_and, bit_at_or, bit_at-zero}
 use Rattle.i9_isa.specs.declared.inst.Inst.{Inst}
 use Rattle.i9_isa.specs.Resources.{is_read, is_written}
 use Rattle.i9_isa.specs.Valid.{IsValid}
-use Rattle.i9_model.specs.Needs.{set_of, is_request_name}
+use Rattle.i9_model.specs.Needs.{set_of}
 use Rattle.i9_model.specs.Turns.{changes_value}
 use Rattle.i9_model.proofs.SetLaws.{set_bits}
 use Rattle.i9_turns.proofs.Outside.{not_in}

@@ -3,7 +3,6 @@ pub mod Inputs
 pub mod Marked
 pub mod Sources
 pub mod ReadRegisters
-pub mod Unmarked
 pub mod Swaps
 pub mod Taken
 pub mod Watched

@@ -11,10 +11,8 @@ use Rattle.i9_isa.specs.declared.size.Direction.{Direction}
 use Rattle.i9_isa.specs.declared.size.Direction.TheVariants.{Load, Store}
 use Rattle.i9_isa.specs.declared.size.Transfer.{Transfer}
 use Rattle.i9_isa.specs.declared.inst.Inst.{Inst}
-use Rattle.i9_isa.specs.declared.resources.TheConstants.{CONDITION_CODE, LINK}
-use Rattle.i9_isa.specs.Operands.{words_written}
-use Rattle.i9_isa.specs.Resources.{is_in_operand, is_in_frame, writes_link, changes_frame, writes_code, is_read, is_written}
-use Rattle.i9_isa.specs.Table.{row_of}
+use Rattle.i9_isa.specs.declared.resources.TheConstants.{CONDITION_CODE}
+use Rattle.i9_isa.specs.Resources.{writes_code, is_read, is_written}
 use Rattle.i9_isa.specs.Transfers.{transfer_of, byte_count}
 use Rattle.i9_isa.specs.Words.{bit, words_of}
 use Rattle.i9_model.specs.Writes.{wrapped, written, or_earlier, last_put}
@@ -36,7 +34,7 @@ use Rattle.i9_model.specs.declared.run.End.TheVariants.{Exit}
 use Rattle.std.proofs.lemmas.Nat.{or_comm, or_shifted, or_shr, or_block}
 use Rattle.i9_model.specs.Needs.{is_request_name}
 use Rattle.i9_model.specs.Alike.{with_other}
-use Rattle.i9_model.specs.Access.{Access, NoAccess, Reads, access_by, access_of, data_of, moved_access, hazard_in, hazard_of}
+use Rattle.i9_model.specs.Access.{Access, Reads, access_by, access_of, data_of, moved_access, hazard_in, hazard_of}
 use Rattle.i9_model.specs.Standing.{raised_in, later_fault}
 use Rattle.i9_model.specs.Step.{Action, following, action_of, moved, acted, counted}
 use Rattle.i9_model.specs.Run.{exit_in}
@@ -50,8 +48,7 @@ use Rattle.i9_tune.specs.Blocks.{is_allowed_name, Spares, AreApart}
 use Rattle.i9_tune.specs.Deeds.{Deed, deed_action, DoesSame}
 use Rattle.i9_tune.specs.Passes.{MissesBytes, is_watched, is_seen, Passes, stepped, port_bytes, ArePassed, behind, sent, AreAsGood}
 use Rattle.i9_turns.proofs.Outside.{is_kept, set_with}
-use Rattle.i9_tune.proofs.Sources.{Agree, IsAllowed, register_is_read, code_is_read, does_same, no_access, other_memory}
-use Rattle.i9_tune.proofs.Unmarked.{unmarked}
+use Rattle.i9_tune.proofs.Sources.{Agree, IsAllowed, register_is_read, code_is_read, does_same, no_access, other_memory, same_here, unmarked}
 
 -- ---- the state behind a deed
 
@@ -70,9 +67,6 @@ after_deed i s d = record s {
 pub stepped_by : (i : Inst) (s : State) (d : Deed) → action_of i s ≡ deed_action i s d → stepped i s ≡ after_deed i s d
 unfolding acted moved
 stepped_by i s d e = ap (λ (a : Action). counted 1 (acted s a)) e
-
-pub same_here : (i : Inst) (s : State) → Agree i s s
-same_here i s = record { regs = λ k h. refl; marks = λ k h. refl; code = λ h. refl; beside = record { mask = refl; orders = refl; bytes = λ a n e k h. refl; soft = λ a n e k h. refl } }
 
 pub own_deed : (i : Inst) (s : State) → IsAllowed i → DoesSame i s s
 own_deed i s ok = does_same i s s ok (same_here i s)

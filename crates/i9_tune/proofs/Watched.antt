@@ -1,6 +1,6 @@
 -- An allowed instruction has a trace event exactly where one comes whatever its address is, or an instruction breakpoint
 -- is at its address.
-use Rattle.std.proofs.Common.{◌≡◌, ℕ, Bool, true, false, cond, ◌||◌, ◌&&◌, Option, Some, None, refl, sym, ap, ◌∙◌, arith}
+use Rattle.std.proofs.Common.{◌≡◌, ℕ, Bool, false, cond, ◌||◌, ◌&&◌, Option, Some, None, refl, sym, ap, ◌∙◌, arith}
 use Rattle.std.specs.List.{list_any}
 use Rattle.std.proofs.lemmas.Bool.{cond-true, or_parts, or_from}
 use Rattle.i9_isa.specs.declared.op.Op.{Op}
