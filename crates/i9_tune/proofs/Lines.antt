@@ -25,99 +25,33 @@ use Rattle.i9_statement.proofs.StatementWords.{one_or_two}
 use Rattle.i9_decode.specs.declared.encoder.Code.{Code}
 use Rattle.i9_tune.specs.Tuning.{IsCodeOf, one_word, two_words, AreCodes, no_codes, more_codes, code_line, code_lines, words_in, spaced, AddsLine, AddsLines}
 
--- ---- the line of an instruction that is whole
-
--- these bytes are those of the instruction
-pub record IsWhole (a : ℕ) (i : Inst) (bs : List ℕ) (w : ℕ) : Type 0 where
-  pub single : is_single a bs ≡ false
-  pub word : word_at 0 bs ≡ w
-  pub inst : decoded (word_at 0 bs) (word_at 4 bs) ≡ Ok i
-  pub spare : bit_and w (ignored_bits i) ≡ 0
-  pub whole : nat_lt (length bs) (4 * words_of i) ≡ false
-
-size_is : (a : ℕ) (i : Inst) (bs : List ℕ) (w : ℕ) → IsWhole a i bs w → line_size a bs ≡ 4 * words_of i
-size_is a i bs w h =
-    ap (λ (b : Bool). cond b 1 (whole_size (decoded (word_at 0 bs) (word_at 4 bs)) (length bs))) h.single
-    ∙ ap (λ (r : Result Inst BadWord). whole_size r (length bs)) h.inst
-    ∙ ap (λ (b : Bool). cond b 4 (4 * words_of i)) h.whole
-
-said_is : (a : ℕ) (i : Inst) (bs : List ℕ) (w : ℕ) → IsWhole a i bs w → said_text a bs ≡ statement_text a i 0
-said_is a i bs w h =
-    ap (λ (b : Bool). cond b (codes ".byte " ++ hex_byte_text (get_or bs 0 0)) (whole_text a bs (decoded (word_at 0 bs) (word_at 4 bs)))) h.single
-    ∙ ap (whole_text a bs) h.inst
-    ∙ ap (λ (b : Bool). cond b (codes ".word " ++ hex_text (word_at 0 bs)) (text_by a (word_at 0 bs) (Ok i))) h.whole
-    ∙ ap (λ (v : ℕ). statement_text a i (bit_and v (ignored_bits i))) h.word
-    ∙ ap (statement_text a i) h.spare
-
-pub whole_line : (a : ℕ) (i : Inst) (bs : List ℕ) (w : ℕ) → IsWhole a i bs w → first_line a bs ≡ statement_text a i 0 ++ space ∷ hash ∷ space ∷ (word_text a ++ noted_words (4 * words_of i) bs)
-whole_line a i bs w h =
-    ap (λ (t : List ℕ). t ++ space ∷ hash ∷ space ∷ (word_text a ++ noted_words (line_size a bs) bs)) (said_is a i bs w h)
-    ∙ ap (λ (n : ℕ). statement_text a i 0 ++ space ∷ hash ∷ space ∷ (word_text a ++ noted_words n bs)) (size_is a i bs w h)
-
--- ---- by its words
-
-one_whole : (a : ℕ) (i : Inst) (w : ℕ) → a % 4 ≡ 0 → words_of i ≡ 1 → ((v : ℕ) → IsCode i 0 w v) → IsWhole a i (flat_map (to_le_bytes w32) (w ∷ [])) w
-one_whole a i w aligned one code =
-    let bs = flat_map (to_le_bytes w32) (w ∷ []) in
-    let word : word_at 0 bs ≡ w = from_le_bytes-to_le_bytes_4 w (code 0).small in
-    record {
-      single = ap (λ (n : ℕ). nat_lt 4 4 || nat_lt 0 n) aligned;
-      word = word;
-      inst = ap (λ (x : ℕ). decoded x (word_at 4 bs)) word ∙ encodes_decoded w (word_at 4 bs) i (code (word_at 4 bs)).form;
-      spare = (code 0).spare;
-      whole = ap (λ (n : ℕ). nat_lt 4 (4 * n)) one;
-    }
-
-two_whole : (a : ℕ) (i : Inst) (w v : ℕ) → a % 4 ≡ 0 → words_of i ≡ 2 → v < 2 ^ 32 → IsCode i 0 w v → IsWhole a i (flat_map (to_le_bytes w32) (w ∷ v ∷ [])) w
-two_whole a i w v aligned two small code =
-    let bs = flat_map (to_le_bytes w32) (w ∷ v ∷ []) in
-    let word : word_at 0 bs ≡ w = from_le_bytes-to_le_bytes_4 w code.small in
-    let second : word_at 4 bs ≡ v = from_le_bytes-to_le_bytes_4 v small in
-    record {
-      single = ap (λ (n : ℕ). nat_lt 8 4 || nat_lt 0 n) aligned;
-      word = word;
-      inst = ap (λ (x : ℕ). decoded x (word_at 4 bs)) word ∙ ap (decoded w) second ∙ encodes_decoded w v i code.form;
-      spare = code.spare;
-      whole = ap (λ (n : ℕ). nat_lt 8 (4 * n)) two;
-    }
+-- ---- the line of an instruction by its words
 
 one_line : (a : ℕ) (i : Inst) (w : ℕ) → a % 4 ≡ 0 → words_of i ≡ 1 → ((v : ℕ) → IsCode i 0 w v) → code_line a (w ∷ []) ≡ statement_text a i 0 ++ space ∷ hash ∷ space ∷ (word_text a ++ spaced w)
 one_line a i w aligned one code =
     let bs = flat_map (to_le_bytes w32) (w ∷ []) in
-    let whole = one_whole a i w aligned one code in
-    whole_line a i bs w whole
-    ∙ ap (λ (n : ℕ). statement_text a i 0 ++ space ∷ hash ∷ space ∷ (word_text a ++ noted_words (4 * n) bs)) one
-    ∙ ap (λ (v : ℕ). statement_text a i 0 ++ space ∷ hash ∷ space ∷ (word_text a ++ spaced v)) whole.word
+    let word : word_at 0 bs ≡ w = from_le_bytes-to_le_bytes_4 w (code 0).small in
+    let inst : decoded (word_at 0 bs) (word_at 4 bs) ≡ Ok i = ap (λ (x : ℕ). decoded x (word_at 4 bs)) word ∙ encodes_decoded w (word_at 4 bs) i (code (word_at 4 bs)).form in
+    rw (aligned, inst, one, word, (code 0).spare) refl
 
 two_line : (a : ℕ) (i : Inst) (w v : ℕ) → a % 4 ≡ 0 → words_of i ≡ 2 → v < 2 ^ 32 → IsCode i 0 w v
     → code_line a (w ∷ v ∷ []) ≡ statement_text a i 0 ++ space ∷ hash ∷ space ∷ (word_text a ++ (spaced w ++ spaced v))
 two_line a i w v aligned two small code =
     let bs = flat_map (to_le_bytes w32) (w ∷ v ∷ []) in
-    let whole = two_whole a i w v aligned two small code in
+    let word : word_at 0 bs ≡ w = from_le_bytes-to_le_bytes_4 w code.small in
     let second : word_at 4 bs ≡ v = from_le_bytes-to_le_bytes_4 v small in
-    whole_line a i bs w whole
-    ∙ ap (λ (n : ℕ). statement_text a i 0 ++ space ∷ hash ∷ space ∷ (word_text a ++ noted_words (4 * n) bs)) two
-    ∙ ap (λ (x : ℕ). statement_text a i 0 ++ space ∷ hash ∷ space ∷ (word_text a ++ (spaced x ++ spaced (word_at 4 bs)))) whole.word
-    ∙ ap (λ (x : ℕ). statement_text a i 0 ++ space ∷ hash ∷ space ∷ (word_text a ++ (spaced w ++ spaced x))) second
+    let inst : decoded (word_at 0 bs) (word_at 4 bs) ≡ Ok i = ap (λ (x : ℕ). decoded x (word_at 4 bs)) word ∙ ap (decoded w) second ∙ encodes_decoded w v i code.form in
+    rw (aligned, inst, two, word, second, code.spare) refl
 
 -- ---- what is put behind a text
 
 joined_line : (old said marked head words new s w ws line : List ℕ) → said ≡ old ++ s → marked ≡ said ++ 32 ∷ 35 ∷ [] → head ≡ marked ++ 32 ∷ w → words ≡ head ++ ws → new ≡ words ++ 10 ∷ []
     → line ≡ s ++ 32 ∷ 35 ∷ 32 ∷ (w ++ ws) → new ≡ old ++ (line ++ 10 ∷ [])
-joined_line old said marked head words new s w ws line e f g h k is =
-    let all : new ≡ ((((old ++ s) ++ 32 ∷ 35 ∷ []) ++ 32 ∷ w) ++ ws) ++ 10 ∷ [] = rw (k, h, g, f, e) refl in
-    all ∙ ap (λ (t : List ℕ). (t ++ ws) ++ 10 ∷ []) (append_assoc (old ++ s) (32 ∷ 35 ∷ []) (32 ∷ w) ∙ append_assoc old s (32 ∷ 35 ∷ 32 ∷ w))
-    ∙ ap (λ (t : List ℕ). t ++ 10 ∷ []) (append_assoc old (s ++ 32 ∷ 35 ∷ 32 ∷ w) ws ∙ ap (λ (t : List ℕ). old ++ t) (append_assoc s (32 ∷ 35 ∷ 32 ∷ w) ws))
-    ∙ append_assoc old (s ++ 32 ∷ 35 ∷ 32 ∷ (w ++ ws)) (10 ∷ [])
-    ∙ ap (λ (t : List ℕ). old ++ (t ++ 10 ∷ [])) (sym is)
+joined_line old said marked head words new s w ws line e f g h k is = rw (k, h, g, f, e, is) (simp append_assoc)
 
 pub fault_text : (old one two three new label d w : List ℕ) → one ≡ old ++ label → two ≡ one ++ 32 ∷ d → three ≡ two ++ 32 ∷ w → new ≡ three ++ 10 ∷ []
     → new ≡ old ++ (label ++ 32 ∷ (((d ++ 32 ∷ []) ++ w) ++ 10 ∷ []))
-fault_text old one two three new label d w e f g h =
-    let all : new ≡ (((old ++ label) ++ 32 ∷ d) ++ 32 ∷ w) ++ 10 ∷ [] = rw (h, g, f, e) refl in
-    all ∙ append_assoc ((old ++ label) ++ 32 ∷ d) (32 ∷ w) (10 ∷ []) ∙ append_assoc (old ++ label) (32 ∷ d) (32 ∷ (w ++ 10 ∷ []))
-    ∙ append_assoc old label (32 ∷ (d ++ 32 ∷ (w ++ 10 ∷ [])))
-    ∙ ap (λ (t : List ℕ). old ++ (label ++ 32 ∷ t)) (sym (append_assoc (d ++ 32 ∷ []) w (10 ∷ []) ∙ append_assoc d (32 ∷ []) (w ++ 10 ∷ [])))
+fault_text old one two three new label d w e f g h = rw (h, g, f, e) (simp append_assoc)
 
 -- the line of an instruction, whose code is this
 pub record IsCoded (i : Inst) (code : Code) : Type 0 where
@@ -182,8 +116,4 @@ go_end a block old at k text past go =
 
 pub text_whole : (org spans one two three : List ℕ) (lines : List (List ℕ)) → one ≡ with_line_feed org → two ≡ one ++ flat_map with_line_feed lines → three ≡ two ++ with_line_feed spans
     → three ≡ flat_map with_line_feed (org ∷ (lines ++ spans ∷ []))
-text_whole org spans one two three lines e f g =
-    let all : three ≡ (with_line_feed org ++ flat_map with_line_feed lines) ++ with_line_feed spans = rw (g, f, e) refl in
-    all ∙ append_assoc (with_line_feed org) (flat_map with_line_feed lines) (with_line_feed spans)
-    ∙ ap (λ (t : List ℕ). with_line_feed org ++ (flat_map with_line_feed lines ++ t)) (sym (append-nil (with_line_feed spans)))
-    ∙ ap (λ (t : List ℕ). with_line_feed org ++ t) (sym (flat_map-append with_line_feed lines (spans ∷ [])))
+text_whole org spans one two three lines e f g = rw (g, f, e) (simp (flat_map-append, append_assoc, append-nil))

@@ -3,6 +3,7 @@ use Rattle.std.proofs.Common.{◌≡◌, ℕ, zero, suc, ◌+◌, ◌*◌, ◌^�
 use Rattle.std.specs.Prelude.{◌==◌}
 use Rattle.std.specs.List.{AllByRecursion, flat_map}
 use Rattle.std.specs.Int.{w32, from_le_bytes}
+use Rattle.std.proofs.lemmas.Bool.{cond_both}
 use Rattle.std.proofs.lemmas.List.{append-nil}
 use Rattle.std.proofs.lemmas.Nat.{and_le_l}
 use Rattle.i9_isa.specs.declared.inst.Inst.{Inst}
@@ -115,10 +116,7 @@ small_word : (p q r s : Option ℕ) (w : ℕ) → ((v : ℕ) → p ≡ Some v �
 small_word (Some a) (Some b) (Some c) (Some d) w p q r s is =
     let e : from_le_bytes w32 (a ∷ b ∷ c ∷ d ∷ []) ≡ w = cc is in
     omega (arith, e, p a refl, q b refl, r c refl, s d refl)
-small_word None q r s w h i j k is = absurd (cc is)
-small_word (Some a) None r s w h i j k is = absurd (cc is)
-small_word (Some a) (Some b) None s w h i j k is = absurd (cc is)
-small_word (Some a) (Some b) (Some c) None w h i j k is = absurd (cc is)
+small_word _ _ _ _ w h i j k is = absurd (cc is)
 
 word_small : (loaded : ℕ → Option ℕ) (a w : ℕ) → AreBytes loaded → word_at loaded a ≡ Some w → w < 2 ^ 32
 word_small loaded a w bytes is =
@@ -138,11 +136,9 @@ second_fits w j None small is = absurd (cc is)
 
 first_fits : (j : Inst) (first second : Option ℕ) → ((v : ℕ) → second ≡ Some v → v < 2 ^ 32) → by_first first second ≡ Ok j → IsFitting j
 first_fits j None second small is = absurd (cc is)
-first_fits j (Some w) second small is = by_test (is_long (decoded w 0)) is
-  where
-    by_test : (b : Bool) → cond b (by_second w second) (fitting (decoded w 0)) ≡ Ok j → IsFitting j
-    by_test true is = second_fits w j second small is
-    by_test false is = decoded_fits w 0 j (decoded w 0) (omega arith) refl is
+first_fits j (Some w) second small is =
+    cond_both (is_long (decoded w 0)) (by_second w second) (fitting (decoded w 0)) (λ r. r ≡ Ok j → IsFitting j)
+    (λ e. second_fits w j second small) (λ e. decoded_fits w 0 j (decoded w 0) (omega arith) refl) is
 
 inst_fits : (loaded : ℕ → Option ℕ) (a : ℕ) (j : Inst) → AreBytes loaded → inst_at loaded a ≡ Ok j → IsFitting j
 inst_fits loaded a j bytes is = first_fits j (word_at loaded a) (word_at loaded (wrapped (a + 4))) (λ v. word_small loaded (wrapped (a + 4)) v bytes) is
@@ -165,13 +161,9 @@ unfolding block_at
 block_fits loaded zero a block bytes is = let none : [] ≡ block = cc is in subst AreTunable none tt
 block_fits loaded (suc n) a block bytes is = fits_on loaded n a block (inst_at loaded a) bytes (λ next is there. block_fits loaded n next is bytes there) refl is
 
-this_byte : (b : Bool) (u v : ℕ) → u < 256 → ◌≡◌ {A = Option ℕ} (cond b (Some u) None) (Some v) → v < 256
-this_byte true u v h e = let same : u ≡ v = cc e in subst (λ (n : ℕ). n < 256) same h
-this_byte false u v h e = absurd (cc e)
-
 later_byte : (o : Option ℕ) (b : Bool) (u v : ℕ) → u < 256 → ((w : ℕ) → o ≡ Some w → w < 256) → or_earlier o (cond b (Some u) None) ≡ Some v → v < 256
-later_byte (Some w) b u v h later e = let same : w ≡ v = cc e in later v (ap (λ (n : ℕ). Some n) same)
-later_byte None b u v h later e = this_byte b u v h e
+later_byte (Some w) b u v h later e = later v e
+later_byte None b u v h later e = grind (arith, h, e)
 
 last_byte : (pairs : List (ℕ × ℕ)) → AllByRecursion (λ (p : ℕ × ℕ). p.1 < 256) pairs → AreBytes (last_put pairs)
 unfolding last_put
