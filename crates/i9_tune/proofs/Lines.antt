@@ -49,10 +49,6 @@ joined_line : (old said marked head words new s w ws line : List ℕ) → said �
     → line ≡ s ++ 32 ∷ 35 ∷ 32 ∷ (w ++ ws) → new ≡ old ++ (line ++ 10 ∷ [])
 joined_line old said marked head words new s w ws line e f g h k is = rw (k, h, g, f, e, is) (simp append_assoc)
 
-pub fault_text : (old one two three new label d w : List ℕ) → one ≡ old ++ label → two ≡ one ++ 32 ∷ d → three ≡ two ++ 32 ∷ w → new ≡ three ++ 10 ∷ []
-    → new ≡ old ++ (label ++ 32 ∷ (((d ++ 32 ∷ []) ++ w) ++ 10 ∷ []))
-fault_text old one two three new label d w e f g h = rw (h, g, f, e) (simp append_assoc)
-
 -- the line of an instruction, whose code is this
 pub record IsCoded (i : Inst) (code : Code) : Type 0 where
   pub one : IsNone code.second → (w1 : ℕ) → IsCode i 0 code.first w1
