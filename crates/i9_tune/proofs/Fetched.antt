@@ -28,8 +28,7 @@ use Rattle.i9_tune.specs.Orders.{IsOrder, AreAllowed}
 use Rattle.i9_tune.specs.Standings.{byte_length, StandAt, IsDone, AreDone, after_all, port_bytes_of, DiffersIn, Replaces, DoTheSame}
 use Rattle.i9_tune.proofs.Orders.{permuted, order_keeps}
 use Rattle.i9_tune.proofs.Sources.{IsAllowed, allowed_parts, other_memory}
-use Rattle.i9_tune.proofs.Swaps.{own_step, in_port}
-use Rattle.i9_tune.proofs.Taken.{order_good}
+use Rattle.i9_tune.proofs.Swaps.{own_step, in_port, order_good}
 use Rattle.i9_tune.proofs.Stood.{stood, stands_there}
 use Rattle.i9_tune.proofs.Watched.{unseen_from, untraced_by, as_action}
 use Rattle.i9_tune.proofs.Carried.{byte_kept, all_carried}

@@ -32,9 +32,8 @@ use Rattle.i9_tune.specs.Greedy.{AreTunable, IsTuned}
 use Rattle.i9_tune.specs.Reading.{IsFitting, fitting, by_second, is_long, by_first, word_of, word_at, inst_at, put_first, block_by, block_at}
 use Rattle.i9_tune.specs.Tuning.{IsCodeOf, one_word, two_words, AreCodes, no_codes, more_codes, code_lines, spans_line, IsText, IsTuning}
 use Rattle.i9_tune.proofs.Depend.{IsTunable}
-use Rattle.i9_tune.proofs.OneOrder.{one_tuned}
+use Rattle.i9_tune.proofs.OneOrder.{some_tuned, one_tuned}
 use Rattle.i9_tune.proofs.Orders.{order_keeps}
-use Rattle.i9_tune.proofs.SomeOrder.{some_tuned}
 use Rattle.i9_tune.proofs.Tuned.{tuned_order}
 
 -- ---- the words of an instruction, as those of its statement
