@@ -1,7 +1,7 @@
 -- A block has a greedy order, and one alone.
-use Rattle.std.proofs.Common.{◌≡◌, ℕ, zero, suc, Bool, true, false, List, [], ◌∷◌, ◌++◌, length, refl, sym, ap, ◌∙◌, subst, arith, ◌<◌, ◌≤◌}
+use Rattle.std.proofs.Common.{◌≡◌, ℕ, zero, suc, Bool, true, false, List, [], ◌∷◌, ◌++◌, length, refl, sym, ap, ◌∙◌, subst, inl, inr, arith, ◌<◌, ◌≤◌, ◌&&◌}
 use Rattle.std.specs.Prelude.{nat_lt}
-use Rattle.std.proofs.lemmas.Bool.{both_ways}
+use Rattle.std.proofs.lemmas.Bool.{cases_Bool, and_parts, ltb-true}
 use Rattle.std.proofs.lemmas.Bool.Decides.{nat_tests}
 use Rattle.std.proofs.lemmas.List.{append-nil, append_assoc, length-append}
 use Rattle.i9_isa.specs.declared.inst.Inst.{Inst}
@@ -18,21 +18,14 @@ record SomeBest (taken xs : List Inst) : Type 0 where
 
 -- one more is looked at
 one_more : (taken xs : List Inst) (y : Inst) → SomeBest taken xs → SomeBest taken (xs ++ y ∷ [])
-one_more taken xs y b = by_free (is_free xs y) refl
-  where
-    by_turn : (q : Bool) → nat_lt (next_issue taken y) b.turn ≡ q → is_free xs y ≡ true → SomeBest taken (xs ++ y ∷ [])
-    by_turn true less free = record {
-      place = length xs;
-      turn = next_issue taken y;
-      best = best_changes taken xs b.place b.turn y (next_issue taken y) b.best free refl (grind (arith, nat_tests, less));
-    }
-    by_turn false more free =
-        record { place = b.place; turn = b.turn; best = best_stays taken xs b.place b.turn y b.best (λ e. grind (arith, nat_tests, more)) }
-
-    by_free : (q : Bool) → is_free xs y ≡ q → SomeBest taken (xs ++ y ∷ [])
-    by_free true free = by_turn (nat_lt (next_issue taken y) b.turn) refl free
-    by_free false bound =
-        record { place = b.place; turn = b.turn; best = best_stays taken xs b.place b.turn y b.best (λ e. absurd (both_ways (is_free xs y) bound e)) }
+one_more taken xs y b = elim (cases_Bool (is_free xs y && nat_lt (next_issue taken y) b.turn)) [
+  | inl sooner ↦
+      let parts = and_parts (is_free xs y) (nat_lt (next_issue taken y) b.turn) sooner in
+      let best = best_changes taken xs b.place b.turn y (next_issue taken y) b.best parts.0 refl (ltb-true _ _ parts.1) in
+      record { place = length xs; turn = next_issue taken y; best = best }
+  | inr later ↦
+      record { place = b.place; turn = b.turn; best = best_stays taken xs b.place b.turn y b.best (λ free. grind (arith, nat_tests, later, free)) }
+]
 
 some_best : (taken xs ys : List Inst) → SomeBest taken xs → SomeBest taken (xs ++ ys)
 some_best taken xs [] b = subst (SomeBest taken) (sym (append-nil xs)) b

@@ -183,9 +183,7 @@ abbrev result_deed : Inst → List ℕ → List Bool → Change → Deed
 result_deed i vs bs c = record { sets = assigned (destination i) vs; change = c; writes = []; marked = marks_for (destination i) bs; stale = [] }
 
 resulting_deed : (i : Inst) (s : State) (o : Option Answer) (c : Change) → IsAllowed i → controls_of o s.ac ≡ changed c s.ac → resulting i s o ≡ deed_action i s (result_deed i (values_of o) (result_marks i s) c)
-resulting_deed i s o c ok e =
-    ap (λ (a : Action). record (marking (destination i) (result_marks i s) a) { ac = controls_of o s.ac }) (plain_target (destination i) (values_of o) (passing i s) (target_plain i ok))
-    ∙ ap (λ (n : ℕ). record (passing i s) { sets = assigned (destination i) (values_of o); ac = n; marked = marks_for (destination i) (result_marks i s) }) e
+resulting_deed i s o c ok e = rw (sym e) (ap (λ (a : Action). record (marking (destination i) (result_marks i s) a) { ac = controls_of o s.ac }) (plain_target (destination i) (values_of o) (passing i s) (target_plain i ok)))
 
 -- ---- loads and stores
 
@@ -247,18 +245,18 @@ moving_agree : (d : Direction) (size : Size) (signed : Bool) (i : Inst) (s t : S
     → (d ≡ Load → AreLoaded s t (address s i.ea) (byte_count size)) → (d ≡ Store → words_read (row_of i.op).c ≡ register_count size)
     → moving_deed d size signed i s ≡ moving_deed d size signed i t
 moving_agree Load size signed i s t ok same loads row =
-    let e = loaded_agree size signed (legible s) (legible t) _ same.beside.orders (loads refl).bytes in
-    let f = loaded_same size s.frames.soft t.frames.soft _ (loads refl).soft in
-    ap (λ (vs : List ℕ). loading_deed i vs (loaded_marks size s.frames.soft (address s i.ea))) e
-    ∙ ap (λ (bs : List Bool). loading_deed i (loaded size signed (legible t) (address s i.ea)) bs) f
-    ∙ ap (λ (a : ℕ). loading_deed i (loaded size signed (legible t) a) (loaded_marks size t.frames.soft a)) (address_same i s t ok same)
+    let values = loaded_agree size signed (legible s) (legible t) _ same.beside.orders (loads refl).bytes in
+    let marks = loaded_same size s.frames.soft t.frames.soft _ (loads refl).soft in
+    let at = address_same i s t ok same in
+    cc (values, marks, at)
 moving_agree Store size signed i s t ok same loads row =
     let count = row refl in
     let words = operand_words s t i.c (words_read (row_of i.op).c) ok.c (λ k r. same.regs k (reads_c i k r)) in
     let marks = operand_marks s t i.c (words_read (row_of i.op).c) (λ k r. same.marks k (reads_c i k r)) in
-    ap (λ (bs : List ℕ). storing_deed (address s i.ea) bs (stored_marks size s i.c)) (stored_agree size s t i.c (address s i.ea) same.beside.orders (λ k h. words k (omega (arith, count, h))))
-    ∙ ap (λ (bs : List Bool). storing_deed (address s i.ea) (stored_of size t i.c (address s i.ea)) bs) (stored_same size s t i.c (λ k h. marks k (omega (arith, count, h))))
-    ∙ ap (λ (a : ℕ). storing_deed a (stored_of size t i.c a) (stored_marks size t i.c)) (address_same i s t ok same)
+    let values = stored_agree size s t i.c (address s i.ea) same.beside.orders (λ k h. words k (omega (arith, count, h))) in
+    let stale = stored_same size s t i.c (λ k h. marks k (omega (arith, count, h))) in
+    let at = address_same i s t ok same in
+    cc (values, stale, at)
 
 -- ---- marks
 
@@ -334,9 +332,7 @@ range_none : (i : Inst) (s : State) → IsAllowed i → range_fault i s ≡ None
 range_none i s ok = rw ((usual i.op i s).2 ∙ cond-true _ _ _ ok.name) refl
 
 fault_agree : (i : Inst) (s t : State) → IsAllowed i → Agree i s t → later_fault i s ≡ later_fault i t
-fault_agree i s t ok same =
-    ap (λ (f : Option (ℕ × ℕ)). first_fault f (range_fault i s)) (answer_same i s t ok same).fault
-    ∙ ap (first_fault (answer_fault (answer_in i t))) (range_none i s ok ∙ sym (range_none i t ok))
+fault_agree i s t ok same = rw ((answer_same i s t ok same).fault, range_none i s ok, range_none i t ok) refl
 
 access_agree : (i : Inst) (s t : State) → IsAllowed i → Agree i s t → access_of i s ≡ access_of i t
 access_agree i s t ok same = by_transfer (transfer_of i.op) refl
@@ -382,9 +378,7 @@ result_does i s t ok same e r =
     let acts : (u : State) → action_of i u ≡ resulting i u (answer_in i u) = λ u. ap (λ (o : Option Transfer). action_by o i u) e ∙ (usual i.op i u).0 ∙ cond-true _ _ _ r in
     does_by i s t (result_deed i (values_of (answer_in i s)) (result_marks i s) x.change) ok same
     (acts s ∙ resulting_deed i s (answer_in i s) x.change ok x.here)
-    (acts t ∙ resulting_deed i t (answer_in i t) x.change ok x.there
-    ∙ ap (λ (vs : List ℕ). deed_action i t (result_deed i vs (result_marks i t) x.change)) (sym x.values)
-    ∙ ap (λ (bs : List Bool). deed_action i t (result_deed i (values_of (answer_in i s)) bs x.change)) (sym (result_marks_same i s t same)))
+    (rw (x.values, result_marks_same i s t same) (acts t ∙ resulting_deed i t (answer_in i t) x.change ok x.there))
     x.coded (λ h. (refl, refl)) (λ k h. result_beside (words_written (row_of i.op).a == 0) i k (result_marks i s) refl (result_long i s) h)
 
 -- lda writes one word
@@ -399,9 +393,7 @@ address_does i s t ok same e l =
     let acts : (u : State) → action_of i u ≡ deed_action i u (loading_deed i (address u i.ea ∷ []) (is_marked u (address_registers i.ea) ∷ [])) = λ u.
     ap (λ (o : Option Transfer). action_by o i u) e ∙ load_address i.op i u l
     ∙ ap (marking i.c (is_marked u (address_registers i.ea) ∷ [])) (plain_target i.c (address u i.ea ∷ []) (passing i u) ok.c) in
-    does_by i s t (loading_deed i (address s i.ea ∷ []) (is_marked s (address_registers i.ea) ∷ [])) ok same (acts s)
-    (acts t ∙ ap (λ (a : ℕ). deed_action i t (loading_deed i (a ∷ []) (is_marked t (address_registers i.ea) ∷ []))) (sym (address_same i s t ok same))
-    ∙ ap (λ (b : Bool). deed_action i t (loading_deed i (address s i.ea ∷ []) (b ∷ []))) (sym (address_marked i s t same)))
+    does_by i s t (loading_deed i (address s i.ea ∷ []) (is_marked s (address_registers i.ea) ∷ [])) ok same (acts s) (rw (address_same i s t ok same, address_marked i s t same) (acts t))
     (λ h. absurd (cc h)) (λ h. (refl, refl)) (λ k h. marks_beside i.c (words_written (row_of i.op).c) k (is_marked s (address_registers i.ea) ∷ []) (omega (arith, word)) h.c)
 
 moving_beside : (d : Direction) (size : Size) (signed : Bool) (i : Inst) (s : State) (k : ℕ) → (d ≡ Load → words_written (row_of i.op).c ≡ register_count size) → IsOutside i k → has (moving_deed d size signed i s).marked k ≡ false
@@ -424,7 +416,7 @@ move_does i s t m ok same e =
     let reads = ap (λ (o : Option Transfer). access_by o i s) e ∙ ap (λ (d : Direction). moved_access d (address s i.ea) (byte_count m.size)) load in
     record { bytes = same.beside.bytes (address s i.ea) (byte_count m.size) reads; soft = same.beside.soft (address s i.ea) (byte_count m.size) reads } in
     does_by i s t (moving_deed m.direction m.size m.signed i s) ok same (acts s)
-    (acts t ∙ ap (λ (d : Deed). deed_action i t d) (sym (moving_agree m.direction m.size m.signed i s t ok same loads (stores_registers i.op m e))))
+    (rw (moving_agree m.direction m.size m.signed i s t ok same loads (stores_registers i.op m e)) (acts t))
     (λ h. absurd (both_ways _ (moving_keeps m.direction m.size m.signed i s) h)) (λ h. absurd (both_ways (is_request_name i.op) h (ap is_some e)))
     (λ k h. moving_beside m.direction m.size m.signed i s k (loads_registers i.op m e) h)
 

@@ -198,13 +198,11 @@ moved_hazard Store a n s t e = ap (λ (f : Frames). write_hazard f a n) e
 
 hazard_same : (i : Inst) (s t : State) → IsAllowed i → access_of i s ≡ access_of i t → (is_request_name i.op ≡ true → s.frames ≡ t.frames) → hazard_of i s ≡ hazard_of i t
 unfolding hazard_of
-hazard_same i s t ok access frames = by_transfer (transfer_of i.op) refl
+hazard_same i s t ok access frames = rw (sym access) (by_transfer (transfer_of i.op) refl)
   where
-    by_transfer : (o : Option Transfer) → transfer_of i.op ≡ o → hazard_in s (access_of i s) ≡ hazard_in t (access_of i t)
-    by_transfer (Some m) e =
-        let here : access_of i s ≡ moved_access m.direction (address s i.ea) (byte_count m.size) = ap (λ (o : Option Transfer). access_by o i s) e in
-        ap (hazard_in s) here ∙ moved_hazard m.direction (address s i.ea) (byte_count m.size) s t (frames (is_request i m e)) ∙ ap (hazard_in t) (sym here ∙ access)
-    by_transfer None e = ap (hazard_in s) (no_access i s ok e) ∙ sym (ap (hazard_in t) (no_access i t ok e))
+    by_transfer : (o : Option Transfer) → transfer_of i.op ≡ o → hazard_in s (access_of i s) ≡ hazard_in t (access_of i s)
+    by_transfer (Some m) e = rw e (moved_hazard m.direction (address s i.ea) (byte_count m.size) s t (frames (is_request i m e)))
+    by_transfer None e = rw (no_access i s ok e) refl
 
 exit_other : (m : Memory) (bytes : ℕ → ℕ) (ps : List (ℕ × ℕ)) → exit_word (with_other m bytes) ps ≡ exit_word m ps
 unfolding exit_word

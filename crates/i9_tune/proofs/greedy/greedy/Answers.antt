@@ -14,9 +14,8 @@ more-preserved c =
     let order = c.more.order.items in
     let left = c.more.left.items in
     let rest = c.remove-next.new.self.items in
-    let same : c.deref.result.now ≡ left = c.deref.ensures.value in
-    let at = subst (λ (is : List Inst). IsChosenAt (reverse order) is c.choose.result) same (c.choose.ensures.chosen (reverse order) c.more.invariant.stands) in
-    let within = subst (λ (is : List Inst). c.choose.result < length is) same c.choose.ensures.within in
+    let at = rw c.deref.ensures.value at (c.choose.ensures.chosen (reverse order) c.more.invariant.stands) in
+    let within = rw c.deref.ensures.value at c.choose.ensures.within in
     let taken = is_taken (reverse order) left c.choose.result next rest at c.remove-next.ensures.value c.remove-next.ensures.items in
     let pushed : c.push.new.self.items ≡ order ++ next ∷ [] =
     c.push.ensures.items ∙ ap (λ (b : Bool). cond b (order ++ next ∷ []) order) (c.is_err.ensures.negation ∙ ap not c.if-is_err.false) in
@@ -27,7 +26,7 @@ more-preserved c =
       early = done_more c.place.new.self k c.plain_need.result.cost c.plain_need.ensures.few (c.place.ensures.bound (1 + 248 * k) c.more.invariant.early (omega (arith, waited)));
       left = fewer_left left rest c.choose.result k (length c.args.block.now) within c.remove-next.ensures.items c.more.invariant.left;
       tunable = taken.tunable c.more.invariant.tunable;
-      greedy = subst (λ (is : List Inst). Continues c.args.block.now is rest) (sym pushed) (continues c.args.block.now order left rest next taken c.more.invariant.greedy);
+      greedy = rw pushed (continues c.args.block.now order left rest next taken c.more.invariant.greedy);
     }
 
 pub returns : goal.returns

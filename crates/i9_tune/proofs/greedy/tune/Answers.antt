@@ -1,4 +1,4 @@
-use Rattle.std.proofs.Common.{◌≤◌, List, length, sym, subst, arith}
+use Rattle.std.proofs.Common.{◌≤◌, List, length, sym, subst, arith, rules}
 use Rattle.i9_isa.specs.declared.inst.Inst.{Inst}
 use Rattle.i9_tune.specs.Greedy.{AreTunable}
 use Rattle.i9_tune.specs.Orders.{IsOrder}
@@ -20,14 +20,10 @@ span-requires-clause-few c =
     let few = c.requires.few in
     subst (λ (is : List Inst). length is ≤ 64) (sym c.deref.ensures.value) (omega arith)
 
-pub returns-then-span-clause-order : goal.returns-then-span-clause-order
-returns-then-span-clause-order c = (fine (goal.at.returns-then-span-clause-order c).In_ok-order).is
-
-pub returns-then-span-clause-tunable : goal.returns-then-span-clause-tunable
-returns-then-span-clause-tunable c = (fine (goal.at.returns-then-span-clause-tunable c).In_ok-order).tunable
-
-pub returns-then-span-clause-count : goal.returns-then-span-clause-count
-returns-then-span-clause-count c = (fine (goal.at.returns-then-span-clause-count c).In_ok-order).count
+pub returns-then-span : goal.returns-then-span
+returns-then-span c =
+    let f = fine (goal.at.returns-then-span c).In_ok-order in
+    record { tuned = search rules; order = f.is; no_more = search rules; tunable = f.tunable; count = f.count }
 
 pub returns-in-Ok-clause-order : goal.returns-in-Ok-clause-order
 returns-in-Ok-clause-order c = subst (IsOrder c.args.block.now) (sym c.in-Ok.ensures.items) (own_order c.args.block.now)
