@@ -116,8 +116,7 @@ carries area i s t ok differs passes =
     let there = passes_by area i s t fate passes in
     record {
       passes = there;
-      state = subst (DiffersIn area (stepped i s)) (sym (stepped_by i t x.deed x.there))
-          (subst (λ (u : State). DiffersIn area u (after_deed i t x.deed)) (sym (stepped_by i s x.deed x.here)) (after_differs area i s t x.deed differs));
+      state = rw (stepped_by i t x.deed x.there, stepped_by i s x.deed x.here) (after_differs area i s t x.deed differs);
       kept = λ y h. (byte_kept area i t y ok there.misses h).0;
       port = port_by i t x.deed x.there ∙ sym (port_by i s x.deed x.here);
     }

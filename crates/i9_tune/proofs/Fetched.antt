@@ -252,7 +252,7 @@ tuned_same block order s t ok taken r =
     let end_state = there.state ∙ good.state in
     record {
       done = done_there;
-      state = subst (λ (u : State). DiffersIn area u (after_all order t)) (sym here.state) (subst (DiffersIn area (behind block s)) (sym end_state) carried.state);
+      state = rw (here.state, end_state) carried.state;
       kept = λ x h. ap (λ (u : State). u.memory.bytes x) end_state ∙ carried.kept x h;
       port = there.port ∙ good.port ∙ carried.port ∙ sym here.port;
     }

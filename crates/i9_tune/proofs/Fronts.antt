@@ -64,11 +64,10 @@ none_bound i = nothing (plain_need i)
 pub one_more : (before : List Inst) (i : Inst) (f : Front) (n : Need) → IsFront before f → n ≡ plain_need i → IsFront (before ++ i ∷ []) (with_need f n)
 one_more before i f n front e j =
     let m = plain_need j in
+    let p = plain_need i in
     let here : binds (with_need f n) m ≡ (binds f m || (depends i j || false)) =
-    ap (λ (b : Bool). b || share m.writes (bit_or f.touched (bit_or n.reads n.writes)) || ((f.request || n.request) && m.request)) (share_or f.written n.writes (bit_or m.reads m.writes))
-    ∙ ap (λ (b : Bool). (share f.written (bit_or m.reads m.writes) || share n.writes (bit_or m.reads m.writes)) || b || ((f.request || n.request) && m.request)) (share_with m.writes f.touched (bit_or n.reads n.writes))
-    ∙ regroup (share f.written (bit_or m.reads m.writes)) (share n.writes (bit_or m.reads m.writes)) (share m.writes f.touched) (share m.writes (bit_or n.reads n.writes)) f.request n.request m.request
-    ∙ ap (λ (k : Need). binds f m || ((share k.writes (bit_or m.reads m.writes) || share m.writes (bit_or k.reads k.writes) || (k.request && m.request)) || false)) e in
+    rw (share_or f.written n.writes (bit_or m.reads m.writes), share_with m.writes f.touched (bit_or n.reads n.writes), e)
+    (regroup (share f.written (bit_or m.reads m.writes)) (share p.writes (bit_or m.reads m.writes)) (share m.writes f.touched) (share m.writes (bit_or p.reads p.writes)) f.request p.request m.request) in
     here ∙ ap (λ (b : Bool). b || (depends i j || false)) (front j) ∙ sym (list_any-append (λ (x : Inst). depends x j) before (i ∷ []))
 
 -- ---- what a front says

@@ -97,12 +97,9 @@ go_turn a block old at k next d text more lt line on go codes are =
     let ws = line.words in
     let there : drop k block ≡ i ∷ drop (k + 1) block = drop_more block k d lt in
     let place : wrapped (at + 4 * length ws) ≡ next = ap (λ (n : ℕ). wrapped (at + 4 * n)) (code_length i ws line.is) ∙ sym on in
-    let all = go (ws ∷ codes) (subst (λ (is : List Inst). AreCodes is (ws ∷ codes)) (sym there) (more_codes i (drop (k + 1) block) ws codes line.is are)) in
     let joins : text ++ flat_map with_line_feed (code_lines at (ws ∷ codes)) ≡ more ++ flat_map with_line_feed (code_lines next codes) =
-    ap (λ (n : ℕ). text ++ (with_line_feed (code_line at ws) ++ flat_map with_line_feed (code_lines n codes))) place
-    ∙ sym (append_assoc text (with_line_feed (code_line at ws)) (flat_map with_line_feed (code_lines next codes)))
-    ∙ ap (λ (t : List ℕ). t ++ flat_map with_line_feed (code_lines next codes)) (sym line.text) in
-    subst (AddsLines a block old) joins all
+    rw (line.text, sym place) (sym (append_assoc text (with_line_feed (code_line at ws)) (flat_map with_line_feed (code_lines (wrapped (at + 4 * length ws)) codes)))) in
+    subst (AddsLines a block old) joins (go (ws ∷ codes) (rw there (more_codes i (drop (k + 1) block) ws codes line.is are)))
 
 pub go_end : (a : ℕ) (block : List Inst) (old : List ℕ) (at k : ℕ) (text : List ℕ) → length block ≤ k → GoOn a block old at (drop k block) text → AddsLines a block old text
 go_end a block old at k text past go =

@@ -73,7 +73,5 @@ more_pairs segments i s lt is =
 pub found_more : (segments : List Segment) (i x : ℕ) (s : Segment) (byte found : Option ℕ) → i < length segments → s ≡ get_or segments i s → byte ≡ last_put (pairs_of_part (part_of s)) x
     → found ≡ last_put (pairs_of (map part_of (take i segments))) x → option_or byte found ≡ last_put (pairs_of (map part_of (take (i + 1) segments))) x
 found_more segments i x s byte found lt is here before =
-    first_of byte found ∙ ap (λ (o : Option ℕ). or_earlier o found) here
-    ∙ ap (or_earlier (last_put (pairs_of_part (part_of s)) x)) before
-    ∙ sym (last_append (pairs_of (map part_of (take i segments))) (pairs_of_part (part_of s)) x)
-    ∙ ap (λ (ps : List (ℕ × ℕ)). last_put ps x) (more_pairs segments i s lt is)
+    first_of byte found
+    ∙ rw (here, before, sym (more_pairs segments i s lt is)) (sym (last_append (pairs_of (map part_of (take i segments))) (pairs_of_part (part_of s)) x))

@@ -89,9 +89,7 @@ tuned_tunable : (block tuned : List Inst) → AreTunable block → IsTuned block
 tuned_tunable block tuned ok is = order_keeps IsTunable block tuned (tuned_order block tuned ok is) ok
 
 text_once : (a : ℕ) (block tuned : List Inst) (t u : List ℕ) → AreTunable tuned → IsText a block tuned t → IsText a block tuned u → t ≡ u
-text_once a block tuned t u ok x y =
-    x.whole ∙ ap (λ (c : List (List ℕ)). flat_map with_line_feed (org_line a ∷ (code_lines a c ++ spans_line a block tuned ∷ []))) (codes_once tuned x.codes y.codes ok x.words y.words)
-    ∙ sym y.whole
+text_once a block tuned t u ok x y = rw (x.whole, y.whole, codes_once tuned x.codes y.codes ok x.words y.words) refl
 
 pub one_tuning : (a : ℕ) (block : List Inst) (t u : List ℕ) → AreTunable block → IsTuning a block t → IsTuning a block u → t ≡ u
 one_tuning a block t u ok x y =

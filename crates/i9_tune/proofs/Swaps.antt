@@ -185,12 +185,10 @@ raised_plain i a b access pc config ok =
     (Some (TYPE, MISMATCH)) (Some (OPERATION, INVALID_OPERAND)) (Some (PROTECTION, LENGTH)) (cond (is_unaligned access config) (Some (OPERATION, UNALIGNED)) None)
     special (names_raise i.op a b ∙ cond-true _ _ _ ok.name)
 
-raised_same : (i : Inst) (s t : State) → IsAllowed i → access_of i s ≡ access_of i t → s.pc ≡ t.pc → s.tables ≡ t.tables → raised_in i s ≡ raised_in i t
-raised_same i s t ok access pc tables =
+raised_same : (i : Inst) (s t : State) → IsAllowed i → access_of i s ≡ access_of i t → s.tables ≡ t.tables → raised_in i s ≡ raised_in i t
+raised_same i s t ok access tables =
     raised_plain i _ _ (data_of (access_of i s)) s.pc s.tables.fault_config ok
-    ∙ ap (λ (x : Access). cond (is_unaligned (data_of x) s.tables.fault_config) (Some (OPERATION, UNALIGNED)) None) access
-    ∙ ap (λ (x : Tables). cond (is_unaligned (data_of (access_of i t)) x.fault_config) (Some (OPERATION, UNALIGNED)) None) tables
-    ∙ sym (raised_plain i _ _ (data_of (access_of i t)) t.pc t.tables.fault_config ok)
+    ∙ rw (access, tables) (sym (raised_plain i _ _ (data_of (access_of i t)) t.pc t.tables.fault_config ok))
 
 moved_hazard : (d : Direction) (a n : ℕ) (s t : State) → s.frames ≡ t.frames → hazard_in s (moved_access d a n) ≡ hazard_in t (moved_access d a n)
 moved_hazard Load a n s t e = refl
@@ -235,18 +233,14 @@ passes_by area i s t f p = record {
   misses = subst (λ (x : Access). MissesBytes (data_of x) area) f.access p.misses;
 }
 
--- whether an instruction with this access is seen
-abbrev seen_by : ℕ → TraceControls → Access → Bool
-seen_by pc c a = bit pc TRACE_ENABLE_PLACE && (has_mode c.tc Instruction || is_watched c.breaks (option_map (λ (d : ℕ × ℕ). d.0) (data_of a)))
-
 pub fate_of : (i : Inst) (s t : State) → IsAllowed i → DoesSame i s t → s.pc ≡ t.pc → s.trace ≡ t.trace → s.tables ≡ t.tables → s.memory.mcon ≡ t.memory.mcon → (is_request_name i.op ≡ true → s.frames ≡ t.frames) → Fate i s t
 fate_of i s t ok x pc trace tables orders frames = record {
   misuse = x.misuse;
-  raised = raised_same i s t ok x.access pc tables;
+  raised = raised_same i s t ok x.access tables;
   later = x.fault;
   hazard = hazard_same i s t ok x.access frames;
   exit = ap (option_map Exit) (exit_same s.memory t.memory (action_of i s).writes (action_of i t).writes orders (ap (λ (a : Action). a.writes) x.here ∙ sym (ap (λ (a : Action). a.writes) x.there)));
-  seen = ap (λ (p : ℕ). seen_by p s.trace (access_of i s)) pc ∙ ap (λ (c : TraceControls). seen_by t.pc c (access_of i s)) trace ∙ ap (λ (a : Access). seen_by t.pc t.trace a) x.access;
+  seen = cc (pc, trace, x.access);
   access = x.access;
 }
 
