@@ -50,6 +50,4 @@ stood s i is =
 
 pub stands_there : (s : State) (i : Inst) → IsStood s i → stands_at s ≡ Runs i
 unfolding stands_at
-stands_there s i h =
-    ap (by_fetch s) h.fetch ∙ ap (by_word s) h.word
-    ∙ ap (λ (b : Bool). cond b (Meets s.ip) (by_raised i s (raised_in i s))) h.calm.proper ∙ ap (by_raised i s) h.calm.raised ∙ ap (by_later i s) h.calm.later ∙ ap (by_access i) h.calm.hazard
+stands_there s i h = rw (h.fetch, h.word, h.calm.proper, h.calm.raised, h.calm.later, h.calm.hazard) refl
