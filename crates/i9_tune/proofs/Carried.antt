@@ -94,34 +94,11 @@ agree_with area i s bytes same miss = record {
   };
 }
 
--- where two states differ in the area alone, and what is done in both
-pub record Carries (area : ℕ × ℕ) (i : Inst) (s t : State) : Type 0 where
-  pub passes : Passes area i t
-  pub state : DiffersIn area (stepped i s) (stepped i t)
-  pub kept : (x : ℕ) → in_bytes area.0 area.1 x ≡ true → (stepped i t).memory.bytes x ≡ t.memory.bytes x
-  pub port : port_bytes i t ≡ port_bytes i s
-
 after_differs : (area : ℕ × ℕ) (i : Inst) (s t : State) (d : Deed) → DiffersIn area s t → DiffersIn area (after_deed i s d) (after_deed i t d)
 after_differs area i s t d differs = record {
   rest = ap (λ (u : State). after_deed i u d) differs.rest;
   bytes = λ x h. stored_agree t.memory.bytes s.memory.bytes d.writes x (λ e. differs.bytes x h) (λ e. differs.bytes x h);
 }
-
-pub carries : (area : ℕ × ℕ) (i : Inst) (s t : State) → IsAllowed i → DiffersIn area s t → Passes area i s → Carries area i s t
-carries area i s t ok differs passes =
-    let other = with_memory s t.memory.bytes in
-    let y = does_same i s other ok (agree_with area i s t.memory.bytes differs.bytes passes.misses) in
-    let fate = subst (Fate i s) (sym differs.rest) (fate_of i s other ok y refl refl refl refl (λ h. refl)) in
-    let x = subst (DoesSame i s) (sym differs.rest) y in
-    let there = passes_by area i s t fate passes in
-    record {
-      passes = there;
-      state = rw (stepped_by i t x.deed x.there, stepped_by i s x.deed x.here) (after_differs area i s t x.deed differs);
-      kept = λ y h. (byte_kept area i t y ok there.misses h).0;
-      port = port_by i t x.deed x.there ∙ sym (port_by i s x.deed x.here);
-    }
-
--- ---- all
 
 pub record AllCarried (area : ℕ × ℕ) (is : List Inst) (s t : State) : Type 0 where
   pub passed : ArePassed area is t
@@ -132,11 +109,16 @@ pub record AllCarried (area : ℕ × ℕ) (is : List Inst) (s t : State) : Type 
 pub all_carried : (area : ℕ × ℕ) (is : List Inst) (s t : State) → AreAllowed is → DiffersIn area s t → ArePassed area is s → AllCarried area is s t
 all_carried area [] s t ok differs passed = record { passed = tt; state = differs; kept = λ x h. refl; port = refl }
 all_carried area (i ∷ is) s t ok differs passed =
-    let one = carries area i s t (allowed_parts i ok.0) differs passed.0 in
-    let rest = all_carried area is (stepped i s) (stepped i t) ok.1 one.state passed.1 in
+    let allowed = allowed_parts i ok.0 in
+    let other = with_memory s t.memory.bytes in
+    let y = does_same i s other allowed (agree_with area i s t.memory.bytes differs.bytes passed.0.misses) in
+    let there = passes_by area i s t (subst (Fate i s) (sym differs.rest) (fate_of i s other allowed y refl refl refl refl (λ h. refl))) passed.0 in
+    let x = subst (DoesSame i s) (sym differs.rest) y in
+    let state : DiffersIn area (stepped i s) (stepped i t) = rw (stepped_by i t x.deed x.there, stepped_by i s x.deed x.here) (after_differs area i s t x.deed differs) in
+    let rest = all_carried area is (stepped i s) (stepped i t) ok.1 state passed.1 in
     record {
-      passed = (one.passes, rest.passed);
+      passed = (there, rest.passed);
       state = rest.state;
-      kept = λ x h. rest.kept x h ∙ one.kept x h;
-      port = ap (λ (ps : List (ℕ × ℕ)). ps ++ sent is (stepped i t)) one.port ∙ ap (λ (ps : List (ℕ × ℕ)). port_bytes i s ++ ps) rest.port;
+      kept = λ z h. rest.kept z h ∙ (byte_kept area i t z allowed there.misses h).0;
+      port = rw (port_by i t x.deed x.there, port_by i s x.deed x.here, rest.port) refl;
     }

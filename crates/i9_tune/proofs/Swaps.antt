@@ -335,15 +335,8 @@ ports_change : (d e : Deed) (before behind first second rest : List (ℕ × ℕ)
     → first ++ (behind ++ rest) ≡ before ++ (second ++ rest)
 ports_change d e before behind first second rest one h i j k = cc (quiet_change (λ c ps. in_port c.writes ++ ps) (λ c ps quiet. rw (quiet.writes) refl) d e rest one)
 
--- both ways, the same state, and the same fates
-pub record Square (i j : Inst) (s : State) : Type 0 where
-  pub state : stepped i (stepped j s) ≡ stepped j (stepped i s)
-  pub first : Fate i s (stepped j s)
-  pub second : Fate j s (stepped i s)
-  pub port : (r : List (ℕ × ℕ)) → port_bytes j s ++ (port_bytes i (stepped j s) ++ r) ≡ port_bytes i s ++ (port_bytes j (stepped i s) ++ r)
-
-pub square : (i j : Inst) (s : State) → IsAllowed i → IsAllowed j → AreApart i j → Square i j s
-square i j s p q apart =
+pub swap : (area : ℕ × ℕ) (i j : Inst) (is : List Inst) (s : State) → IsAllowed i → IsAllowed j → AreApart i j → ArePassed area (i ∷ j ∷ is) s → AreAsGood area (i ∷ j ∷ is) (j ∷ i ∷ is) s
+swap area i j is s p q apart passed =
     let requests = swapped (is_request_name i.op) (is_request_name j.op) apart.requests in
     let x = does_same i s (stepped j s) p (agree_after j i s q p apart.second requests) in
     let y = does_same j s (stepped i s) q (agree_after i j s p q apart.first apart.requests) in
@@ -356,23 +349,17 @@ square i j s p q apart =
     (λ c g. both_ways (is_written j CONDITION_CODE) (apart.first CONDITION_CODE (codes_written i (x.coded c))).1 (codes_written j (y.coded g))) in
     let ij = stepped_by j (stepped i s) e y.there ∙ ap (λ (t : State). after_deed j t e) (stepped_by i s d x.here) in
     let ji = stepped_by i (stepped j s) d x.there ∙ ap (λ (t : State). after_deed i t d) (stepped_by j s e y.here) in
-    record {
-      state = ji ∙ sym (deeds_change i j s d e (are_beside i j s d e p q apart.first x.here y.here) ac one) ∙ sym ij;
-      first = fate_after j i s e p y.here second_quiet requests x;
-      second = fate_after i j s d q x.here first_quiet apart.requests y;
-      port = λ r. ports_change d e _ _ _ _ r one (port_by i s d x.here) (port_by i (stepped j s) d x.there) (port_by j s e y.here) (port_by j (stepped i s) e y.there);
-    }
-
-pub swap : (area : ℕ × ℕ) (i j : Inst) (is : List Inst) (s : State) → IsAllowed i → IsAllowed j → AreApart i j → ArePassed area (i ∷ j ∷ is) s → AreAsGood area (i ∷ j ∷ is) (j ∷ i ∷ is) s
-swap area i j is s p q apart passed =
-    let x = square i j s p q apart in
+    let state = ji ∙ sym (deeds_change i j s d e (are_beside i j s d e p q apart.first x.here y.here) ac one) ∙ sym ij in
+    let first = fate_after j i s e p y.here second_quiet requests x in
+    let second = fate_after i j s d q x.here first_quiet apart.requests y in
     record {
       passed = (
-        passes_by area j (stepped i s) s (fate_back j s (stepped i s) x.second) passed.1.0,
-        (passes_by area i s (stepped j s) x.first passed.0, subst (ArePassed area is) (sym x.state) passed.1.1),
+        passes_by area j (stepped i s) s (fate_back j s (stepped i s) second) passed.1.0,
+        (passes_by area i s (stepped j s) first passed.0, subst (ArePassed area is) (sym state) passed.1.1),
       );
-      state = ap (behind is) x.state;
-      port = ap (λ (t : State). port_bytes j s ++ (port_bytes i (stepped j s) ++ sent is t)) x.state ∙ x.port (sent is (stepped j (stepped i s)));
+      state = ap (behind is) state;
+      port = ap (λ (t : State). port_bytes j s ++ (port_bytes i (stepped j s) ++ sent is t)) state
+          ∙ ports_change d e _ _ _ _ (sent is (stepped j (stepped i s))) one (port_by i s d x.here) (port_by i (stepped j s) d x.there) (port_by j s e y.here) (port_by j (stepped i s) e y.there);
     }
 
 -- ---- an order is reached by such changes
