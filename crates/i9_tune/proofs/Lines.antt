@@ -27,27 +27,21 @@ use Rattle.i9_tune.specs.Tuning.{IsCodeOf, one_word, two_words, AreCodes, no_cod
 
 -- ---- the line of an instruction by its words
 
-one_line : (a : ℕ) (i : Inst) (w : ℕ) → a % 4 ≡ 0 → words_of i ≡ 1 → ((v : ℕ) → IsCode i 0 w v) → code_line a (w ∷ []) ≡ statement_text a i 0 ++ space ∷ hash ∷ space ∷ (word_text a ++ spaced w)
+one_line : (a : ℕ) (i : Inst) (w : ℕ) → a % 4 ≡ 0 → words_of i ≡ 1 → ((v : ℕ) → IsCode i 0 w v) → code_line a (w ∷ []) ≡ statement_text a i 0 ++ space ∷ hash ∷ space ∷ (word_text a ++ flat_map spaced (w ∷ []))
 one_line a i w aligned one code =
     let bs = flat_map (to_le_bytes w32) (w ∷ []) in
     let word : word_at 0 bs ≡ w = from_le_bytes-to_le_bytes_4 w (code 0).small in
     let inst : decoded (word_at 0 bs) (word_at 4 bs) ≡ Ok i = ap (λ (x : ℕ). decoded x (word_at 4 bs)) word ∙ encodes_decoded w (word_at 4 bs) i (code (word_at 4 bs)).form in
-    rw (aligned, inst, one, word, (code 0).spare) refl
+    rw (aligned, inst, one, word, (code 0).spare, append-nil) refl
 
 two_line : (a : ℕ) (i : Inst) (w v : ℕ) → a % 4 ≡ 0 → words_of i ≡ 2 → v < 2 ^ 32 → IsCode i 0 w v
-    → code_line a (w ∷ v ∷ []) ≡ statement_text a i 0 ++ space ∷ hash ∷ space ∷ (word_text a ++ (spaced w ++ spaced v))
+    → code_line a (w ∷ v ∷ []) ≡ statement_text a i 0 ++ space ∷ hash ∷ space ∷ (word_text a ++ flat_map spaced (w ∷ v ∷ []))
 two_line a i w v aligned two small code =
     let bs = flat_map (to_le_bytes w32) (w ∷ v ∷ []) in
     let word : word_at 0 bs ≡ w = from_le_bytes-to_le_bytes_4 w code.small in
     let second : word_at 4 bs ≡ v = from_le_bytes-to_le_bytes_4 v small in
     let inst : decoded (word_at 0 bs) (word_at 4 bs) ≡ Ok i = ap (λ (x : ℕ). decoded x (word_at 4 bs)) word ∙ ap (decoded w) second ∙ encodes_decoded w v i code.form in
-    rw (aligned, inst, two, word, second, code.spare) refl
-
--- ---- what is put behind a text
-
-joined_line : (old said marked head words new s w ws line : List ℕ) → said ≡ old ++ s → marked ≡ said ++ 32 ∷ 35 ∷ [] → head ≡ marked ++ 32 ∷ w → words ≡ head ++ ws → new ≡ words ++ 10 ∷ []
-    → line ≡ s ++ 32 ∷ 35 ∷ 32 ∷ (w ++ ws) → new ≡ old ++ (line ++ 10 ∷ [])
-joined_line old said marked head words new s w ws line e f g h k is = rw (k, h, g, f, e, is) (simp append_assoc)
+    rw (aligned, inst, two, word, second, code.spare, append-nil) refl
 
 -- the line of an instruction, whose code is this
 pub record IsCoded (i : Inst) (code : Code) : Type 0 where
@@ -57,28 +51,15 @@ pub record IsCoded (i : Inst) (code : Code) : Type 0 where
   pub counted : IsSome code.second → words_of i ≡ 2
   pub small : IfSome code.second (λ w1. w1 < 2 ^ 32)
 
-pub line_added : (a : ℕ) (i : Inst) (first : ℕ) (second : Option ℕ) (old said marked head words new : List ℕ) → a % 4 ≡ 0 → IsCoded i (record { first = first; second = second })
-    → said ≡ old ++ statement_text a i 0 → marked ≡ said ++ 32 ∷ 35 ∷ [] → head ≡ marked ++ spaced a → words ≡ head ++ flat_map spaced (words_in (record { first = first; second = second })) → new ≡ words ++ 10 ∷ []
-    → AddsLine a i old new
-line_added a i first None old said marked head words new aligned coded e f g h k = elim (one_or_two i.ea.mode) [
-  | inl one ↦
-      let line = one_line a i first aligned one (coded.one refl) in
-      record {
-        words = first ∷ [];
-        is = one_word first one (coded.one refl);
-        text = joined_line old said marked head words new (statement_text a i 0) (word_text a) (spaced first) (code_line a (first ∷ [])) e f g (h ∙ ap (λ (t : List ℕ). head ++ t) (append-nil (spaced first))) k line;
-      }
+pub coded_line : (a : ℕ) (i : Inst) (first : ℕ) (second : Option ℕ) → a % 4 ≡ 0 → IsCoded i (record { first = first; second = second })
+    → (words : List ℕ) × IsCodeOf i words × (code_line a words ≡ statement_text a i 0 ++ space ∷ hash ∷ space ∷ (word_text a ++ flat_map spaced (words_in (record { first = first; second = second }))))
+coded_line a i first None aligned coded = elim (one_or_two i.ea.mode) [
+  | inl one ↦ (first ∷ [], one_word first one (coded.one refl), one_line a i first aligned one (coded.one refl))
   | inr two ↦ absurd (cc (coded.count two))
 ]
-line_added a i first (Some v) old said marked head words new aligned coded e f g h k =
+coded_line a i first (Some v) aligned coded =
     let two = coded.counted refl in
-    let line = two_line a i first v aligned two coded.small coded.two in
-    record {
-      words = first ∷ v ∷ [];
-      is = two_words first v two coded.two;
-      text = joined_line old said marked head words new (statement_text a i 0) (word_text a) (spaced first ++ spaced v) (code_line a (first ∷ v ∷ [])) e f g
-          (h ∙ ap (λ (t : List ℕ). head ++ (spaced first ++ t)) (append-nil (spaced v))) k line;
-    }
+    (first ∷ v ∷ [], two_words first v two coded.two, two_line a i first v aligned two coded.small coded.two)
 
 -- ---- the lines of a block, of which more and more are there
 
