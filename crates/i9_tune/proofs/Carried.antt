@@ -1,6 +1,6 @@
 -- What instructions do in a state they do in another one, where their loads and stores have no byte in which the two
 -- differ.
-use Rattle.std.proofs.Common.{◌≡◌, ℕ, ◌+◌, Bool, true, false, cond, ◌||◌, ◌&&◌, List, [], ◌∷◌, ◌++◌, Option, Some, None, refl, sym, ap, ◌∙◌, subst, inl, arith}
+use Rattle.std.proofs.Common.{◌≡◌, ℕ, ◌+◌, Bool, true, false, cond, ◌||◌, ◌&&◌, List, [], ◌∷◌, Option, Some, None, refl, sym, ap, ◌∙◌, subst, inl, arith}
 use Rattle.std.specs.Prelude.{not}
 use Rattle.std.specs.Option.{is_some}
 use Rattle.std.proofs.lemmas.Bool.{both_ways, false_from_ne_true}
@@ -24,7 +24,7 @@ use Rattle.i9_model.proofs.Runs.{is_put-upwards}
 use Rattle.i9_model.proofs.SavedMarks.{picked-among}
 use Rattle.i9_model.proofs.Storing.{stored_agree, stored_kept}
 use Rattle.i9_tune.specs.Deeds.{Deed, DoesSame}
-use Rattle.i9_tune.specs.Passes.{MissesBytes, Passes, stepped, port_bytes, ArePassed, behind, sent}
+use Rattle.i9_tune.specs.Passes.{MissesBytes, stepped, ArePassed, behind, sent}
 use Rattle.i9_tune.specs.Orders.{AreAllowed}
 use Rattle.i9_tune.specs.Standings.{DiffersIn}
 use Rattle.i9_tune.proofs.Sources.{Agree, IsAllowed, allowed_parts, does_same}

@@ -25,7 +25,7 @@ use Rattle.i9_past.proofs.Stands.{Known, known}
 use Rattle.i9_tune.specs.Blocks.{is_allowed}
 use Rattle.i9_tune.specs.Passes.{MissesBytes, is_broken, Passes, stepped, port_bytes, ArePassed, behind, sent}
 use Rattle.i9_tune.specs.Orders.{IsOrder, AreAllowed}
-use Rattle.i9_tune.specs.Standings.{byte_length, StandAt, IsDone, AreDone, after_all, port_bytes_of, DiffersIn, Replaces, DoTheSame}
+use Rattle.i9_tune.specs.Standings.{byte_length, StandAt, IsDone, AreDone, after_all, port_bytes_of, Replaces, DoTheSame}
 use Rattle.i9_tune.proofs.Orders.{permuted, order_keeps}
 use Rattle.i9_tune.proofs.Sources.{IsAllowed, allowed_parts, other_memory}
 use Rattle.i9_tune.proofs.Swaps.{own_step, in_port, order_good}

@@ -1,5 +1,5 @@
 -- One more instruction before others.
-use Rattle.std.proofs.Common.{◌≡◌, ℕ, ◌+◌, ◌<◌, Bool, true, false, ◌||◌, ◌&&◌, max, List, [], ◌∷◌, ◌++◌, length, take, slice_index_or, refl, sym, ap, ◌∙◌, subst, arith}
+use Rattle.std.proofs.Common.{◌≡◌, ℕ, ◌+◌, ◌<◌, Bool, false, ◌||◌, ◌&&◌, max, List, [], ◌∷◌, ◌++◌, length, take, slice_index_or, refl, sym, ap, ◌∙◌, subst, arith}
 use Rattle.i9_model.proofs.KeptBits.{and_or}
 use Rattle.std.specs.Prelude.{◌==◌, not, bit_and, bit_or}
 use Rattle.std.specs.Int.{bit_at}

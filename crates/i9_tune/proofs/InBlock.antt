@@ -22,7 +22,7 @@ put_more block i (Ok is) = ap (λ (js : List Inst). Ok js) (sym (append_assoc bl
 put_more block i (Err fault) = refl
 
 -- what comes next
-next_read : (loaded : ℕ → Option ℕ) (n a k : ℕ) (block : List Inst) (at : ℕ) (r : Result Inst Flaw) → k < n → r ≡ inst_at loaded at → IsRead loaded n a k block at
+pub next_read : (loaded : ℕ → Option ℕ) (n a k : ℕ) (block : List Inst) (at : ℕ) (r : Result Inst Flaw) → k < n → r ≡ inst_at loaded at → IsRead loaded n a k block at
     → block_at loaded n a ≡ put_all block (block_by at r (λ i. block_at loaded (n - (k + 1)) (wrapped (at + 4 * words_of i))))
 unfolding block_at
 next_read loaded n a k block at r lt is read =
@@ -33,10 +33,6 @@ pub one_read : (loaded : ℕ → Option ℕ) (n a k : ℕ) (block : List Inst) (
     → IsRead loaded n a (k + 1) (block ++ i ∷ []) next
 one_read loaded n a k block at next i lt is there read =
     next_read loaded n a k block at (Ok i) lt is read ∙ rw there (put_more block i (block_at loaded (n - (k + 1)) (wrapped (at + 4 * words_of i))))
-
-pub fault_read : (loaded : ℕ → Option ℕ) (n a k : ℕ) (block : List Inst) (at : ℕ) (flaw : Flaw) → k < n → Err flaw ≡ inst_at loaded at → IsRead loaded n a k block at
-    → block_at loaded n a ≡ Err (record { flaw = flaw; address = at })
-fault_read loaded n a k block at flaw lt is read = next_read loaded n a k block at (Err flaw) lt is read
 
 pub all_read : (loaded : ℕ → Option ℕ) (n a k : ℕ) (block : List Inst) (at : ℕ) → n ≤ k → IsRead loaded n a k block at → block_at loaded n a ≡ Ok block
 unfolding block_at

@@ -1,26 +1,22 @@
 -- The lines of instructions as a listing has them.
-use Rattle.std.proofs.Common.{◌≡◌, ℕ, ◌+◌, ◌*◌, ◌%◌, ◌^◌, ◌<◌, ◌≤◌, Bool, false, cond, ◌||◌, List, [], ◌∷◌, ◌++◌, length, drop, slice_index_or, get_or, Option, Some, None, IsSome, IsNone, IfSome, Result, Ok, refl, sym, ap, ◌∙◌, subst, inl, inr}
-use Rattle.std.specs.Prelude.{nat_lt, codes}
+use Rattle.std.proofs.Common.{◌≡◌, ℕ, ◌+◌, ◌*◌, ◌%◌, ◌^◌, ◌<◌, ◌≤◌, List, [], ◌∷◌, ◌++◌, length, drop, slice_index_or, Option, Some, None, IsSome, IsNone, IfSome, Ok, refl, sym, ap, ◌∙◌, subst, inl, inr}
+use Rattle.std.specs.Prelude.{codes}
 use Rattle.std.specs.List.{flat_map}
 use Rattle.std.specs.Int.{w32, to_le_bytes}
-use Rattle.std.specs.Int.Bits.{bit_and}
 use Rattle.std.proofs.lemmas.List.{append-nil, append_assoc, drop_more, drop_all}
 use Rattle.std.proofs.lemmas.Grind.{flat_map-append}
 use Rattle.std.proofs.lemmas.Nat.{from_le_bytes-to_le_bytes_4}
 use Rattle.i9_isa.specs.declared.inst.Inst.{Inst}
-use Rattle.i9_isa.specs.declared.inst.BadWord.{BadWord}
 use Rattle.i9_isa.specs.Words.{words_of, decoded}
 use Rattle.i9_isa.proofs.Decoding.{encodes_decoded}
-use Rattle.i9_decode.specs.Ignored.{ignored_bits}
 use Rattle.i9_text.specs.Text.{space}
 use Rattle.i9_text.specs.Written.{word_text}
-use Rattle.i9_statement.specs.NumberText.{hex_text, hex_byte_text}
 use Rattle.i9_model.specs.Writes.{wrapped}
 use Rattle.i9_hex.specs.Writing.{with_line_feed}
 use Rattle.i9_statement.specs.Statements.{statement_text}
 use Rattle.i9_statement.specs.Codes.{IsCode}
 use Rattle.i9_asm.specs.Lines.{hash}
-use Rattle.i9_asm.specs.Listing.{text_by, word_at, is_single, whole_size, whole_text, line_size, said_text, noted_words, first_line}
+use Rattle.i9_asm.specs.Listing.{word_at}
 use Rattle.i9_statement.proofs.StatementWords.{one_or_two}
 use Rattle.i9_decode.specs.declared.encoder.Code.{Code}
 use Rattle.i9_tune.specs.Tuning.{IsCodeOf, one_word, two_words, AreCodes, no_codes, more_codes, code_line, code_lines, words_in, spaced, AddsLine, AddsLines}

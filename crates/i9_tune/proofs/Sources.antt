@@ -40,7 +40,7 @@ use Rattle.std.proofs.lemmas.List.FromFn.{get_or-map-range_with_len}
 use Rattle.i9_model.specs.Frames.{has}
 use Rattle.i9_model.specs.Alike.{with_other}
 use Rattle.i9_model.specs.Access.{NoAccess, access_by_name, access_by, access_of, moved_access}
-use Rattle.i9_model.specs.Standing.{is_fault_name, later_fault, range_fault, first_fault, answer_fault}
+use Rattle.i9_model.specs.Standing.{is_fault_name, later_fault, range_fault}
 use Rattle.i9_model.proofs.Readings.{map_below, words_same}
 use Rattle.i9_model.proofs.Storing.{stored_words_same}
 use Rattle.i9_turns.proofs.MaskLaws.{IsOutside, one_target}

@@ -17,9 +17,7 @@ use Rattle.i9_isa.specs.Transfers.{transfer_of, byte_count}
 use Rattle.i9_isa.specs.Words.{bit, words_of}
 use Rattle.i9_model.specs.Writes.{wrapped, written, or_earlier, last_put}
 use Rattle.i9_model.specs.Memory.{Memory, with_writes, exit_word, in_port_page}
-use Rattle.i9_model.specs.State.{State, Frames, TraceControls}
-use Rattle.i9_model.specs.declared.layout.TheConstants.{TRACE_ENABLE_PLACE}
-use Rattle.i9_model.specs.Tracing.{Instruction, has_mode}
+use Rattle.i9_model.specs.State.{State, Frames}
 use Rattle.i9_model.specs.Frames.{has, is_put, wrote, softened}
 use Rattle.i9_model.specs.Controls.{marks_after}
 use Rattle.i9_model.specs.Stale.{legible, misuses}
@@ -29,12 +27,11 @@ use Rattle.i9_model.specs.Conditions.{with_code}
 use Rattle.i9_model.specs.Faults.{raised, uses_special, is_supervisor_only, is_invalid, is_past_table, is_unaligned}
 use Rattle.i9_model.specs.Calls.{in_supervisor_mode}
 use Rattle.i9_model.specs.declared.faults.TheConstants.{OPERATION, PROTECTION, TYPE, UNALIGNED, INVALID_OPERAND, LENGTH, MISMATCH}
-use Rattle.i9_model.specs.declared.setup.Tables.{Tables}
 use Rattle.i9_model.specs.declared.run.End.TheVariants.{Exit}
 use Rattle.std.proofs.lemmas.Nat.{or_comm, or_shifted, or_shr, or_block}
 use Rattle.i9_model.specs.Needs.{is_request_name}
 use Rattle.i9_model.specs.Alike.{with_other}
-use Rattle.i9_model.specs.Access.{Access, Reads, access_by, access_of, data_of, moved_access, hazard_in, hazard_of}
+use Rattle.i9_model.specs.Access.{Access, Reads, access_of, data_of, moved_access, hazard_in, hazard_of}
 use Rattle.i9_model.specs.Standing.{raised_in, later_fault}
 use Rattle.i9_model.specs.Step.{Action, following, action_of, moved, acted, counted}
 use Rattle.i9_model.specs.Run.{exit_in}
@@ -46,7 +43,7 @@ use Rattle.i9_model.proofs.Legible.{read_as}
 use Rattle.i9_tune.specs.Inputs.{Change, Keeps, Codes, Flags, changed, is_code}
 use Rattle.i9_tune.specs.Blocks.{is_allowed_name, Spares, AreApart, is_allowed}
 use Rattle.i9_tune.specs.Deeds.{Deed, deed_action, DoesSame}
-use Rattle.i9_tune.specs.Passes.{MissesBytes, is_watched, is_seen, Passes, stepped, port_bytes, ArePassed, behind, sent, AreAsGood}
+use Rattle.i9_tune.specs.Passes.{MissesBytes, is_seen, Passes, stepped, port_bytes, ArePassed, behind, sent, AreAsGood}
 use Rattle.i9_turns.proofs.Outside.{is_kept, set_with}
 use Rattle.i9_tune.proofs.Sources.{Agree, IsAllowed, register_is_read, code_is_read, does_same, no_access, other_memory, same_here, unmarked, allowed_parts}
 use Rattle.std.specs.List.{AllByRecursion}
@@ -140,31 +137,28 @@ quiet_legible i s d q =
     ap (λ (f : Frames). read_as (with_writes s.memory d.writes) f s.reading) (quiet_frames s.frames d q)
     ∙ ap (λ (m : Memory). read_as m s.frames s.reading) (quiet_memory s.memory d q)
 
-agree_deed : (i j : Inst) (s : State) (d : Deed) → IsAllowed i → IsAllowed j → action_of i s ≡ deed_action i s d → (is_request_name i.op ≡ false → IsQuiet d) → Spares i j → (is_request_name i.op && is_request_name j.op) ≡ false
-    → Agree j s (after_deed i s d)
-agree_deed i j s d own ok e quiet spares requests = record {
-  regs = λ k r. sym (written-last s.regs d.sets k ∙ ap (λ (o : Option ℕ). unwrap_or o (s.regs k)) (unset i s d k e (unspared i j k spares (register_is_read j k r))));
-  marks = λ k r. let none = unspared i j k spares (register_is_read j k r) in
-      sym (marks_kept s.marks d.sets d.marked k (unset i s d k e none) (unset_mark i s d k own e none));
-  code = λ r. sym (sym (ap (λ (a : Action). a.ac % 8) e) ∙ code_beside i s (set_with (writes_code i.op) true refl (is_kept i CONDITION_CODE (unspared i j CONDITION_CODE spares (code_is_read j r))).code));
-  beside = record {
-    mask = sym (change_mask d.change s.ac);
-    orders = refl;
-    bytes = λ a n reads k h. sym (ap (λ (m : Memory). m.bytes (wrapped (a + k))) (quiet_legible i s d (still_there a n reads)));
-    soft = λ a n reads k h. sym (ap (λ (f : Frames). f.soft (wrapped (a + k))) (quiet_frames s.frames d (still_there a n reads)));
-  };
-}
-  where
-    still_there : (a n : ℕ) → access_of j s ≡ Reads a n → IsQuiet d
-    still_there a n reads = let load = load_request j s a n ok reads in quiet (grind (arith, requests, load))
-
 quiet_deed : (i : Inst) (s t : State) (x : DoesSame i s t) → is_request_name i.op ≡ false → IsQuiet x.deed
 quiet_deed i s t x h = record { writes = x.quiet h; stale = x.clean h }
 
 pub agree_after : (i j : Inst) (s : State) → IsAllowed i → IsAllowed j → Spares i j → (is_request_name i.op && is_request_name j.op) ≡ false → Agree j s (stepped i s)
-agree_after i j s ok other spares requests =
-    let x = does_same i s s ok (same_here i s) in
-    subst (Agree j s) (sym (stepped_by i s x.deed x.here)) (agree_deed i j s x.deed ok other x.here (quiet_deed i s s x) spares requests)
+agree_after i j s own ok spares requests =
+    let x = own_deed i s own in
+    let d = x.deed in
+    let quiet : (a n : ℕ) → access_of j s ≡ Reads a n → IsQuiet d = λ a n reads.
+    let load = load_request j s a n ok reads in
+    quiet_deed i s s x (grind (arith, requests, load)) in
+    subst (Agree j s) (sym (own_step i s own)) (record {
+      regs = λ k r. sym (written-last s.regs d.sets k ∙ ap (λ (o : Option ℕ). unwrap_or o (s.regs k)) (unset i s d k x.here (unspared i j k spares (register_is_read j k r))));
+      marks = λ k r. let none = unspared i j k spares (register_is_read j k r) in
+          sym (marks_kept s.marks d.sets d.marked k (unset i s d k x.here none) (unset_mark i s d k own x.here none));
+      code = λ r. sym (sym (ap (λ (a : Action). a.ac % 8) x.here) ∙ code_beside i s (set_with (writes_code i.op) true refl (is_kept i CONDITION_CODE (unspared i j CONDITION_CODE spares (code_is_read j r))).code));
+      beside = record {
+        mask = sym (change_mask d.change s.ac);
+        orders = refl;
+        bytes = λ a n reads k h. sym (ap (λ (m : Memory). m.bytes (wrapped (a + k))) (quiet_legible i s d (quiet a n reads)));
+        soft = λ a n reads k h. sym (ap (λ (f : Frames). f.soft (wrapped (a + k))) (quiet_frames s.frames d (quiet a n reads)));
+      };
+    })
 
 -- ---- what decides whether it is done
 

@@ -1,15 +1,15 @@
-use Rattle.std.proofs.Common.{◌≡◌, ℕ, ◌+◌, ◌*◌, ◌++◌, ◌∷◌, [], Bool, cond, ap, ◌∙◌}
+use Rattle.std.proofs.Common.{◌≡◌, ℕ, ◌+◌, ◌*◌, ◌++◌, ◌∷◌, [], Bool, cond, Err, ap, ◌∙◌}
 use Rattle.std.specs.Prelude.{not}
 use Rattle.std.proofs.lemmas.List.{length-append}
 use Rattle.i9_model.specs.Writes.{wrapped, last_put}
 use Rattle.i9_model.specs.Image.{pairs_of}
 use Rattle.i9_tune.proofs.Depend.{tunable_push}
-use Rattle.i9_tune.proofs.InBlock.{one_read, fault_read, all_read}
+use Rattle.i9_tune.proofs.InBlock.{next_read, one_read, all_read}
 use Rattle.i9_tune.proofs.block.block_in.Goals as goal
 
 pub returns-in-Err-clause-block : goal.returns-in-Err-clause-block
 returns-in-Err-clause-block c =
-    fault_read (last_put (pairs_of c.args.image.now)) c.args.count c.args.address c.more.counter c.more.block.items c.more.at c.in-Err.flaw c.more-test.true
+    next_read (last_put (pairs_of c.args.image.now)) c.args.count c.args.address c.more.counter c.more.block.items c.more.at (Err c.in-Err.flaw) c.more-test.true
     (rw c.as_slice.ensures.segments at c.in-Err.ensures.inst) c.more.invariant.read
 
 pub more-preserved : goal.more-preserved

@@ -1,4 +1,4 @@
-use Rattle.std.proofs.Common.{◌<◌, ◌≤◌, ℕ, length, sym, subst, arith}
+use Rattle.std.proofs.Common.{◌≤◌, ℕ, subst, arith}
 use Rattle.std.proofs.lemmas.Bool.{both_ways}
 use Rattle.i9_tune.proofs.Plain.{early_by}
 use Rattle.i9_tune.proofs.Fronts.{free_is, front_more}

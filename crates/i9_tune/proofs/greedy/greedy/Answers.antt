@@ -1,10 +1,8 @@
-use Rattle.std.proofs.Common.{◌≡◌, ◌<◌, ◌+◌, ◌*◌, ◌++◌, ◌∷◌, [], List, Bool, cond, length, reverse, sym, ap, ◌∙◌, subst, arith}
+use Rattle.std.proofs.Common.{◌≡◌, ◌+◌, ◌*◌, ◌++◌, ◌∷◌, [], Bool, cond, length, reverse, ap, ◌∙◌, arith}
 use Rattle.std.specs.Prelude.{not}
 use Rattle.std.proofs.lemmas.List.{reverse-append}
-use Rattle.i9_isa.specs.declared.inst.Inst.{Inst}
-use Rattle.i9_tune.specs.Greedy.{IsChosenAt}
 use Rattle.i9_tune.proofs.Plain.{stands_next, done_more}
-use Rattle.i9_tune.proofs.Extended.{Continues, is_taken, continues, ends, fewer_left}
+use Rattle.i9_tune.proofs.Extended.{is_taken, continues, ends, fewer_left}
 use Rattle.i9_tune.proofs.greedy.greedy.Goals as goal
 
 pub more-preserved : goal.more-preserved
