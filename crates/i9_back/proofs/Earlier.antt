@@ -1,7 +1,7 @@
 -- Each number of instructions of a run has one earlier state.
 use Rattle.std.proofs.Common.{◌≡◌, ℕ, ◌+◌, ◌<◌, ◌≤◌, List, [], ◌∷◌, ◌++◌, Some, refl, sym, ap, ◌∙◌, subst, ◌⊎◌, inl, inr, arith}
 use Rattle.i9_past.proofs.Ends.{boot_count}
-use Rattle.i9_model.specs.Run.{Given, Kind, Instruction, Faulted, Entered, Interrupted, Reached, Record, counts_of, state_after, Finish}
+use Rattle.i9_model.specs.Run.{Given, Kind, Instruction, Faulted, Record, counts_of, state_after, Finish}
 use Rattle.i9_past.proofs.Left.{counts_after}
 use Rattle.i9_course.specs.Course.{event_ahead}
 use Rattle.i9_course.specs.PipelinedRun.{steps, IsPipelinedPast, finish_after}
@@ -22,9 +22,7 @@ record_after g rs r late =
 pub one_or_none : (k : Kind) → (counts_of k ≡ 1) ⊎ (counts_of k ≡ 0)
 one_or_none (Instruction i) = inl refl
 one_or_none (Faulted inst fault) = inl refl
-one_or_none (Entered e) = inr refl
-one_or_none (Interrupted c e) = inr refl
-one_or_none (Reached e u) = inr refl
+one_or_none _ = inr refl
 
 -- no records count none
 pub none_done : (g : Given) → (state_after g []).count ≡ 0
@@ -48,14 +46,11 @@ earlier_count g c (r ∷ rs) last = last.1
 abbrev Extends : List Record → List Record → Type 0
 Extends rs qs = (zs : List Record) × (zs ++ rs ≡ qs)
 
-other_tail : (x y : Record) (xs ys : List Record) → ◌≡◌ {A = List Record} (x ∷ xs) (y ∷ ys) → xs ≡ ys
-other_tail x y xs ys e = cc
-
 -- of two ends of one list one is an end of the other
 one_extends : (xs rs ys qs : List Record) → xs ++ rs ≡ ys ++ qs → Extends rs qs ⊎ Extends qs rs
 one_extends [] rs ys qs e = inr (ys, sym e)
 one_extends (x ∷ xs) rs [] qs e = inl (x ∷ xs, e)
-one_extends (x ∷ xs) rs (y ∷ ys) qs e = one_extends xs rs ys qs (other_tail x y (xs ++ rs) (ys ++ qs) e)
+one_extends (x ∷ xs) rs (y ∷ ys) qs e = one_extends xs rs ys qs (cc)
 
 -- what was done so far is part of what is done later, of the same run
 pub past_extends : (g : Given) (rs qs : List Record) → IsPipelinedPast g rs → IsPipelinedPast g qs → Extends rs qs ⊎ Extends qs rs

@@ -1,6 +1,9 @@
 -- A machine that goes on from an earlier state to a later one.
-use Rattle.std.proofs.Common.{◌≡◌, ℕ, ◌+◌, ◌<◌, ◌≤◌, List, [], ◌∷◌, None, refl, sym, ap, ◌∙◌, subst, arith}
+use Rattle.std.proofs.Common.{◌≡◌, ℕ, ◌+◌, ◌<◌, ◌≤◌, List, [], ◌∷◌, Option, None, refl, sym, ap, ◌∙◌, subst, arith}
+use Rattle.i9_model.specs.declared.event.Timed.{Timed}
 use Rattle.i9_model.specs.declared.run.End.{End}
+use Rattle.i9_model.specs.Given.{given}
+use Rattle.i9_model.specs.ScheduleText.{IsPlan}
 use Rattle.i9_model.specs.Run.{Given, Record, state_after}
 use Rattle.i9_schedule.specs.Plan.{Plan}
 use Rattle.i9_course.specs.Course.{ahead, issue_of_next}
@@ -43,6 +46,13 @@ new_stands g m plan stands turn events place = record {
   stands = stands;
   follows = record { events = events; place = place };
 }
+
+-- so does one with a schedule that goes back to its first event
+abbrev pub rewound_stands : (pairs : List (ℕ × ℕ)) (length : ℕ) (sets : Option ℕ) (m : Machine) (old plan : Plan) → ((events : List Timed) → IsPlan events → StandsFor (given pairs events length sets) [] None m)
+    → m.pipeline.turn ≡ 1 → plan ≡ record old { place = 0 } → IsPlan plan.events → StandsEarlier (given pairs old.events length sets) 0 m plan
+rewound_stands pairs length sets m old plan stands turn first is =
+    let events = ap (λ (p : Plan). p.events) first in
+    new_stands (given pairs old.events length sets) m plan (stands old.events (subst IsPlan events is)) turn events (ap (λ (p : Plan). p.place) first)
 
 module _ (g : Given) where
   pub going_begins : (from to : ℕ) (m : Machine) (plan : Plan) → from ≤ to → (s : StandsEarlier g from m plan) → GoingAt g s.records from to m plan
@@ -115,6 +125,4 @@ module _ (g : Given) where
     -- the events of the schedule stay
     pub same_events : (answer : Turn) → Comes g (steps rs) answer (progress before old_plan old) (progress m plan new) → plan.events ≡ old_plan.events
     same_events answers.On d = d.follows.events ∙ sym s.follows.events
-    same_events (answers.Issued t) d = d.follows.events ∙ sym s.follows.events
-    same_events (answers.End f) d = d.follows.events ∙ sym s.follows.events
-    same_events answers.Memory d = d.follows.events ∙ sym s.follows.events
+    same_events _ d = d.follows.events ∙ sym s.follows.events

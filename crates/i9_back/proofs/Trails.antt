@@ -1,9 +1,11 @@
 -- Machines that are kept at earlier states, and what is found between two of those.
-use Rattle.std.proofs.Common.{◌≡◌, ℕ, zero, suc, ◌<◌, ◌≤◌, Bool, true, false, cond, List, [], ◌∷◌, ◌++◌, length, get_or, Option, Some, None, refl, sym, ap, ◌∙◌, subst, append_assoc, ◌⊎◌, inl, inr, is_some, arith}
+use Rattle.std.proofs.Common.{◌≡◌, ℕ, ◌<◌, ◌≤◌, Bool, true, false, cond, List, [], ◌∷◌, ◌++◌, length, get_or, Option, Some, None, refl, sym, ap, ◌∙◌, subst, append_assoc, ◌⊎◌, inl, inr, is_some, arith}
 use Rattle.std.specs.List.{AllByRecursion, items_where_true}
 use Rattle.std.specs.List.Retain.{IsFiltered}
 use Rattle.std.specs.Option.{option_or}
+use Rattle.std.proofs.lemmas.Bool.{cond_both}
 use Rattle.std.proofs.lemmas.List.{append-nil}
+use Rattle.std.proofs.lemmas.List.Elements.{All-get_or, All-push, All-from_recursion, recursion_from_All}
 use Rattle.i9_model.specs.Run.{Given, Record}
 use Rattle.i9_course.specs.Course.{Item}
 use Rattle.i9_course.specs.PipelinedRun.{steps}
@@ -20,20 +22,14 @@ use Rattle.i9_back.proofs.Earlier.{one_earlier}
 
 -- one of some that are kept
 pub kept_at : (g : Given) (ks : List Kept) (i : ℕ) (d : Kept) → i < length ks → AllByRecursion (IsKept g) ks → IsKept g (get_or ks i d)
-kept_at g [] i d inside all = absurd (omega (arith, inside))
-kept_at g (k ∷ ks) zero d inside all = all.0
-kept_at g (k ∷ ks) (suc i) d inside all = kept_at g ks i d (omega (arith, inside)) all.1
-
--- one more
-kept_more : (g : Given) (ks : List Kept) (k : Kept) → AllByRecursion (IsKept g) ks → IsKept g k → AllByRecursion (IsKept g) (ks ++ k ∷ [])
-kept_more g [] k all one = (one, tt)
-kept_more g (x ∷ ks) k all one = (all.0, kept_more g ks k all.1 one)
+kept_at g ks i d inside all = All-get_or (IsKept g) ks i d inside (All-from_recursion (IsKept g) ks all)
 
 -- the same list, or one more
 pub kept_pushed : (g : Given) (pushed : Bool) (ks new : List Kept) (k : Kept) → new ≡ cond pushed (ks ++ k ∷ []) ks → AllByRecursion (IsKept g) ks
     → IsKept g k → AllByRecursion (IsKept g) new
-kept_pushed g true ks new k is all one = subst (AllByRecursion (IsKept g)) (sym is) (kept_more g ks k all one)
-kept_pushed g false ks new k is all one = subst (AllByRecursion (IsKept g)) (sym is) all
+kept_pushed g pushed ks new k is all one =
+    subst (AllByRecursion (IsKept g)) (sym is) (cond_both pushed (ks ++ k ∷ []) ks (AllByRecursion (IsKept g))
+    (λ e. recursion_from_All (IsKept g) (ks ++ k ∷ []) (All-push (IsKept g) ks k (All-from_recursion (IsKept g) ks all) one)) (λ e. all))
 
 -- some of them
 kept_where : (g : Given) (bs : List Bool) (ks : List Kept) → AllByRecursion (IsKept g) ks → AllByRecursion (IsKept g) (items_where_true bs ks)
@@ -69,8 +65,7 @@ can_go_on g from to c m plan le s has = record { given = g; stands = s; reaches 
 
 -- none is there
 pub none_there : {X : Type 0} (o : Option X) → is_some o ≡ false → o ≡ None
-none_there None is = refl
-none_there (Some x) is = absurd (cc is)
+none_there o is = grind arith
 
 -- ---- what is found
 
@@ -115,25 +110,21 @@ newer_or false x o p q is = is
 -- the last change among records, of which some are newer
 change_joins : (a : ℕ) (ys xs : List Record) → last_change a (ys ++ xs) ≡ option_or (last_change a ys) (last_change a xs)
 change_joins a [] xs = refl
-change_joins a (y ∷ ys) xs = newer_or (changes a y) (y.after.count, y.before.ip) (last_change a ys) (last_change a xs) (last_change a (ys ++ xs)) (change_joins a ys xs)
+change_joins a (y ∷ ys) xs = newer_or (changes a y) _ (last_change a ys) (last_change a xs) _ (change_joins a ys xs)
 
 pub changed_joins : (a : ℕ) (ys xs : List Record) (y x : Option (ℕ × ℕ)) → ChangedLast a ys y → ChangedLast a xs x → ChangedLast a (ys ++ xs) (option_or y x)
-changed_joins a ys xs y x newer older =
-    ap (λ (o : Option (ℕ × ℕ)). option_or o x) newer ∙ ap (option_or (last_change a ys)) older ∙ sym (change_joins a ys xs)
+changed_joins a ys xs y x newer older = rw (newer, older) (sym (change_joins a ys xs))
 
 changed_keeps : (a : ℕ) (ys xs : List Record) (x : ℕ × ℕ) → ChangedLast a ys (Some x) → ChangedLast a (ys ++ xs) (Some x)
-changed_keeps a ys xs x is = ap (λ (o : Option (ℕ × ℕ)). option_or o (last_change a xs)) is ∙ sym (change_joins a ys xs)
+changed_keeps a ys xs x is = changed_joins a ys xs (Some x) (last_change a xs) is refl
 
 module _ (g : Given) where
-  watched_found : (from to a : ℕ) (m now : Machine) (plan later : Plan) (o : Option (ℕ × ℕ)) → (s : StandsEarlier g from m plan) → Watched g s.records to a o now later
-      → FoundBetween (ChangedLast a) g from to o
-  watched_found from to a m now plan later o s w = record { older = s.records; newer = w.newer; start = s.earlier; earlier = w.earlier; is = w.is }
-
   -- some instructions more were watched
   pub watched_on : (from mid to a : ℕ) (m now : Machine) (plan later : Plan) (o found : Option (ℕ × ℕ)) → FoundBetween (ChangedLast a) g from mid found
       → (s : StandsEarlier g mid m plan) → Watched g s.records to a o now later → FoundBetween (ChangedLast a) g from to (option_or o found)
   watched_on from mid to a m now plan later o found before s w =
-      found_joins (ChangedLast a) g (changed_joins a) from mid to o found before (watched_found mid to a m now plan later o s w)
+      found_joins (ChangedLast a) g (changed_joins a) from mid to o found before
+      (record { older = s.records; newer = w.newer; start = s.earlier; earlier = w.earlier; is = w.is })
 
   pub watched_stands : (older : List Record) (to a : ℕ) (m : Machine) (plan : Plan) (o : Option (ℕ × ℕ)) → Watched g older to a o m plan → StandsEarlier g to m plan
   watched_stands older to a m plan o w = record { records = w.newer ++ older; earlier = w.earlier; turn = w.turn; stands = w.stands; follows = w.follows }

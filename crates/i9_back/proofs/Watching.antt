@@ -1,10 +1,10 @@
 -- A machine that goes on to a later state, and the last change of a byte on the way.
-use Rattle.std.proofs.Common.{◌≡◌, ℕ, ◌+◌, ◌<◌, ◌≤◌, Bool, true, false, cond, ◌&&◌, nat_eq, List, [], ◌∷◌, ◌++◌, Option, Some, None, Result, Ok, Err, IfOk, refl, sym, ap, ◌∙◌, arith}
+use Rattle.std.proofs.Common.{◌≡◌, ℕ, ◌+◌, ◌<◌, ◌≤◌, Bool, false, cond, List, [], ◌∷◌, ◌++◌, Option, Some, None, Result, Ok, Err, IfOk, refl, sym, ap, ◌∙◌, arith}
 use Rattle.std.specs.Prelude.{not}
 use Rattle.std.proofs.lemmas.List.{append-nil}
 use Rattle.i9_model.specs.Overlay.{overlay}
 use Rattle.i9_model.specs.State.{State}
-use Rattle.i9_model.specs.Run.{Given, Kind, Instruction, Faulted, Entered, Interrupted, Reached, Record, counts_of, state_after}
+use Rattle.i9_model.specs.Run.{Given, Kind, Instruction, Faulted, Record, counts_of, state_after}
 use Rattle.i9_schedule.specs.Plan.{Plan}
 use Rattle.i9_course.specs.Course.{records_of}
 use Rattle.i9_course.specs.PipelinedRun.{steps}
@@ -25,26 +25,21 @@ use Rattle.i9_back.proofs.Going.{GoingAt, going_begins, earlier_there, on_goes, 
 
 -- what is no instruction changes nothing
 unchanged : (a : ℕ) (r : Record) → counts_of r.kind ≡ 0 → changes a r ≡ false
-unchanged a r none = ap (λ (n : ℕ). nat_eq n 1 && not (same_byte (overlay r.before a) (overlay r.after a))) none
+unchanged a r none = rw none refl
 
 -- an instruction does as the bytes before and after it tell
 changed_by : (a : ℕ) (r : Record) (x y : Option ℕ) → counts_of r.kind ≡ 1 → x ≡ overlay r.before a → y ≡ overlay r.after a
     → changes a r ≡ not (same_byte x y)
-changed_by a r x y one before after =
-    ap (λ (n : ℕ). nat_eq n 1 && not (same_byte (overlay r.before a) (overlay r.after a))) one
-    ∙ ap (λ (o : Option ℕ). not (same_byte o (overlay r.after a))) (sym before) ∙ ap (λ (o : Option ℕ). not (same_byte x o)) (sym after)
+changed_by a r x y one before after = rw (before, after, one) refl
 
 -- what is told of an instruction is its address
 issued_address : (kind : Kind) (s : State) (t : Issued) → TellsRecord kind s (answers.Issued t) → t.address ≡ s.ip
 issued_address (Instruction i) s t h = h.place
 issued_address (Faulted inst fault) s t h = h.place
-issued_address (Entered e) s t h = absurd h
-issued_address (Interrupted c e) s t h = absurd h
-issued_address (Reached e u) s t h = absurd h
+issued_address _ s t h = absurd h
 
 not_cond : {A : Type 0} (b : Bool) (x y : A) → cond b x y ≡ cond (not b) y x
-not_cond true x y = refl
-not_cond false x y = refl
+not_cond b x y = grind arith
 
 -- what a machine answers of a byte, whatever it stands for
 abbrev pub ShowsByte : Given → Machine → ℕ → Option ℕ → Type 0
@@ -92,7 +87,7 @@ module _ (g : Given) (a : ℕ) where
         record {
           newer = d.done ∷ w.newer;
           going = at;
-          is = w.is ∙ sym (ap (λ (b : Bool). cond b (Some (d.done.after.count, d.done.before.ip)) (last_change a w.newer)) (unchanged a d.done none));
+          is = rw (unchanged a d.done none) w.is;
           now = shows (d.done ∷ w.newer ++ older) at.stands;
         }
 
@@ -105,38 +100,22 @@ module _ (g : Given) (a : ℕ) where
         let now = shows (d.done ∷ w.newer ++ older) at.stands in
         let before_is = (record_after g (w.newer ++ older) d.done d.stands.past).0 in
         let tests = changed_by a d.done byte later one (w.now ∙ ap (λ (s : State). overlay s a) (sym before_is)) now in
-        let count : done + 1 ≡ d.done.after.count = sym at.count in
+        let count : d.done.after.count ≡ done + 1 = at.count in
         let address = issued_address d.done.kind d.done.before t d.tells in
-        let same : ◌≡◌ {A = Option (ℕ × ℕ)} (Some (done + 1, t.address)) (Some (d.done.after.count, d.done.before.ip)) =
-        ap (λ (n : ℕ). Some (n, t.address)) count ∙ ap (λ (n : ℕ). Some (d.done.after.count, n)) address in
         record {
           newer = d.done ∷ w.newer;
           going = at;
-          is = told ∙ not_cond (same_byte byte later) found (Some (done + 1, t.address))
-              ∙ ap (λ (b : Bool). cond b (Some (done + 1, t.address)) found) (sym tests)
-              ∙ ap (λ (x : Option (ℕ × ℕ)). cond (changes a d.done) x found) same
-              ∙ ap (λ (x : Option (ℕ × ℕ)). cond (changes a d.done) (Some (d.done.after.count, d.done.before.ip)) x) w.is;
+          is = rw (tests, count, sym address, sym w.is) (told ∙ not_cond (same_byte byte later) found (Some (done + 1, t.address)));
           now = now;
         }
 
 -- ---- from the start of a run
 
 -- nothing stands before the newer records
-pub watched_whole : (g : Given) (older : List Record) (to a : ℕ) (found : Option (ℕ × ℕ)) (m : Machine) (plan : Plan) → older ≡ []
-    → Watched g older to a found m plan → IsLastChange g to a found plan
-watched_whole g [] to a found m plan none w =
-    let same = append-nil w.newer in
-    record {
-      records = w.newer ++ [];
-      earlier = w.earlier;
-      is = w.is ∙ ap (last_change a) (sym same);
-      follows = w.follows;
-    }
-watched_whole g (r ∷ rs) to a found m plan none w = absurd (cc none)
-
 pub answered_whole : {E : Type 0} (r : Result (Option (ℕ × ℕ)) E) (g : Given) (to a : ℕ) (m : Machine) (plan : Plan)
     → IfOk r (λ o. Watched g [] to a o m plan) → IfOk r (λ o. IsLastChange g to a o plan)
-answered_whole (Ok o) g to a m plan w = watched_whole g [] to a o m plan refl w
+answered_whole (Ok o) g to a m plan w =
+    record { records = w.newer ++ []; earlier = w.earlier; is = w.is ∙ ap (last_change a) (sym (append-nil w.newer)); follows = w.follows }
 answered_whole (Err e) g to a m plan w = tt
 
 -- the bytes of records are those of their items

@@ -1,134 +1,104 @@
 -- What instructions do in a state they do in another one, where their loads and stores have no byte in which the two
 -- differ.
-use Rattle.std.proofs.Common.{◌≡◌, ℕ, suc, ◌+◌, ◌%◌, ◌<◌, Bool, true, false, cond, List, [], ◌∷◌, ◌++◌, length, Option, Some, None, refl, sym, ap, ◌∙◌, subst, inl, arith}
-use Rattle.std.proofs.lemmas.Bool.{or_from}
-use Rattle.std.specs.Prelude.{◌==◌}
+use Rattle.std.proofs.Common.{◌≡◌, ℕ, ◌+◌, Bool, true, false, cond, ◌||◌, ◌&&◌, List, [], ◌∷◌, Option, Some, None, refl, sym, ap, ◌∙◌, subst, inl, arith}
+use Rattle.std.specs.Prelude.{not}
 use Rattle.std.specs.Option.{is_some}
+use Rattle.std.proofs.lemmas.Bool.{both_ways, false_from_ne_true}
 use Rattle.i9_isa.specs.declared.size.Size.{Size}
 use Rattle.i9_isa.specs.declared.size.Direction.{Direction}
 use Rattle.i9_isa.specs.declared.size.Direction.TheVariants.{Load, Store}
 use Rattle.i9_isa.specs.declared.size.Transfer.{Transfer}
 use Rattle.i9_isa.specs.declared.inst.Inst.{Inst}
 use Rattle.i9_isa.specs.Transfers.{transfer_of, byte_count}
-use Rattle.i9_isa.specs.Words.{bit}
-use Rattle.i9_model.specs.Writes.{wrapped, upwards}
+use Rattle.i9_model.specs.Writes.{wrapped}
 use Rattle.i9_model.specs.Frames.{in_bytes, has, is_put}
 use Rattle.i9_model.specs.Stale.{stored_marks}
 use Rattle.i9_model.specs.State.{State}
 use Rattle.i9_model.specs.Operands.{address}
 use Rattle.i9_model.specs.Access.{Access, access_by, access_of, data_of, moved_access}
+use Rattle.i9_model.specs.Alike.{with_memory}
 use Rattle.i9_model.specs.Step.{Action, stored_of, moving, action_by, action_of}
+use Rattle.i9_model.proofs.Among.{IsAmong, bytes-among}
+use Rattle.i9_model.proofs.Lengths.{stored_long, marks_long}
+use Rattle.i9_model.proofs.Runs.{is_put-upwards}
+use Rattle.i9_model.proofs.SavedMarks.{picked-among}
 use Rattle.i9_model.proofs.Storing.{stored_agree, stored_kept}
-use Rattle.i9_tune.specs.Deeds.{Deed}
-use Rattle.i9_tune.specs.Passes.{MissesBytes, Passes, stepped, port_bytes, ArePassed, behind, sent}
+use Rattle.i9_tune.specs.Deeds.{Deed, DoesSame}
+use Rattle.i9_tune.specs.Passes.{MissesBytes, stepped, ArePassed, behind, sent}
 use Rattle.i9_tune.specs.Orders.{AreAllowed}
 use Rattle.i9_tune.specs.Standings.{DiffersIn}
-use Rattle.i9_model.proofs.Lengths.{stored_long, marks_long}
-use Rattle.i9_tune.proofs.Marked.{beside, bytes_beside}
 use Rattle.i9_tune.proofs.Sources.{Agree, IsAllowed, allowed_parts, does_same}
-use Rattle.i9_tune.proofs.Swaps.{after_deed, stepped_by, same_here, port_by, fate_of, passes_by}
+use Rattle.i9_tune.proofs.Swaps.{after_deed, stepped_by, own_deed, own_step, port_by, Fate, fate_of, passes_by}
 
 -- ---- a store beside the area leaves it
 
-not_put : (test : ℕ → Bool) (a : ℕ) (bs : List ℕ) (x : ℕ) → test x ≡ true → ((k : ℕ) → k < length bs → test (wrapped (a + k)) ≡ false) → is_put (upwards a bs) x ≡ false
-unfolding is_put
-not_put test a [] x h miss = refl
-not_put test a (b ∷ bs) x h miss =
-    let here : wrapped (a + 0) ≡ wrapped a = omega arith in
-    let first : test (wrapped a) ≡ false = sym (ap test here) ∙ miss 0 (omega arith) in
-    let later : (k : ℕ) → k < length bs → test (wrapped (a + 1 + k)) ≡ false = λ k l. (let e : wrapped (a + 1 + k) ≡ wrapped (a + suc k) = omega arith in ap test e ∙ miss (suc k) (omega (arith, l))) in
-    or_from (x == wrapped a) (is_put (upwards (a + 1) bs) x) (beside test x (wrapped a) (x == wrapped a) refl h first) (not_put test (a + 1) bs x h later)
+-- a byte of the area is none of an access that misses it
+missed : (area : ℕ × ℕ) (a n x : ℕ) → MissesBytes (Some (a, n)) area → in_bytes area.0 area.1 x ≡ true → IsAmong a n x → ⊥
+missed area a n x miss h among = both_ways (in_bytes area.0 area.1 x) (ap (in_bytes area.0 area.1) among.2 ∙ miss among.0 among.1) h
 
-moving_beside : (area : ℕ × ℕ) (d : Direction) (size : Size) (signed : Bool) (i : Inst) (s : State) (x : ℕ) → MissesBytes (data_of (moved_access d (address s i.ea) (byte_count size))) area → in_bytes area.0 area.1 x ≡ true
-    → is_put (moving d size signed i s).writes x ≡ false
-unfolding is_put
-moving_beside area Load size signed i s x miss h = refl
-moving_beside area Store size signed i s x miss h =
-    let long = stored_long size s i.c (address s i.ea) in
-    not_put (in_bytes area.0 area.1) (address s i.ea) (stored_of size s i.c (address s i.ea)) x h (λ k l. miss k (omega (arith, long, l)))
+-- the byte is not written, and does not get soft
+abbrev pub LeavesByte : ℕ → Action → Type 0
+LeavesByte x a = (is_put a.writes x ≡ false) × (has a.stale x ≡ false)
 
-none_put : (x : ℕ) → is_put [] x ≡ false
+moving_leaves : (area : ℕ × ℕ) (d : Direction) (size : Size) (signed : Bool) (i : Inst) (s : State) (x : ℕ) → MissesBytes (data_of (moved_access d (address s i.ea) (byte_count size))) area → in_bytes area.0 area.1 x ≡ true
+    → LeavesByte x (moving d size signed i s)
 unfolding is_put
-none_put x = refl
+moving_leaves area Load size signed i s x miss h = (refl, refl)
+moving_leaves area Store size signed i s x miss h =
+    let a = address s i.ea in
+    let bytes = stored_of size s i.c a in
+    let put = is_put-upwards a bytes x ∙ ap (λ (n : ℕ). in_bytes a n x) (stored_long size s i.c a) in
+    let long = marks_long size s i.c in (
+      false_from_ne_true _ (λ t. missed area a (byte_count size) x miss h (bytes-among a (byte_count size) x (sym put ∙ t))),
+      false_from_ne_true _ (λ t. let p = picked-among a (stored_marks size s i.c) x t in missed area a (byte_count size) x miss h (p.0, omega (arith, p.1, long), p.2)),
+    )
 
-pub writes_beside : (area : ℕ × ℕ) (i : Inst) (s : State) (x : ℕ) → IsAllowed i → MissesBytes (data_of (access_of i s)) area → in_bytes area.0 area.1 x ≡ true → is_put (action_of i s).writes x ≡ false
-unfolding action_of
-writes_beside area i s x ok miss h = by_transfer (transfer_of i.op) refl
+pub leaves_byte : (area : ℕ × ℕ) (i : Inst) (s : State) (x : ℕ) → IsAllowed i → MissesBytes (data_of (access_of i s)) area → in_bytes area.0 area.1 x ≡ true → LeavesByte x (action_of i s)
+unfolding action_of is_put
+leaves_byte area i s x ok miss h = by_transfer (transfer_of i.op) refl
   where
-    by_transfer : (o : Option Transfer) → transfer_of i.op ≡ o → is_put (action_by (transfer_of i.op) i s).writes x ≡ false
+    by_transfer : (o : Option Transfer) → transfer_of i.op ≡ o → LeavesByte x (action_by (transfer_of i.op) i s)
     by_transfer (Some m) e =
-        ap (λ (o : Option Transfer). is_put (action_by o i s).writes x) e
-        ∙ moving_beside area m.direction m.size m.signed i s x (subst (λ (o : Option Transfer). MissesBytes (data_of (access_by o i s)) area) e miss) h
+        subst (λ (o : Option Transfer). LeavesByte x (action_by o i s)) (sym e)
+        (moving_leaves area m.direction m.size m.signed i s x (subst (λ (o : Option Transfer). MissesBytes (data_of (access_by o i s)) area) e miss) h)
     by_transfer None e =
-        let y = does_same i s s ok (same_here i s) in
-        ap (λ (a : Action). is_put a.writes x) y.here ∙ ap (λ (ws : List (ℕ × ℕ)). is_put ws x) (y.quiet (ap is_some e)) ∙ none_put x
+        let y = own_deed i s ok in
+        subst (LeavesByte x) (sym y.here) (rw (y.quiet (ap is_some e), y.clean (ap is_some e)) (refl, refl))
 
--- nor does a byte of the area get soft
-moving_clean : (area : ℕ × ℕ) (d : Direction) (size : Size) (signed : Bool) (i : Inst) (s : State) (x : ℕ) → MissesBytes (data_of (moved_access d (address s i.ea) (byte_count size))) area → in_bytes area.0 area.1 x ≡ true
-    → has (moving d size signed i s).stale x ≡ false
-moving_clean area Load size signed i s x miss h = refl
-moving_clean area Store size signed i s x miss h =
-    bytes_beside (in_bytes area.0 area.1) (address s i.ea) (byte_count size) (stored_marks size s i.c) x (marks_long size s i.c) h miss
-
-pub stale_beside : (area : ℕ × ℕ) (i : Inst) (s : State) (x : ℕ) → IsAllowed i → MissesBytes (data_of (access_of i s)) area → in_bytes area.0 area.1 x ≡ true → has (action_of i s).stale x ≡ false
-unfolding action_of
-stale_beside area i s x ok miss h = by_transfer (transfer_of i.op) refl
-  where
-    by_transfer : (o : Option Transfer) → transfer_of i.op ≡ o → has (action_by (transfer_of i.op) i s).stale x ≡ false
-    by_transfer (Some m) e =
-        ap (λ (o : Option Transfer). has (action_by o i s).stale x) e
-        ∙ moving_clean area m.direction m.size m.signed i s x (subst (λ (o : Option Transfer). MissesBytes (data_of (access_by o i s)) area) e miss) h
-    by_transfer None e =
-        let y = does_same i s s ok (same_here i s) in
-        ap (λ (a : Action). has a.stale x) y.here ∙ ap (λ (ws : List ℕ). has ws x) (y.clean (ap is_some e))
+-- nor is it another one, or softer, behind the instruction
+pub byte_kept : (area : ℕ × ℕ) (i : Inst) (s : State) (x : ℕ) → IsAllowed i → MissesBytes (data_of (access_of i s)) area → in_bytes area.0 area.1 x ≡ true
+    → ((stepped i s).memory.bytes x ≡ s.memory.bytes x) × ((stepped i s).frames.soft x ≡ s.frames.soft x)
+byte_kept area i s x ok miss h =
+    let y = own_deed i s ok in
+    let beside = subst (LeavesByte x) y.here (leaves_byte area i s x ok miss h) in
+    let step = own_step i s ok in
+    let soft : (has y.deed.stale x || (s.frames.soft x && not (is_put y.deed.writes x))) ≡ s.frames.soft x = grind (arith, beside.0, beside.1) in
+    (ap (λ (t : State). t.memory.bytes x) step ∙ stored_kept s.memory.bytes y.deed.writes x (inl beside.0), ap (λ (t : State). t.frames.soft x) step ∙ soft)
 
 -- ---- one instruction
 
-agree_there : (area : ℕ × ℕ) (i : Inst) (s t : State) → DiffersIn area s t → MissesBytes (data_of (access_of i s)) area → Agree i s t
-agree_there area i s t differs miss = record {
-  regs = λ k h. sym (ap (λ (u : State). u.regs k) differs.rest);
-  marks = λ k h. sym (ap (λ (u : State). u.marks k) differs.rest);
-  code = λ h. sym (ap (λ (u : State). u.ac % 8) differs.rest);
+-- other bytes in the area
+agree_with : (area : ℕ × ℕ) (i : Inst) (s : State) (bytes : ℕ → ℕ) → ((x : ℕ) → in_bytes area.0 area.1 x ≡ false → bytes x ≡ s.memory.bytes x) → MissesBytes (data_of (access_of i s)) area
+    → Agree i s (with_memory s bytes)
+agree_with area i s bytes same miss = record {
+  regs = λ k h. refl;
+  marks = λ k h. refl;
+  code = λ h. refl;
   beside = record {
-    mask = sym (ap (λ (u : State). bit u.ac 12) differs.rest);
-    orders = sym (ap (λ (u : State). u.memory.mcon) differs.rest);
+    mask = refl;
+    orders = refl;
     bytes = λ a n reads k h.
         let x = wrapped (a + k) in
-        sym (ap (λ (u : State). cond (u.frames.soft x) (u.reading (t.memory.bytes x)) (t.memory.bytes x)) differs.rest
-        ∙ ap (λ (b : ℕ). cond (s.frames.soft x) (s.reading b) b) (differs.bytes x (subst (λ (x : Access). MissesBytes (data_of x) area) reads miss k h)));
-    soft = λ a n reads k h. sym (ap (λ (u : State). u.frames.soft (wrapped (a + k))) differs.rest);
+        ap (λ (b : ℕ). cond (s.frames.soft x) (s.reading b) b) (sym (same x (subst (λ (y : Access). MissesBytes (data_of y) area) reads miss k h)));
+    soft = λ a n reads k h. refl;
   };
 }
-
--- where two states differ in the area alone, and what is done in both
-pub record Carries (area : ℕ × ℕ) (i : Inst) (s t : State) : Type 0 where
-  pub passes : Passes area i t
-  pub state : DiffersIn area (stepped i s) (stepped i t)
-  pub kept : (x : ℕ) → in_bytes area.0 area.1 x ≡ true → (stepped i t).memory.bytes x ≡ t.memory.bytes x
-  pub port : port_bytes i t ≡ port_bytes i s
 
 after_differs : (area : ℕ × ℕ) (i : Inst) (s t : State) (d : Deed) → DiffersIn area s t → DiffersIn area (after_deed i s d) (after_deed i t d)
 after_differs area i s t d differs = record {
   rest = ap (λ (u : State). after_deed i u d) differs.rest;
   bytes = λ x h. stored_agree t.memory.bytes s.memory.bytes d.writes x (λ e. differs.bytes x h) (λ e. differs.bytes x h);
 }
-
-pub carries : (area : ℕ × ℕ) (i : Inst) (s t : State) → IsAllowed i → DiffersIn area s t → Passes area i s → Carries area i s t
-carries area i s t ok differs passes =
-    let x = does_same i s t ok (agree_there area i s t differs passes.misses) in
-    let fate = fate_of i s t ok x (sym (ap (λ (u : State). u.pc) differs.rest)) (sym (ap (λ (u : State). u.trace) differs.rest)) (sym (ap (λ (u : State). u.tables) differs.rest)) (sym (ap (λ (u : State). u.memory.mcon) differs.rest))
-    (λ h. sym (ap (λ (u : State). u.frames) differs.rest)) in
-    let there = passes_by area i s t fate passes in
-    let step = stepped_by i t x.deed x.there in
-    record {
-      passes = there;
-      state = subst (DiffersIn area (stepped i s)) (sym step) (subst (λ (u : State). DiffersIn area u (after_deed i t x.deed)) (sym (stepped_by i s x.deed x.here)) (after_differs area i s t x.deed differs));
-      kept = λ y h. ap (λ (u : State). u.memory.bytes y) step
-          ∙ stored_kept t.memory.bytes x.deed.writes y (inl (sym (ap (λ (a : Action). is_put a.writes y) x.there) ∙ writes_beside area i t y ok there.misses h));
-      port = port_by i t x.deed x.there ∙ sym (port_by i s x.deed x.here);
-    }
-
--- ---- all
 
 pub record AllCarried (area : ℕ × ℕ) (is : List Inst) (s t : State) : Type 0 where
   pub passed : ArePassed area is t
@@ -139,11 +109,16 @@ pub record AllCarried (area : ℕ × ℕ) (is : List Inst) (s t : State) : Type 
 pub all_carried : (area : ℕ × ℕ) (is : List Inst) (s t : State) → AreAllowed is → DiffersIn area s t → ArePassed area is s → AllCarried area is s t
 all_carried area [] s t ok differs passed = record { passed = tt; state = differs; kept = λ x h. refl; port = refl }
 all_carried area (i ∷ is) s t ok differs passed =
-    let one = carries area i s t (allowed_parts i ok.0) differs passed.0 in
-    let rest = all_carried area is (stepped i s) (stepped i t) ok.1 one.state passed.1 in
+    let allowed = allowed_parts i ok.0 in
+    let other = with_memory s t.memory.bytes in
+    let y = does_same i s other allowed (agree_with area i s t.memory.bytes differs.bytes passed.0.misses) in
+    let there = passes_by area i s t (subst (Fate i s) (sym differs.rest) (fate_of i s other allowed y refl refl refl refl (λ h. refl))) passed.0 in
+    let x = subst (DoesSame i s) (sym differs.rest) y in
+    let state : DiffersIn area (stepped i s) (stepped i t) = rw (stepped_by i t x.deed x.there, stepped_by i s x.deed x.here) (after_differs area i s t x.deed differs) in
+    let rest = all_carried area is (stepped i s) (stepped i t) ok.1 state passed.1 in
     record {
-      passed = (one.passes, rest.passed);
+      passed = (there, rest.passed);
       state = rest.state;
-      kept = λ x h. rest.kept x h ∙ one.kept x h;
-      port = ap (λ (ps : List (ℕ × ℕ)). ps ++ sent is (stepped i t)) one.port ∙ ap (λ (ps : List (ℕ × ℕ)). port_bytes i s ++ ps) rest.port;
+      kept = λ z h. rest.kept z h ∙ (byte_kept area i t z allowed there.misses h).0;
+      port = rw (port_by i t x.deed x.there, port_by i s x.deed x.here, rest.port) refl;
     }

@@ -1,7 +1,6 @@
 -- The instruction that is to be taken, as more of those that are left are looked at.
-use Rattle.std.proofs.Common.{◌≡◌, ℕ, ◌+◌, ◌<◌, ◌≤◌, true, false, List, [], ◌∷◌, ◌++◌, length, take, slice_index_or, refl, sym, ap, ◌∙◌, subst, arith}
+use Rattle.std.proofs.Common.{◌≡◌, ℕ, ◌+◌, ◌<◌, ◌≤◌, true, List, [], ◌∷◌, ◌++◌, length, take, slice_index_or, refl, sym, ap, ◌∙◌, subst, arith}
 use Rattle.std.proofs.lemmas.List.{append-nil, append_assoc, take_more, length-take-le}
-use Rattle.std.proofs.lemmas.Bool.{both_ways}
 use Rattle.i9_model.specs.declared.need.Need.{Need}
 use Rattle.i9_model.specs.Turns.{issue_turn, last_issue}
 use Rattle.i9_isa.specs.declared.inst.Inst.{Inst}
@@ -83,33 +82,25 @@ best_changes taken xs best least y turn b free is less =
 
 -- ---- in a list of which more and more is looked at
 
-issue_of : (taken : List Inst) (i : Inst) (n : Need) (turn : ℕ) → n ≡ plain_need i → turn ≡ issue_turn (last_issue (turns_of taken)) (turns_of taken) n → turn ≡ next_issue taken i
-issue_of taken i n turn e is = is ∙ ap (λ (m : Need). issue_turn (last_issue (turns_of taken)) (turns_of taken) m) e
+pub issue_of : (taken left : List Inst) (k : ℕ) (d : Inst) (n : Need) (turn : ℕ) → n ≡ plain_need (slice_index_or left k d) → turn ≡ issue_turn (last_issue (turns_of taken)) (turns_of taken) n
+    → turn ≡ next_issue taken (slice_index_or left k d)
+issue_of taken left k d n turn e is = is ∙ ap (λ (m : Need). issue_turn (last_issue (turns_of taken)) (turns_of taken) m) e
 
-pub look_first : (taken left : List Inst) (d : Inst) (n : Need) (least : ℕ) → 0 < length left → n ≡ plain_need (slice_index_or left 0 d)
-    → least ≡ issue_turn (last_issue (turns_of taken)) (turns_of taken) n → IsBest taken (take 1 left) 0 least
-look_first taken left d n least some e is =
-    subst (λ (xs : List Inst). IsBest taken xs 0 least) (sym (take_more left 0 d some)) (first_best taken (slice_index_or left 0 d) least (issue_of taken (slice_index_or left 0 d) n least e is))
+module _ (taken left : List Inst) (k : ℕ) (d : Inst) (within : k < length left) where
+  looked : (best least : ℕ) → IsBest taken (take k left ++ slice_index_or left k d ∷ []) best least → IsBest taken (take (k + 1) left) best least
+  looked best least b = subst (λ (xs : List Inst). IsBest taken xs best least) (sym (take_more left k d within)) b
 
-pub look_same : (taken left : List Inst) (k : ℕ) (d : Inst) (n : Need) (turn best least : ℕ) → k < length left → n ≡ plain_need (slice_index_or left k d)
-    → turn ≡ issue_turn (last_issue (turns_of taken)) (turns_of taken) n → least ≤ turn → IsBest taken (take k left) best least → IsBest taken (take (k + 1) left) best least
-look_same taken left k d n turn best least within e is le b =
-    subst (λ (xs : List Inst). IsBest taken xs best least) (sym (take_more left k d within))
-    (best_stays taken (take k left) best least (slice_index_or left k d) b (λ f. subst (λ (t : ℕ). least ≤ t) (issue_of taken (slice_index_or left k d) n turn e is) le))
+  -- one that is not free, or does not issue earlier
+  pub look_past : (best least : ℕ) → IsBest taken (take k left) best least → (is_free (take k left) (slice_index_or left k d) ≡ true → least ≤ next_issue taken (slice_index_or left k d))
+      → IsBest taken (take (k + 1) left) best least
+  look_past best least b past = looked best least (best_stays taken (take k left) best least (slice_index_or left k d) b past)
 
-pub look_bound : (taken left : List Inst) (k : ℕ) (d : Inst) (best least : ℕ) → k < length left → is_free (take k left) (slice_index_or left k d) ≡ false
-    → IsBest taken (take k left) best least → IsBest taken (take (k + 1) left) best least
-look_bound taken left k d best least within bound b =
-    subst (λ (xs : List Inst). IsBest taken xs best least) (sym (take_more left k d within))
-    (best_stays taken (take k left) best least (slice_index_or left k d) b (λ f. absurd (both_ways (is_free (take k left) (slice_index_or left k d)) bound f)))
+  pub look_better : (turn best least : ℕ) → IsBest taken (take k left) best least → is_free (take k left) (slice_index_or left k d) ≡ true → turn ≡ next_issue taken (slice_index_or left k d) → turn < least
+      → IsBest taken (take (k + 1) left) k turn
+  look_better turn best least b free is less =
+      let long : length (take k left) ≡ k = length-take-le k left (omega (arith, within)) in
+      looked k turn (subst (λ (p : ℕ). IsBest taken (take k left ++ slice_index_or left k d ∷ []) p turn) long
+      (best_changes taken (take k left) best least (slice_index_or left k d) turn b free is less))
 
-pub look_better : (taken left : List Inst) (k : ℕ) (d : Inst) (n : Need) (turn best least : ℕ) → k < length left → is_free (take k left) (slice_index_or left k d) ≡ true → n ≡ plain_need (slice_index_or left k d)
-    → turn ≡ issue_turn (last_issue (turns_of taken)) (turns_of taken) n → turn < least → IsBest taken (take k left) best least → IsBest taken (take (k + 1) left) k turn
-look_better taken left k d n turn best least within free e is less b =
-    let long : length (take k left) ≡ k = length-take-le k left (omega (arith, within)) in
-    subst (λ (xs : List Inst). IsBest taken xs k turn) (sym (take_more left k d within))
-    (subst (λ (p : ℕ). IsBest taken (take k left ++ slice_index_or left k d ∷ []) p turn) long
-    (best_changes taken (take k left) best least (slice_index_or left k d) turn b free (issue_of taken (slice_index_or left k d) n turn e is) less))
-
-pub best_same : (taken xs : List Inst) (best least p q : ℕ) → p ≡ best → q ≡ least → IsBest taken xs best least → IsBest taken xs p q
-best_same taken xs best least p q e f b = subst (λ (k : ℕ). IsBest taken xs k q) (sym e) (subst (λ (t : ℕ). IsBest taken xs best t) (sym f) b)
+pub look_first : (taken left : List Inst) (d : Inst) (least : ℕ) → 0 < length left → least ≡ next_issue taken (slice_index_or left 0 d) → IsBest taken (take 1 left) 0 least
+look_first taken left d least some is = looked taken left 0 d some 0 least (first_best taken (slice_index_or left 0 d) least is)

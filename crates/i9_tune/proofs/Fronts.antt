@@ -1,9 +1,9 @@
 -- One more instruction before others.
-use Rattle.std.proofs.Common.{◌≡◌, ℕ, ◌+◌, ◌<◌, Bool, true, false, ◌||◌, ◌&&◌, max, List, [], ◌∷◌, ◌++◌, length, take, slice_index_or, refl, sym, ap, ◌∙◌, subst, arith}
+use Rattle.std.proofs.Common.{◌≡◌, ℕ, ◌+◌, ◌<◌, Bool, false, ◌||◌, ◌&&◌, max, List, [], ◌∷◌, ◌++◌, length, take, slice_index_or, refl, sym, ap, ◌∙◌, subst, arith}
 use Rattle.i9_model.proofs.KeptBits.{and_or}
 use Rattle.std.specs.Prelude.{◌==◌, not, bit_and, bit_or}
 use Rattle.std.specs.Int.{bit_at}
-use Rattle.std.proofs.lemmas.Bool.{both_ways, eqb-true, eq-eqb}
+use Rattle.std.proofs.lemmas.Bool.Decides.{nat_tests}
 use Rattle.std.proofs.lemmas.Nat.{and_comm, or_comm}
 use Rattle.std.proofs.lemmas.Nat.Bits.{bit_at_or, bit_at-zero, same_from_bits}
 use Rattle.std.proofs.lemmas.List.{take_more}
@@ -25,19 +25,17 @@ first_zero a b h = same_from_bits a 0 (λ k.
     let zero : bit_at a k ≡ 0 = omega (arith, none) in
     zero ∙ sym (bit_at-zero k))
 
-share_or : (x y u : ℕ) → share (bit_or x y) u ≡ (share x u || share y u)
-share_or x y u = ap (λ (n : ℕ). not (n == 0)) (and_or x y u) ∙ by_tests (bit_and x u) (bit_and y u) (bit_and x u == 0) (bit_and y u == 0) refl refl
-  where
-    left : (a b : ℕ) (p : Bool) → (a == 0) ≡ false → (bit_or a b == 0) ≡ p → not (bit_or a b == 0) ≡ true
-    left a b true e f = absurd (both_ways (a == 0) e (eq-eqb a 0 (first_zero a b (eqb-true (bit_or a b) 0 f))))
-    left a b false e f = ap not f
+second_zero : (a b : ℕ) → bit_or a b ≡ 0 → b ≡ 0
+second_zero a b h = first_zero b a (or_comm b a ∙ h)
 
-    by_tests : (a b : ℕ) (p q : Bool) → (a == 0) ≡ p → (b == 0) ≡ q → not (bit_or a b == 0) ≡ (not (a == 0) || not (b == 0))
-    by_tests a b true true e f = rw (eqb-true a 0 e, eqb-true b 0 f) refl
-    by_tests a b false q e f = left a b (bit_or a b == 0) e refl ∙ sym (ap (λ (p : Bool). not p || not (b == 0)) e)
-    by_tests a b true false e f =
-        ap (λ (n : ℕ). not (n == 0)) (or_comm a b) ∙ left b a (bit_or b a == 0) f refl
-        ∙ sym (ap (λ (p : Bool). not p || not (b == 0)) e ∙ ap not f)
+both_zero : (a b : ℕ) → a ≡ 0 → b ≡ 0 → bit_or a b ≡ 0
+both_zero a b e f = rw (e, f) refl
+
+share_or : (x y u : ℕ) → share (bit_or x y) u ≡ (share x u || share y u)
+share_or x y u = ap (λ (n : ℕ). not (n == 0)) (and_or x y u) ∙ by_parts (bit_and x u) (bit_and y u)
+  where
+    by_parts : (a b : ℕ) → not (bit_or a b == 0) ≡ (not (a == 0) || not (b == 0))
+    by_parts a b = grind (arith, nat_tests, first_zero a b, second_zero a b, both_zero a b)
 
 share_with : (u x y : ℕ) → share u (bit_or x y) ≡ (share u x || share u y)
 share_with u x y =
@@ -47,21 +45,7 @@ share_with u x y =
 -- ---- one more
 
 regroup : (a b c d p q r : Bool) → ((a || b) || (c || d) || ((p || q) && r)) ≡ ((a || c || (p && r)) || ((b || d || (q && r)) || false))
-regroup true b c d p q r = refl
-regroup false true true d p q r = refl
-regroup false true false d false q r = refl
-regroup false true false d true q true = refl
-regroup false true false d true q false = refl
-regroup false false true d p q r = refl
-regroup false false false true false q r = refl
-regroup false false false true true q true = refl
-regroup false false false true true q false = refl
-regroup false false false false false false r = refl
-regroup false false false false false true true = refl
-regroup false false false false false true false = refl
-regroup false false false false true q true = refl
-regroup false false false false true false false = refl
-regroup false false false false true true false = refl
+regroup a b c d p q r = grind arith
 
 -- the front with an instruction more that needs this
 abbrev pub with_need : Front → Need → Front
@@ -80,11 +64,10 @@ none_bound i = nothing (plain_need i)
 pub one_more : (before : List Inst) (i : Inst) (f : Front) (n : Need) → IsFront before f → n ≡ plain_need i → IsFront (before ++ i ∷ []) (with_need f n)
 one_more before i f n front e j =
     let m = plain_need j in
+    let p = plain_need i in
     let here : binds (with_need f n) m ≡ (binds f m || (depends i j || false)) =
-    ap (λ (b : Bool). b || share m.writes (bit_or f.touched (bit_or n.reads n.writes)) || ((f.request || n.request) && m.request)) (share_or f.written n.writes (bit_or m.reads m.writes))
-    ∙ ap (λ (b : Bool). (share f.written (bit_or m.reads m.writes) || share n.writes (bit_or m.reads m.writes)) || b || ((f.request || n.request) && m.request)) (share_with m.writes f.touched (bit_or n.reads n.writes))
-    ∙ regroup (share f.written (bit_or m.reads m.writes)) (share n.writes (bit_or m.reads m.writes)) (share m.writes f.touched) (share m.writes (bit_or n.reads n.writes)) f.request n.request m.request
-    ∙ ap (λ (k : Need). binds f m || ((share k.writes (bit_or m.reads m.writes) || share m.writes (bit_or k.reads k.writes) || (k.request && m.request)) || false)) e in
+    rw (share_or f.written n.writes (bit_or m.reads m.writes), share_with m.writes f.touched (bit_or n.reads n.writes), e)
+    (regroup (share f.written (bit_or m.reads m.writes)) (share p.writes (bit_or m.reads m.writes)) (share m.writes f.touched) (share m.writes (bit_or p.reads p.writes)) f.request p.request m.request) in
     here ∙ ap (λ (b : Bool). b || (depends i j || false)) (front j) ∙ sym (list_any-append (λ (x : Inst). depends x j) before (i ∷ []))
 
 -- ---- what a front says

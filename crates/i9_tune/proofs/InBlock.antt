@@ -22,26 +22,20 @@ put_more block i (Ok is) = ap (λ (js : List Inst). Ok js) (sym (append_assoc bl
 put_more block i (Err fault) = refl
 
 -- what comes next
-next_read : (loaded : ℕ → Option ℕ) (n a k : ℕ) (block : List Inst) (at : ℕ) (r : Result Inst Flaw) → k < n → r ≡ inst_at loaded at → IsRead loaded n a k block at
+pub next_read : (loaded : ℕ → Option ℕ) (n a k : ℕ) (block : List Inst) (at : ℕ) (r : Result Inst Flaw) → k < n → r ≡ inst_at loaded at → IsRead loaded n a k block at
     → block_at loaded n a ≡ put_all block (block_by at r (λ i. block_at loaded (n - (k + 1)) (wrapped (at + 4 * words_of i))))
 unfolding block_at
 next_read loaded n a k block at r lt is read =
     let left : n - k ≡ suc (n - (k + 1)) = omega (arith, lt) in
-    read ∙ ap (λ (m : ℕ). put_all block (block_at loaded m at)) left
-    ∙ ap (λ (q : Result Inst Flaw). put_all block (block_by at q (λ i. block_at loaded (n - (k + 1)) (wrapped (at + 4 * words_of i))))) (sym is)
+    read ∙ rw (left, is) refl
 
 pub one_read : (loaded : ℕ → Option ℕ) (n a k : ℕ) (block : List Inst) (at next : ℕ) (i : Inst) → k < n → Ok i ≡ inst_at loaded at → next ≡ wrapped (at + 4 * words_of i) → IsRead loaded n a k block at
     → IsRead loaded n a (k + 1) (block ++ i ∷ []) next
 one_read loaded n a k block at next i lt is there read =
-    next_read loaded n a k block at (Ok i) lt is read ∙ put_more block i (block_at loaded (n - (k + 1)) (wrapped (at + 4 * words_of i)))
-    ∙ ap (λ (x : ℕ). put_all (block ++ i ∷ []) (block_at loaded (n - (k + 1)) x)) (sym there)
-
-pub fault_read : (loaded : ℕ → Option ℕ) (n a k : ℕ) (block : List Inst) (at : ℕ) (flaw : Flaw) → k < n → Err flaw ≡ inst_at loaded at → IsRead loaded n a k block at
-    → block_at loaded n a ≡ Err (record { flaw = flaw; address = at })
-fault_read loaded n a k block at flaw lt is read = next_read loaded n a k block at (Err flaw) lt is read
+    next_read loaded n a k block at (Ok i) lt is read ∙ rw there (put_more block i (block_at loaded (n - (k + 1)) (wrapped (at + 4 * words_of i))))
 
 pub all_read : (loaded : ℕ → Option ℕ) (n a k : ℕ) (block : List Inst) (at : ℕ) → n ≤ k → IsRead loaded n a k block at → block_at loaded n a ≡ Ok block
 unfolding block_at
 all_read loaded n a k block at le read =
     let none : n - k ≡ 0 = omega (arith, le) in
-    read ∙ ap (λ (m : ℕ). put_all block (block_at loaded m at)) none ∙ ap (λ (is : List Inst). Ok is) (append-nil block)
+    read ∙ rw (none, append-nil) refl

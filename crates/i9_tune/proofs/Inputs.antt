@@ -1,6 +1,6 @@
 -- A result sees the words that its name reads, and of the controls bit 12 and the condition code where it is read.
 use Rattle.std.proofs.Common.{◌≡◌, ℕ, ◌+◌, ◌/◌, ◌%◌, ◌^◌, ◌<◌, Bool, true, false, cond, List, [], ◌∷◌, Option, Some, None, refl, sym, ap, ◌∙◌, subst, arith, ℤ}
-use Rattle.std.proofs.lemmas.Bool.{ltb-true}
+use Rattle.std.proofs.lemmas.Bool.Decides.{nat_tests}
 use Rattle.std.specs.Prelude.{◌==◌, nat_lt, nat_le, not, bit_or, bit_and, slice_index, ◌+ℤ◌, ◌-ℤ◌, ◌*ℤ◌, pos, int_lt}
 use Rattle.std.specs.Int.RustNames.{int_div, int_rem}
 use Rattle.i9_isa.specs.declared.op.Op.{Op}
@@ -30,34 +30,17 @@ reads_used Addi a b c ac = refl
 reads_used _ a b c ac = refl
 
 used_same : (n k w v : ℕ) → (k < n → w ≡ v) → used n k w ≡ used n k v
-used_same n k w v same = by_test (nat_lt k n) refl
-  where
-    by_test : (b : Bool) → nat_lt k n ≡ b → cond b w 0 ≡ cond b v 0
-    by_test true t = same (ltb-true k n t)
-    by_test false t = refl
+used_same n k w v same = grind (arith, nat_tests, same)
 
-four : (p q r s v w x y : ℕ) → p ≡ v → q ≡ w → r ≡ x → s ≡ y → p ∷ q ∷ r ∷ s ∷ [] ≡ v ∷ w ∷ x ∷ y ∷ []
-four p q r s v w x y h i j k = rw (h, i, j, k) refl
+all_same : (n : ℕ) (a x : List ℕ) → IsSameWords n a x → all_used n a ≡ all_used n x
+all_same n a x same = cc (
+  used_same n 0 (slice_index a 0) (slice_index x 0) (same 0),
+  used_same n 1 (slice_index a 1) (slice_index x 1) (same 1),
+  used_same n 2 (slice_index a 2) (slice_index x 2) (same 2),
+  used_same n 3 (slice_index a 3) (slice_index x 3) (same 3),
+)
 
--- the same words, so many of four
-pub record Four (n : ℕ) (a x : List ℕ) : Type 0 where
-  pub first : 0 < n → slice_index a 0 ≡ slice_index x 0
-  pub second : 1 < n → slice_index a 1 ≡ slice_index x 1
-  pub third : 2 < n → slice_index a 2 ≡ slice_index x 2
-  pub fourth : 3 < n → slice_index a 3 ≡ slice_index x 3
-
-pub four_same : (n : ℕ) (a x : List ℕ) → IsSameWords n a x → Four n a x
-four_same n a x same = record { first = same 0; second = same 1; third = same 2; fourth = same 3 }
-
-all_same : (n : ℕ) (a x : List ℕ) → Four n a x → all_used n a ≡ all_used n x
-all_same n a x same =
-    four _ _ _ _ _ _ _ _
-    (used_same n 0 (slice_index a 0) (slice_index x 0) same.first)
-    (used_same n 1 (slice_index a 1) (slice_index x 1) same.second)
-    (used_same n 2 (slice_index a 2) (slice_index x 2) same.third)
-    (used_same n 3 (slice_index a 3) (slice_index x 3) same.fourth)
-
-sources_same : (op : Op) (a b x y : List ℕ) (c z ac : ℕ) → Four (words_read (row_of op).a) a x → Four (words_read (row_of op).b) b y → (0 < words_read (row_of op).c → c ≡ z)
+sources_same : (op : Op) (a b x y : List ℕ) (c z ac : ℕ) → IsSameWords (words_read (row_of op).a) a x → IsSameWords (words_read (row_of op).b) b y → (0 < words_read (row_of op).c → c ≡ z)
     → results_by op a b c ac ≡ results_by op x y z ac
 sources_same op a b x y c z ac p q r =
     let e = all_same (words_read (row_of op).a) a x p in
@@ -77,16 +60,14 @@ coded_words : (op : Op) (vs : List ℕ) (n ac bc : ℕ) → writes_code op ≡ t
     → AreSame op ac bc (Some (words vs (with_code ac n))) (Some (words vs (with_code bc n)))
 coded_words op vs n ac bc w = record { values = refl; fault = refl; change = Codes n; here = refl; there = refl; coded = λ h. w }
 
-overflow_same : (op : Op) (b c d : Bool) (v ac bc : ℕ) → c ≡ d
-    → AreSame op ac bc (Some (cond b (cond c (word v (bit_or ac (2 ^ 8))) (faulting Overflow ac)) (word v ac))) (Some (cond b (cond d (word v (bit_or bc (2 ^ 8))) (faulting Overflow bc)) (word v bc)))
-overflow_same op true true true v ac bc e = record { values = refl; fault = refl; change = Flags; here = refl; there = refl; coded = λ h. absurd (cc h) }
-overflow_same op true false false v ac bc e = record { values = refl; fault = refl; change = Keeps; here = refl; there = refl; coded = λ h. absurd (cc h) }
-overflow_same op true true false v ac bc e = absurd (cc e)
-overflow_same op true false true v ac bc e = absurd (cc e)
-overflow_same op false c d v ac bc e = plain op (v ∷ []) ac bc
+overflow_same : (op : Op) (b c : Bool) (v ac bc : ℕ)
+    → AreSame op ac bc (Some (cond b (cond c (word v (bit_or ac (2 ^ 8))) (faulting Overflow ac)) (word v ac))) (Some (cond b (cond c (word v (bit_or bc (2 ^ 8))) (faulting Overflow bc)) (word v bc)))
+overflow_same op true true v ac bc = record { values = refl; fault = refl; change = Flags; here = refl; there = refl; coded = λ h. absurd (cc h) }
+overflow_same op true false v ac bc = record { values = refl; fault = refl; change = Keeps; here = refl; there = refl; coded = λ h. absurd (cc h) }
+overflow_same op false c v ac bc = plain op (v ∷ []) ac bc
 
 checked_same : (op : Op) (z : ℤ) (ac bc : ℕ) → bit ac 12 ≡ bit bc 12 → AreSame op ac bc (Some (checked z ac)) (Some (checked z bc))
-checked_same op z ac bc e = overflow_same op (not (fits z)) (bit ac 12) (bit bc 12) (reduced z) ac bc e
+checked_same op z ac bc e = rw (sym e) (overflow_same op (not (fits z)) (bit ac 12) (reduced z) ac bc)
 
 divided_same : (op : Op) (b : Bool) (o p : Answer) (ac bc : ℕ) → AreSame op ac bc (Some o) (Some p)
     → AreSame op ac bc (Some (cond b (faulting ZeroDivide ac) o)) (Some (cond b (faulting ZeroDivide bc) p))
@@ -101,14 +82,11 @@ unless_same : (op : Op) (b d : Bool) (n ac bc : ℕ) → b ≡ d → writes_code
     → AreSame op ac bc (Some (cond b (words [] ac) (code n ac))) (Some (cond d (words [] bc) (code n bc)))
 unless_same op true true n ac bc e w = plain op [] ac bc
 unless_same op false false n ac bc e w = coded_words op [] n ac bc w
-unless_same op true false n ac bc e w = absurd (cc e)
-unless_same op false true n ac bc e w = absurd (cc e)
+unless_same op _ _ n ac bc e w = absurd (cc e)
 
 carry_same : (op : Op) (x y k l ac bc : ℕ) → k ≡ l → writes_code op ≡ true
     → AreSame op ac bc (Some (word_and_code (wrapped (y + x + k)) (carry_code x y k) ac)) (Some (word_and_code (wrapped (y + x + l)) (carry_code x y l) bc))
-carry_same op x y k l ac bc e w =
-    subst (λ (m : ℕ). AreSame op ac bc (Some (word_and_code (wrapped (y + x + k)) (carry_code x y k) ac)) (Some (word_and_code (wrapped (y + x + m)) (carry_code x y m) bc))) e
-    (coded_words op (wrapped (y + x + k) ∷ []) (carry_code x y k) ac bc w)
+carry_same op x y k l ac bc e w = rw (sym e) (coded_words op (wrapped (y + x + k) ∷ []) (carry_code x y k) ac bc w)
 
 bit_one : (ac bc : ℕ) → ac % 8 ≡ bc % 8 → bit ac 1 ≡ bit bc 1
 bit_one ac bc e = ap (λ (n : ℕ). n == 1) (let h : ac / 2 % 2 ≡ bc / 2 % 2 = omega (arith, e) in h)
@@ -162,7 +140,7 @@ controls_same _ a b c ac bc r m = record { values = refl; fault = refl; change =
 
 -- ---- both
 
-pub result_same : (op : Op) (a b x y : List ℕ) (c z ac bc : ℕ) → Four (words_read (row_of op).a) a x → Four (words_read (row_of op).b) b y → (0 < words_read (row_of op).c → c ≡ z)
+pub result_same : (op : Op) (a b x y : List ℕ) (c z ac bc : ℕ) → IsSameWords (words_read (row_of op).a) a x → IsSameWords (words_read (row_of op).b) b y → (0 < words_read (row_of op).c → c ≡ z)
     → (reads_code op ≡ true → ac % 8 ≡ bc % 8) → bit ac 12 ≡ bit bc 12 → AreSame op ac bc (results_by op a b c ac) (results_by op x y z bc)
 result_same op a b x y c z ac bc p q r code m =
     subst (λ (o : Option Answer). AreSame op ac bc (results_by op a b c ac) o) (sources_same op a b x y c z bc p q r) (controls_same op a b c ac bc code m)

@@ -1,10 +1,9 @@
+pub mod Orders
 pub mod Inputs
 pub mod Marked
 pub mod Sources
 pub mod ReadRegisters
-pub mod Unmarked
 pub mod Swaps
-pub mod Taken
 pub mod Watched
 pub mod Stood
 pub mod Carried
@@ -18,7 +17,6 @@ pub mod Chosen
 pub mod Depend
 pub mod Extended
 pub mod Tuned
-pub mod SomeOrder
 pub mod OneOrder
 pub mod Worded
 pub mod OneText

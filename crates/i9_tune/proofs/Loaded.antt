@@ -7,8 +7,7 @@ use Rattle.std.proofs.lemmas.Bool.Decides.{nat_tests}
 use Rattle.std.proofs.lemmas.Option.{slice_get_past, slice_get-get_or}
 use Rattle.std.specs.Option.{option_or}
 use Rattle.i9_model.specs.Writes.{wrapped, or_earlier, last_put, upwards}
-use Rattle.std.proofs.lemmas.List.{append-nil, take_more, map_push}
-use Rattle.std.proofs.lemmas.Grind.{flat_map-append}
+use Rattle.std.proofs.lemmas.List.{map_more, flat_map_more}
 use Rattle.i9_model.specs.Image.{pairs_of, pairs_of_part}
 use Rattle.i9_model.proofs.LastPuts.{last_append}
 use Rattle.i9_hex.specs.declared.segments.Segment.{Segment}
@@ -69,15 +68,10 @@ more_pairs : (segments : List Segment) (i : ℕ) (s : Segment) → i < length se
     → pairs_of (map part_of (take i segments)) ++ pairs_of_part (part_of s) ≡ pairs_of (map part_of (take (i + 1) segments))
 unfolding pairs_of
 more_pairs segments i s lt is =
-    let more : take (i + 1) segments ≡ take i segments ++ s ∷ [] = take_more segments i s lt ∙ ap (λ (x : Segment). take i segments ++ x ∷ []) (sym is) in
-    ap (λ (ps : List (ℕ × ℕ)). pairs_of (map part_of (take i segments)) ++ ps) (sym (append-nil (pairs_of_part (part_of s))))
-    ∙ sym (flat_map-append pairs_of_part (map part_of (take i segments)) (part_of s ∷ []))
-    ∙ ap pairs_of (sym (ap (map part_of) more ∙ map_push part_of (take i segments) s))
+    rw (map_more part_of segments i s lt, sym is) (flat_map_more pairs_of_part [] (map part_of (take i segments)) (part_of s))
 
 pub found_more : (segments : List Segment) (i x : ℕ) (s : Segment) (byte found : Option ℕ) → i < length segments → s ≡ get_or segments i s → byte ≡ last_put (pairs_of_part (part_of s)) x
     → found ≡ last_put (pairs_of (map part_of (take i segments))) x → option_or byte found ≡ last_put (pairs_of (map part_of (take (i + 1) segments))) x
 found_more segments i x s byte found lt is here before =
-    first_of byte found ∙ ap (λ (o : Option ℕ). or_earlier o found) here
-    ∙ ap (or_earlier (last_put (pairs_of_part (part_of s)) x)) before
-    ∙ sym (last_append (pairs_of (map part_of (take i segments))) (pairs_of_part (part_of s)) x)
-    ∙ ap (λ (ps : List (ℕ × ℕ)). last_put ps x) (more_pairs segments i s lt is)
+    first_of byte found
+    ∙ rw (here, before, sym (more_pairs segments i s lt is)) (sym (last_append (pairs_of (map part_of (take i segments))) (pairs_of_part (part_of s)) x))

@@ -1,24 +1,49 @@
--- A block has one greedy order.
-use Rattle.std.proofs.Common.{◌≡◌, ◌<◌, ◌≤◌, true, List, [], ◌∷◌, ◌++◌, refl, sym, ap, ◌∙◌, subst, arith}
-use Rattle.std.proofs.lemmas.List.{append_assoc, append-nil}
+-- A block has a greedy order, and one alone.
+use Rattle.std.proofs.Common.{◌≡◌, ℕ, zero, suc, true, List, [], ◌∷◌, ◌++◌, length, refl, sym, ap, ◌∙◌, subst, inl, inr, arith, ◌<◌, ◌≤◌, ◌&&◌}
+use Rattle.std.specs.Prelude.{nat_lt}
+use Rattle.std.proofs.lemmas.Bool.{cases_Bool, and_parts, ltb-true}
+use Rattle.std.proofs.lemmas.Bool.Decides.{nat_tests}
+use Rattle.std.proofs.lemmas.List.{append-nil, append_assoc, length-append}
 use Rattle.i9_isa.specs.declared.inst.Inst.{Inst}
-use Rattle.i9_tune.specs.Greedy.{is_free, next_issue, AllFree, IsChosen, IsGreedy, better, IsTuned}
+use Rattle.i9_tune.specs.Greedy.{is_free, next_issue, IsGreedy, IsTuned, better, AllFree, IsChosen}
+use Rattle.i9_tune.proofs.Chosen.{IsBest, first_best, best_stays, best_changes}
 
-head_or : Inst → List Inst → Inst
-head_or d [] = d
-head_or d (x ∷ xs) = x
+-- ---- some order
 
-rest_of : List Inst → List Inst
-rest_of [] = []
-rest_of (x ∷ xs) = xs
+-- the one that is to be taken, wherever it stands
+record SomeBest (taken xs : List Inst) : Type 0 where
+  place : ℕ
+  turn : ℕ
+  best : IsBest taken xs place turn
 
-same_head : (x y : Inst) (xs ys : List Inst) → x ∷ xs ≡ y ∷ ys → x ≡ y
-unfolding head_or
-same_head x y xs ys e = ap (head_or x) e
+-- one more is looked at
+one_more : (taken xs : List Inst) (y : Inst) → SomeBest taken xs → SomeBest taken (xs ++ y ∷ [])
+one_more taken xs y b = elim (cases_Bool (is_free xs y && nat_lt (next_issue taken y) b.turn)) [
+  | inl sooner ↦
+      let parts = and_parts (is_free xs y) (nat_lt (next_issue taken y) b.turn) sooner in
+      let best = best_changes taken xs b.place b.turn y (next_issue taken y) b.best parts.0 refl (ltb-true _ _ parts.1) in
+      record { place = length xs; turn = next_issue taken y; best = best }
+  | inr later ↦
+      record { place = b.place; turn = b.turn; best = best_stays taken xs b.place b.turn y b.best (λ free. grind (arith, nat_tests, later, free)) }
+]
 
-same_rest : (x y : Inst) (xs ys : List Inst) → x ∷ xs ≡ y ∷ ys → xs ≡ ys
-unfolding rest_of
-same_rest x y xs ys e = ap rest_of e
+some_best : (taken xs ys : List Inst) → SomeBest taken xs → SomeBest taken (xs ++ ys)
+some_best taken xs [] b = subst (SomeBest taken) (sym (append-nil xs)) b
+some_best taken xs (y ∷ ys) b = subst (SomeBest taken) (append_assoc xs (y ∷ []) ys) (some_best taken (xs ++ y ∷ []) ys (one_more taken xs y b))
+
+pub some_greedy : (n : ℕ) (taken left : List Inst) → length left ≡ n → (order : List Inst) × IsGreedy taken left order
+some_greedy n taken [] long = ([], refl)
+some_greedy zero taken (x ∷ left) long = absurd (cc long)
+some_greedy (suc n) taken (x ∷ left) long =
+    let b = (some_best taken (x ∷ []) left (record { place = 0; turn = next_issue taken x; best = first_best taken x (next_issue taken x) refl })).best in
+    let same : length (b.before ++ b.x ∷ b.behind) ≡ suc n = ap length (sym b.split) ∙ long in
+    let rest = some_greedy n (b.x ∷ taken) (b.before ++ b.behind) (simp length-append (omega (arith, simp length-append at same))) in
+    (b.x ∷ rest.0, (b.before, b.behind, b.split, b.chosen, rest.1))
+
+pub some_tuned : (block : List Inst) → (tuned : List Inst) × IsTuned block tuned
+some_tuned block = let order = some_greedy (length block) [] block refl in (better block order.0, (order.0, order.1, refl))
+
+-- ---- one alone
 
 -- one list, split at two places: the places are the same, or one is before the other
 data AreSplits (b : List Inst) (x : Inst) (a c : List Inst) (y : Inst) (d : List Inst) : Type 0 where
@@ -27,16 +52,15 @@ data AreSplits (b : List Inst) (x : Inst) (a c : List Inst) (y : Inst) (d : List
   second : (e : List Inst) → b ≡ c ++ y ∷ e → d ≡ e ++ x ∷ a → AreSplits b x a c y d
 
 under : (i j : Inst) (b : List Inst) (x : Inst) (a c : List Inst) (y : Inst) (d : List Inst) → i ≡ j → AreSplits b x a c y d → AreSplits (i ∷ b) x a (j ∷ c) y d
-under i j b x a c y d e (same p q r) = same (ap (λ (k : Inst). k ∷ b) e ∙ ap (λ (is : List Inst). j ∷ is) p) q r
-under i j b x a c y d e (first f p q) = first f (ap (λ (k : Inst). k ∷ c) (sym e) ∙ ap (λ (is : List Inst). i ∷ is) p) q
-under i j b x a c y d e (second f p q) = second f (ap (λ (k : Inst). k ∷ b) e ∙ ap (λ (is : List Inst). j ∷ is) p) q
+under i j b x a c y d e (same p q r) = same (cc) q r
+under i j b x a c y d e (first f p q) = first f (cc) q
+under i j b x a c y d e (second f p q) = second f (cc) q
 
 splits : (b : List Inst) (x : Inst) (a c : List Inst) (y : Inst) (d : List Inst) → b ++ x ∷ a ≡ c ++ y ∷ d → AreSplits b x a c y d
-splits [] x a [] y d e = same refl (same_head x y a d e) (same_rest x y a d e)
-splits [] x a (j ∷ c) y d e = first c (ap (λ (k : Inst). k ∷ c) (sym (same_head x j a (c ++ y ∷ d) e))) (same_rest x j a (c ++ y ∷ d) e)
-splits (i ∷ b) x a [] y d e = second b (ap (λ (k : Inst). k ∷ b) (same_head i y (b ++ x ∷ a) d e)) (sym (same_rest i y (b ++ x ∷ a) d e))
-splits (i ∷ b) x a (j ∷ c) y d e =
-    under i j b x a c y d (same_head i j (b ++ x ∷ a) (c ++ y ∷ d) e) (splits b x a c y d (same_rest i j (b ++ x ∷ a) (c ++ y ∷ d) e))
+splits [] x a [] y d e = same refl (cc) (cc)
+splits [] x a (j ∷ c) y d e = first c (cc) (cc)
+splits (i ∷ b) x a [] y d e = second b (cc) (cc)
+splits (i ∷ b) x a (j ∷ c) y d e = under i j b x a c y d (cc) (splits b x a c y d (cc))
 
 free_at : (P : Inst → Type 0) (before is : List Inst) (y : Inst) (js : List Inst) → AllFree P before (is ++ y ∷ js) → is_free (before ++ is) y ≡ true → P y
 free_at P before [] y js h e = h.0 (subst (λ (b : List Inst). is_free b y ≡ true) (append-nil before) e)
@@ -61,9 +85,9 @@ same_orders : (taken left : List Inst) (x y : Inst) (p q : List Inst) (g : IsGre
     → ((t is : List Inst) → IsGreedy t is p → IsGreedy t is q → p ≡ q) → AreSplits g.0 x g.1 h.0 y h.1 → x ∷ p ≡ y ∷ q
 same_orders taken left x y p q g h later (same e f k) =
     let there = subst (λ (z : Inst). IsGreedy (z ∷ taken) (g.0 ++ g.1) p) f g.4 in
-    let left_same : g.0 ++ g.1 ≡ h.0 ++ h.1 = ap (λ (b : List Inst). b ++ g.1) e ∙ ap (λ (b : List Inst). h.0 ++ b) k in
+    let left_same : g.0 ++ g.1 ≡ h.0 ++ h.1 = cc in
     let rest = later (y ∷ taken) (h.0 ++ h.1) (subst (λ (is : List Inst). IsGreedy (y ∷ taken) is p) left_same there) h.4 in
-    ap (λ (z : Inst). z ∷ p) f ∙ ap (λ (is : List Inst). y ∷ is) rest
+    cc
 same_orders taken left x y p q g h later (first e f k) = absurd (none_first taken g.0 x g.1 h.0 y h.1 e f k g.3 h.3)
 same_orders taken left x y p q g h later (second e f k) = absurd (none_first taken h.0 y h.1 g.0 x g.1 e f k h.3 g.3)
 

@@ -3,6 +3,7 @@ use Rattle.std.proofs.Common.{◌≡◌, ℕ, zero, suc, ◌+◌, ◌*◌, ◌^�
 use Rattle.std.specs.Prelude.{◌==◌}
 use Rattle.std.specs.List.{AllByRecursion, flat_map}
 use Rattle.std.specs.Int.{w32, from_le_bytes}
+use Rattle.std.proofs.lemmas.Bool.{cond_both}
 use Rattle.std.proofs.lemmas.List.{append-nil}
 use Rattle.std.proofs.lemmas.Nat.{and_le_l}
 use Rattle.i9_isa.specs.declared.inst.Inst.{Inst}
@@ -30,9 +31,9 @@ use Rattle.i9_tune.specs.Blocks.{is_allowed}
 use Rattle.i9_tune.specs.Greedy.{AreTunable, IsTuned}
 use Rattle.i9_tune.specs.Reading.{IsFitting, fitting, by_second, is_long, by_first, word_of, word_at, inst_at, put_first, block_by, block_at}
 use Rattle.i9_tune.specs.Tuning.{IsCodeOf, one_word, two_words, AreCodes, no_codes, more_codes, code_lines, spans_line, IsText, IsTuning}
-use Rattle.i9_tune.proofs.Depend.{order_tunable}
-use Rattle.i9_tune.proofs.OneOrder.{one_tuned}
-use Rattle.i9_tune.proofs.SomeOrder.{some_tuned}
+use Rattle.i9_tune.proofs.Depend.{IsTunable}
+use Rattle.i9_tune.proofs.OneOrder.{some_tuned, one_tuned}
+use Rattle.i9_tune.proofs.Orders.{order_keeps}
 use Rattle.i9_tune.proofs.Tuned.{tuned_order}
 
 -- ---- the words of an instruction, as those of its statement
@@ -85,12 +86,10 @@ some_codes (i ∷ is) ok =
 -- ---- the text
 
 tuned_tunable : (block tuned : List Inst) → AreTunable block → IsTuned block tuned → AreTunable tuned
-tuned_tunable block tuned ok is = order_tunable block tuned ok (tuned_order block tuned ok is)
+tuned_tunable block tuned ok is = order_keeps IsTunable block tuned (tuned_order block tuned ok is) ok
 
 text_once : (a : ℕ) (block tuned : List Inst) (t u : List ℕ) → AreTunable tuned → IsText a block tuned t → IsText a block tuned u → t ≡ u
-text_once a block tuned t u ok x y =
-    x.whole ∙ ap (λ (c : List (List ℕ)). flat_map with_line_feed (org_line a ∷ (code_lines a c ++ spans_line a block tuned ∷ []))) (codes_once tuned x.codes y.codes ok x.words y.words)
-    ∙ sym y.whole
+text_once a block tuned t u ok x y = rw (x.whole, y.whole, codes_once tuned x.codes y.codes ok x.words y.words) refl
 
 pub one_tuning : (a : ℕ) (block : List Inst) (t u : List ℕ) → AreTunable block → IsTuning a block t → IsTuning a block u → t ≡ u
 one_tuning a block t u ok x y =
@@ -114,10 +113,7 @@ small_word : (p q r s : Option ℕ) (w : ℕ) → ((v : ℕ) → p ≡ Some v �
 small_word (Some a) (Some b) (Some c) (Some d) w p q r s is =
     let e : from_le_bytes w32 (a ∷ b ∷ c ∷ d ∷ []) ≡ w = cc is in
     omega (arith, e, p a refl, q b refl, r c refl, s d refl)
-small_word None q r s w h i j k is = absurd (cc is)
-small_word (Some a) None r s w h i j k is = absurd (cc is)
-small_word (Some a) (Some b) None s w h i j k is = absurd (cc is)
-small_word (Some a) (Some b) (Some c) None w h i j k is = absurd (cc is)
+small_word _ _ _ _ w h i j k is = absurd (cc is)
 
 word_small : (loaded : ℕ → Option ℕ) (a w : ℕ) → AreBytes loaded → word_at loaded a ≡ Some w → w < 2 ^ 32
 word_small loaded a w bytes is =
@@ -137,11 +133,9 @@ second_fits w j None small is = absurd (cc is)
 
 first_fits : (j : Inst) (first second : Option ℕ) → ((v : ℕ) → second ≡ Some v → v < 2 ^ 32) → by_first first second ≡ Ok j → IsFitting j
 first_fits j None second small is = absurd (cc is)
-first_fits j (Some w) second small is = by_test (is_long (decoded w 0)) is
-  where
-    by_test : (b : Bool) → cond b (by_second w second) (fitting (decoded w 0)) ≡ Ok j → IsFitting j
-    by_test true is = second_fits w j second small is
-    by_test false is = decoded_fits w 0 j (decoded w 0) (omega arith) refl is
+first_fits j (Some w) second small is =
+    cond_both (is_long (decoded w 0)) (by_second w second) (fitting (decoded w 0)) (λ r. r ≡ Ok j → IsFitting j)
+    (λ e. second_fits w j second small) (λ e. decoded_fits w 0 j (decoded w 0) (omega arith) refl) is
 
 inst_fits : (loaded : ℕ → Option ℕ) (a : ℕ) (j : Inst) → AreBytes loaded → inst_at loaded a ≡ Ok j → IsFitting j
 inst_fits loaded a j bytes is = first_fits j (word_at loaded a) (word_at loaded (wrapped (a + 4))) (λ v. word_small loaded (wrapped (a + 4)) v bytes) is
@@ -164,13 +158,9 @@ unfolding block_at
 block_fits loaded zero a block bytes is = let none : [] ≡ block = cc is in subst AreTunable none tt
 block_fits loaded (suc n) a block bytes is = fits_on loaded n a block (inst_at loaded a) bytes (λ next is there. block_fits loaded n next is bytes there) refl is
 
-this_byte : (b : Bool) (u v : ℕ) → u < 256 → ◌≡◌ {A = Option ℕ} (cond b (Some u) None) (Some v) → v < 256
-this_byte true u v h e = let same : u ≡ v = cc e in subst (λ (n : ℕ). n < 256) same h
-this_byte false u v h e = absurd (cc e)
-
 later_byte : (o : Option ℕ) (b : Bool) (u v : ℕ) → u < 256 → ((w : ℕ) → o ≡ Some w → w < 256) → or_earlier o (cond b (Some u) None) ≡ Some v → v < 256
-later_byte (Some w) b u v h later e = let same : w ≡ v = cc e in later v (ap (λ (n : ℕ). Some n) same)
-later_byte None b u v h later e = this_byte b u v h e
+later_byte (Some w) b u v h later e = later v e
+later_byte None b u v h later e = grind (arith, h, e)
 
 last_byte : (pairs : List (ℕ × ℕ)) → AllByRecursion (λ (p : ℕ × ℕ). p.1 < 256) pairs → AreBytes (last_put pairs)
 unfolding last_put

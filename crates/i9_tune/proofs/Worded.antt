@@ -1,14 +1,11 @@
 -- Instructions stand where their words are in memory.
-use Rattle.std.proofs.Common.{◌≡◌, ℕ, ◌+◌, ◌*◌, List, [], ◌∷◌, ◌++◌, Ok, sym, ap, ◌∙◌, subst, arith}
+use Rattle.std.proofs.Common.{◌≡◌, ℕ, ◌+◌, ◌*◌, List, [], ◌∷◌, ◌++◌, Ok, ap, ◌∙◌, subst, arith}
 use Rattle.std.specs.List.{flat_map}
-use Rattle.std.specs.List.Sorted.{IsPermutation}
-use Rattle.std.proofs.lemmas.List.Sorted.{IsPermutation-refl, IsPermutation-middle, IsPermutation-cons, IsPermutation-trans}
 use Rattle.i9_isa.specs.declared.inst.Inst.{Inst}
 use Rattle.i9_isa.specs.Words.{words_of, decoded}
 use Rattle.i9_isa.proofs.Decoding.{encodes_decoded, second_free}
 use Rattle.i9_model.specs.Writes.{wrapped}
 use Rattle.i9_model.specs.Memory.{Memory, word_in}
-use Rattle.i9_tune.specs.Orders.{IsOrder}
 use Rattle.i9_tune.specs.Tuning.{IsCodeOf, one_word, two_words, AreCodes, no_codes, more_codes}
 use Rattle.i9_tune.specs.Standings.{StandAt, AreWords, none, short, long, HoldsWords}
 
@@ -35,12 +32,3 @@ code_words i is ws vs (two_words w v two code) more = long two (encodes_decoded 
 pub printed_words : (is : List Inst) (codes : List (List ℕ)) → AreCodes is codes → AreWords is (flat_map (λ (ws : List ℕ). ws) codes)
 printed_words [] codes no_codes = none
 printed_words (i ∷ is) codes (more_codes _ _ ws wss code more) = code_words i is ws (flat_map (λ (us : List ℕ). us) wss) code (printed_words is wss more)
-
-pub permuted : (block order : List Inst) → IsOrder block order → IsPermutation block order
-permuted block [] taken = subst (λ (is : List Inst). IsPermutation is []) (sym taken) (IsPermutation-refl [])
-permuted block (x ∷ order) taken =
-    let before = taken.0 in
-    let behind = taken.1 in
-    subst (λ (is : List Inst). IsPermutation is (x ∷ order)) (sym taken.2)
-    (IsPermutation-trans (before ++ x ∷ behind) (x ∷ (before ++ behind)) (x ∷ order) (IsPermutation-middle before x behind)
-    (IsPermutation-cons x (before ++ behind) order (permuted (before ++ behind) order taken.4)))

@@ -1,5 +1,4 @@
 use Rattle.std.proofs.Common.{◌≡◌, ℕ, ◌+◌, ◌-◌, ◌*◌, ◌/◌, ◌%◌, ◌^◌, List, length, sym, ap, ◌∙◌, arith}
-use Rattle.std.specs.List.{slice_get}
 use Rattle.i9_model.proofs.Copies.{option_copied-get}
 use Rattle.i9_tune.proofs.Loaded.{last_from}
 use Rattle.i9_tune.proofs.block.byte_of.Goals as goal
@@ -14,6 +13,4 @@ returns c =
     ∙ ap (λ (k : ℕ). k - (above + 1)) (c.len.ensures ∙ sym c.deref.ensures.len ∙ ap (λ (bs : List ℕ). length bs) c.deref.ensures.value) in
     c.copied.ensures
     ∙ option_copied-get c.deref.result.now (above + n / 2 ^ 32 * 2 ^ 32) c.get.result c.get.ensures.lookup.0 c.get.ensures.lookup.1
-    ∙ ap (λ (bs : List ℕ). slice_get bs (above + n / 2 ^ 32 * 2 ^ 32)) c.deref.ensures.value
-    ∙ ap (λ (k : ℕ). slice_get bytes (above + k / 2 ^ 32 * 2 ^ 32)) behind
-    ∙ sym (last_from segment.address bytes c.args.a (omega arith) (omega arith))
+    ∙ rw (c.deref.ensures.value, behind) (sym (last_from segment.address bytes c.args.a (omega arith) (omega arith)))

@@ -1,10 +1,8 @@
-use Rattle.std.proofs.Common.{◌≡◌, ◌<◌, ◌+◌, ◌*◌, ◌++◌, ◌∷◌, [], List, Bool, cond, length, reverse, sym, ap, ◌∙◌, subst, arith}
+use Rattle.std.proofs.Common.{◌≡◌, ◌+◌, ◌*◌, ◌++◌, ◌∷◌, [], Bool, cond, length, reverse, ap, ◌∙◌, arith}
 use Rattle.std.specs.Prelude.{not}
-use Rattle.i9_isa.specs.declared.inst.Inst.{Inst}
-use Rattle.i9_model.specs.Turns.{StandsFor}
-use Rattle.i9_tune.specs.Greedy.{turns_of, IsChosenAt}
-use Rattle.i9_tune.proofs.Plain.{done_more}
-use Rattle.i9_tune.proofs.Extended.{Continues, is_taken, continues, ends, pushed_stands, fewer_left, all_taken}
+use Rattle.std.proofs.lemmas.List.{reverse-append}
+use Rattle.i9_tune.proofs.Plain.{stands_next, done_more}
+use Rattle.i9_tune.proofs.Extended.{is_taken, continues, ends, fewer_left}
 use Rattle.i9_tune.proofs.greedy.greedy.Goals as goal
 
 pub more-preserved : goal.more-preserved
@@ -14,24 +12,23 @@ more-preserved c =
     let order = c.more.order.items in
     let left = c.more.left.items in
     let rest = c.remove-next.new.self.items in
-    let same : c.deref.result.now ≡ left = c.deref.ensures.value in
-    let at = subst (λ (is : List Inst). IsChosenAt (reverse order) is c.choose.result) same (c.choose.ensures.chosen (reverse order) c.more.invariant.stands) in
-    let within = subst (λ (is : List Inst). c.choose.result < length is) same c.choose.ensures.within in
+    let at = rw c.deref.ensures.value at (c.choose.ensures.chosen (reverse order) c.more.invariant.stands) in
+    let within = rw c.deref.ensures.value at c.choose.ensures.within in
     let taken = is_taken (reverse order) left c.choose.result next rest at c.remove-next.ensures.value c.remove-next.ensures.items in
     let pushed : c.push.new.self.items ≡ order ++ next ∷ [] =
     c.push.ensures.items ∙ ap (λ (b : Bool). cond b (order ++ next ∷ []) order) (c.is_err.ensures.negation ∙ ap not c.if-is_err.false) in
     let waited = c.plain_need.ensures.early in
     record {
-      stands = subst (λ (is : List Inst). StandsFor c.place.new.self (turns_of (reverse is))) (sym pushed)
-          (pushed_stands order next c.place.new.self c.plain_need.result c.plain_need.ensures.need (c.place.ensures.computed _ c.more.invariant.stands).0);
+      stands = stands_next (reverse order) _ next c.place.new.self c.plain_need.result (ap reverse pushed ∙ reverse-append order (next ∷ [])) c.plain_need.ensures.need
+          (c.place.ensures.computed _ c.more.invariant.stands).0;
       early = done_more c.place.new.self k c.plain_need.result.cost c.plain_need.ensures.few (c.place.ensures.bound (1 + 248 * k) c.more.invariant.early (omega (arith, waited)));
       left = fewer_left left rest c.choose.result k (length c.args.block.now) within c.remove-next.ensures.items c.more.invariant.left;
       tunable = taken.tunable c.more.invariant.tunable;
-      greedy = subst (λ (is : List Inst). Continues c.args.block.now is rest) (sym pushed) (continues c.args.block.now order left rest next taken c.more.invariant.greedy);
+      greedy = rw pushed (continues c.args.block.now order left rest next taken c.more.invariant.greedy);
     }
 
 pub returns : goal.returns
 returns c =
     let long = c.more.invariant.left in
     let done = c.more-test.false in
-    record { order = ends c.args.block.now c.more.order.items c.more.left.items c.more.invariant.greedy (all_taken c.more.left.items c.more.counter (length c.args.block.now) long done) }
+    record { order = ends c.args.block.now c.more.order.items c.more.left.items c.more.invariant.greedy (omega (arith, long, done)) }

@@ -3,9 +3,8 @@ use Rattle.i9_tune.proofs.Depend.{all_allowed}
 use Rattle.i9_tune.proofs.Tuned.{tuned_order}
 use Rattle.i9_tune.proofs.laws.tuned_blocks_do_the_same.Goals as goal
 
-pub returns-clause-order : goal.returns-clause-order
-returns-clause-order c block order s t ok taken r = tuned_same block order s t ok taken r.address r.unbroken r.done r.differs r.stands
-
-pub returns-clause-tuned : goal.returns-clause-tuned
-returns-clause-tuned c block tuned s t ok is r =
-    tuned_same block tuned s t (all_allowed block ok) (tuned_order block tuned ok is) r.address r.unbroken r.done r.differs r.stands
+pub returns : goal.returns
+returns c = record {
+  order = tuned_same;
+  tuned = λ block tuned s t ok is. tuned_same block tuned s t (all_allowed block ok) (tuned_order block tuned ok is);
+}

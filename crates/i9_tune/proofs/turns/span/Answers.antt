@@ -1,5 +1,5 @@
 use Rattle.std.proofs.Common.{◌+◌, ◌*◌, arith}
-use Rattle.i9_tune.proofs.Plain.{early_by, stands_more, done_more}
+use Rattle.i9_tune.proofs.Plain.{early_by, stands_next, reverse_more, done_more}
 use Rattle.i9_tune.proofs.turns.span.Goals as goal
 
 pub place-requires-clause-early : goal.place-requires-clause-early
@@ -11,8 +11,8 @@ place-requires-clause-early c =
 pub loop-inst-preserved : goal.loop-inst-preserved
 loop-inst-preserved c =
     let waited = c.plain_need.ensures.early in
-    let k = c.loop-inst-test.true in
+    let k = c.loop-inst.inst-index in
     record {
-      stands = stands_more c.args.block.now c.loop-inst.inst-index _ c.place.new.self c.plain_need.result k c.plain_need.ensures.need (c.place.ensures.computed _ c.loop-inst.invariant.stands).0;
-      early = done_more c.place.new.self c.loop-inst.inst-index c.plain_need.result.cost c.plain_need.ensures.few (c.place.ensures.bound (1 + 248 * c.loop-inst.inst-index) c.loop-inst.invariant.early (omega (arith, waited)));
+      stands = stands_next _ _ _ c.place.new.self c.plain_need.result (reverse_more c.args.block.now k _ c.loop-inst-test.true) c.plain_need.ensures.need (c.place.ensures.computed _ c.loop-inst.invariant.stands).0;
+      early = done_more c.place.new.self k c.plain_need.result.cost c.plain_need.ensures.few (c.place.ensures.bound (1 + 248 * k) c.loop-inst.invariant.early (omega (arith, waited)));
     }

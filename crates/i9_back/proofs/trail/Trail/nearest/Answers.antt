@@ -2,10 +2,9 @@ use Rattle.std.proofs.Common.{ap, sym, subst}
 use Rattle.std.specs.List.{AllByRecursion}
 use Rattle.i9_model.specs.Given.{given}
 use Rattle.i9_model.specs.Image.{pairs_of}
-use Rattle.i9_model.specs.ScheduleText.{IsPlan}
 use Rattle.i9_schedule.specs.Plan.{Plan}
 use Rattle.i9_back.specs.Trail.{IsKept}
-use Rattle.i9_back.proofs.Going.{new_stands}
+use Rattle.i9_back.proofs.Going.{rewound_stands}
 use Rattle.i9_back.proofs.Trails.{copy_stands}
 use Rattle.i9_back.proofs.trail.Trail.nearest.Goals as goal
 
@@ -28,8 +27,4 @@ returns-in_ok-machine-in-Some-clause-order c =
 
 pub returns-in_ok-machine-in-None-clause-stands : goal.returns-in_ok-machine-in-None-clause-stands
 returns-in_ok-machine-in-None-clause-stands c =
-    let g = given (pairs_of c.args.image.now) c.args.plan.now.events c.args.length c.args.sets in
-    let events = ap (λ (p : Plan). p.events) c.rewind.ensures.first in
-    let place = ap (λ (p : Plan). p.place) c.rewind.ensures.first in
-    let stands = c.in_ok-machine-in-None.ensures.stands c.args.plan.now.events (subst IsPlan events c.rewind.ensures.plan) in
-    new_stands g c.in_ok-machine-in-None.machine c.rewind.new.self stands c.in_ok-machine-in-None.ensures.turn events place
+    rewound_stands _ _ _ _ c.args.plan.now _ c.in_ok-machine-in-None.ensures.stands c.in_ok-machine-in-None.ensures.turn c.rewind.ensures.first c.rewind.ensures.plan
