@@ -100,11 +100,6 @@ module _ (allows : View → Bool → Type 0) (n : ℕ) where
         → FoundBetween (HeldLast allows n) g from to (option_or newer found)
     held_on from mid to newer found a b = found_joins (HeldLast allows n) g held_joins from mid to newer found a b
 
-    -- older ones were, where the stop held behind none of the newer ones
-    pub held_before : (from mid to : ℕ) (found : Option ℕ) → FoundBetween (HeldLast allows n) g mid to None → FoundBetween (HeldLast allows n) g from mid found
-        → FoundBetween (HeldLast allows n) g from to found
-    held_before from mid to found newer older = held_on from mid to None found older newer
-
     -- all that may count were
     pub held_all : (from : ℕ) (found : Option ℕ) → FoundBetween (HeldLast allows n) g from n found → (from ≡ 0) ⊎ (is_some found ≡ true)
         → IsLastIn allows g n (unwrap_or found 0)

@@ -1,5 +1,5 @@
-pub mod ClosedTexts
 pub mod Places
+pub mod Stepwise
 pub mod Turns
 pub mod Stops
 pub mod Lasts

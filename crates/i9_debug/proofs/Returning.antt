@@ -1,13 +1,10 @@
 -- Going back from a place of a run without marks leads to one place, and what was asked before it.
-use Rattle.std.proofs.Common.{◌≡◌, ℕ, ◌-◌, ◌<◌, ◌≤◌, ◌&&◌, cond, Bool, true, false, nat_eq, nat_lt, not, List, [], ◌∷◌, ◌++◌, Option, Some, None, Result, Ok, Err, OnOk, OnErr, IfOk, refl, sym, ap, ◌∙◌, subst, ◌⊎◌, inl, inr, arith}
+use Rattle.std.proofs.Common.{◌≡◌, ℕ, ◌-◌, ◌<◌, ◌≤◌, ◌&&◌, Bool, true, false, nat_eq, nat_lt, List, [], ◌∷◌, ◌++◌, Option, Some, None, Result, Ok, Err, OnOk, OnErr, IfOk, refl, sym, ap, ◌∙◌, subst, inl, inr, arith}
 use Rattle.std.specs.List.{AllByRecursion}
-use Rattle.std.proofs.lemmas.Bool.{lt-ltb, le-ltb}
-use Rattle.i9_model.specs.declared.event.Timed.{Timed}
-use Rattle.i9_model.specs.declared.layout.TheConstants.{MAX_LENGTH}
+use Rattle.std.proofs.Math.Bool.{and-false}
+use Rattle.std.proofs.lemmas.Bool.{and_parts, lt-ltb, le-ltb, cases_Bool}
 use Rattle.i9_model.specs.declared.view.View.{View}
-use Rattle.i9_model.specs.Given.{given}
-use Rattle.i9_model.specs.Image.{Part, pairs_of}
-use Rattle.i9_model.specs.Overlay.{overlay}
+use Rattle.i9_model.specs.Image.{Part}
 use Rattle.i9_model.specs.PrintedText.{view_of}
 use Rattle.i9_model.specs.Run.{Given, Record, counts_of, state_after, Finish}
 use Rattle.i9_course.specs.Course.{Item, records_of}
@@ -19,22 +16,29 @@ use Rattle.i9_machine.specs.StandsFor.{FollowsUntil}
 use Rattle.i9_back.specs.declared.trail.Trail.{Trail}
 use Rattle.i9_back.specs.Earlier.{HasInstructions, IsEarlier, issue_of}
 use Rattle.i9_back.specs.Trail.{IsTrail}
-use Rattle.i9_back.specs.Stands.{StandsEarlier, StaysAt, same_byte, last_change, IsLastChange}
+use Rattle.i9_back.specs.Stands.{StandsEarlier, StaysAt, last_change, IsLastChange}
 use Rattle.i9_back.proofs.Earlier.{record_after, one_or_none, none_done, at_or_below, one_earlier, has_earlier}
+use Rattle.i9_tracer.proofs.Untils.{Shows}
 use Rattle.i9_debug.specs.Last.{IsLast, IsLastIn}
 use Rattle.i9_debug.specs.Session.{Place, at, comes_to, count_at, IsBack, last_arrival}
-use Rattle.i9_debug.specs.Driven.{StandsAt, IsOf, IsPlace, GoneBack, given_of, target}
+use Rattle.i9_debug.specs.Driven.{StandsAt, IsOf, IsPlace, IsDebugged, GoneBack, given_of, target}
+use Rattle.i9_debug.proofs.Places.{comes_as_told, comes_not}
 
 -- ---- what is given
 
-pub same_given : (image : List Part) (sets : Option ℕ) (g : Given) (plan : Plan) → IsOf image sets g → plan.events ≡ g.plan → given_of image sets plan ≡ g
-same_given image sets g plan of events = ap (λ (es : List Timed). given (pairs_of image) es MAX_LENGTH sets) events ∙ sym of
+-- what is given goes by the events of a schedule alone
+pub given_kept : (image : List Part) (sets : Option ℕ) (was plan : Plan) → plan.events ≡ was.events
+    → given_of image sets plan ≡ given_of image sets was
+given_kept image sets was plan events = rw events refl
+
+pub same_given : (image : List Part) (sets : Option ℕ) (g : Given) (plan : Plan) → IsOf image sets g → plan.events ≡ g.plan
+    → given_of image sets plan ≡ g
+same_given image sets g plan of events = rw events (sym of)
 
 -- so what is kept on the way of a schedule is on that of another with the same events
-pub trail_of : (image : List Part) (sets : Option ℕ) (g : Given) (was plan : Plan) (t : Trail) → was.events ≡ g.plan → plan.events ≡ g.plan
-    → IsTrail (given_of image sets was) t → IsTrail (given_of image sets plan) t
-trail_of image sets g was plan t before events kept =
-    subst (λ (k : Given). IsTrail k t) (ap (λ (es : List Timed). given (pairs_of image) es MAX_LENGTH sets) (before ∙ sym events)) kept
+pub trail_of : (image : List Part) (sets : Option ℕ) (g : Given) (was plan : Plan) (t : Trail) → was.events ≡ g.plan
+    → plan.events ≡ g.plan → IsTrail (given_of image sets was) t → IsTrail (given_of image sets plan) t
+trail_of image sets g was plan t before events kept = rw (given_kept image sets was plan (events ∙ sym before)) kept
 
 -- ---- each earlier state is one place
 
@@ -66,13 +70,10 @@ place_has g p c is le =
 -- what is arrived at last lies before
 pub arrival_below : (a n : ℕ) (rs : List Record) → last_arrival a n rs ≤ n
 arrival_below a n [] = omega arith
-arrival_below a n (r ∷ rs) = by_test (comes_to a r) (nat_lt r.after.count n) refl (arrival_below a n rs)
-  where
-    by_test : (b c : Bool) → nat_lt r.after.count n ≡ c → last_arrival a n rs ≤ n → cond (b && c) r.after.count (last_arrival a n rs) ≤ n
-    by_test true true is before = grind (arith, is)
-    by_test true false is before = before
-    by_test false true is before = before
-    by_test false false is before = before
+arrival_below a n (r ∷ rs) = elim (cases_Bool (comes_to a r && nat_lt r.after.count n)) [
+  | inl there ↦ let low = (and_parts (comes_to a r) (nat_lt r.after.count n) there).1 in rw there (grind (arith, low))
+  | inr other ↦ rw other (arrival_below a n rs)
+]
 
 -- so each command that goes back has a place
 pub back_leads : (g : Given) (p : Place) (k : ℕ) → IsPlace g p → (q : Place) × IsBack g (count_at g p - k) q
@@ -113,15 +114,11 @@ place_earlier g p rs is earlier =
 
 arrival_later : (a n : ℕ) (zs rs : List Record) → NoneCounts zs → last_arrival a n (zs ++ rs) ≡ last_arrival a n rs
 arrival_later a n [] rs none = refl
-arrival_later a n (z ∷ zs) rs none =
-    ap (λ (k : ℕ). cond ((nat_eq k 1 && nat_eq z.after.ip a) && nat_lt z.after.count n) z.after.count (last_arrival a n (zs ++ rs))) none.0
-    ∙ arrival_later a n zs rs none.1
+arrival_later a n (z ∷ zs) rs none = rw none.0 (arrival_later a n zs rs none.1)
 
 change_later : (a : ℕ) (zs rs : List Record) → NoneCounts zs → last_change a (zs ++ rs) ≡ last_change a rs
 change_later a [] rs none = refl
-change_later a (z ∷ zs) rs none =
-    ap (λ (k : ℕ). cond (nat_eq k 1 && not (same_byte (overlay z.before a) (overlay z.after a))) (Some (z.after.count, z.before.ip)) (last_change a (zs ++ rs))) none.0
-    ∙ change_later a zs rs none.1
+change_later a (z ∷ zs) rs none = rw none.0 (change_later a zs rs none.1)
 
 pub place_arrival : (g : Given) (p : Place) (a : ℕ) (rs : List Record) → IsPlace g p → IsEarlier g (count_at g p) rs
     → last_arrival a (count_at g p) (records_of p.items) ≡ last_arrival a (count_at g p) rs
@@ -137,47 +134,20 @@ place_change g p a rs is earlier =
 
 -- ---- where a stop at an address held last is the last arrival
 
-picked : (b : Bool) (x y c : ℕ) → b ≡ true → c ≡ x → c ≡ cond b x y
-picked true x y c is same = same
-picked false x y c is same = absurd (cc is)
-
-passed_by : (b : Bool) (x y c : ℕ) → b ≡ false → c ≡ y → c ≡ cond b x y
-passed_by true x y c is same = absurd (cc is)
-passed_by false x y c is same = same
-
-module _ (allows : View → Bool → Type 0) (address : ℕ) (answers : (v : View) (b : Bool) → allows v b → b ≡ nat_eq v.ip address) (n : ℕ) where
+module _ (allows : View → Bool → Type 0) (address : ℕ) (answers : (v : View) (b : Bool) → allows v b → b ≡ nat_eq v.ip address)
+    (n : ℕ) where
   -- a record is no arrival that the stop passed
   no_arrival : (r : Record) → (counts_of r.kind ≡ 1 → r.after.count < n → allows (view_of r.after) false)
       → (comes_to address r && nat_lt r.after.count n) ≡ false
-  no_arrival r passed = elim (one_or_none r.kind) [
-    | inr none ↦ ap (λ (k : ℕ). (nat_eq k 1 && nat_eq r.after.ip address) && nat_lt r.after.count n) none
-    | inl one ↦ elim (at_or_below n r.after.count) [
-      | inl late ↦
-          ap (λ (k : ℕ). (nat_eq k 1 && nat_eq r.after.ip address) && nat_lt r.after.count n) one
-          ∙ both_false (nat_eq r.after.ip address) (nat_lt r.after.count n) (inr (le-ltb _ _ late))
-      | inr lt ↦
-          ap (λ (k : ℕ). (nat_eq k 1 && nat_eq r.after.ip address) && nat_lt r.after.count n) one
-          ∙ both_false (nat_eq r.after.ip address) (nat_lt r.after.count n) (inl (sym (answers (view_of r.after) false (passed one lt))))
-    ]
+  no_arrival r passed = elim (at_or_below n r.after.count) [
+    | inl late ↦ rw (le-ltb _ _ late) (and-false _)
+    | inr early ↦ rw (comes_not allows address answers r (λ one. passed one early)) refl
   ]
-    where
-      both_false : (b c : Bool) → (b ≡ false) ⊎ (c ≡ false) → (b && c) ≡ false
-      both_false true true (inl is) = is
-      both_false true true (inr is) = is
-      both_false true false h = refl
-      both_false false true h = refl
-      both_false false false h = refl
 
   is_arrival : (rs : List Record) (c : ℕ) → IsLast allows n rs c → c ≡ last_arrival address n rs
   is_arrival [] c is = is
-  is_arrival (r ∷ rs) c (inl w) =
-      let held = answers (view_of r.after) true w.0.2 in
-      let test : (comes_to address r && nat_lt r.after.count n) ≡ true =
-      ap (λ (k : ℕ). (nat_eq k 1 && nat_eq r.after.ip address) && nat_lt r.after.count n) w.0.0
-      ∙ ap (λ (b : Bool). b && nat_lt r.after.count n) (sym held) ∙ lt-ltb _ _ w.0.1 in
-      picked (comes_to address r && nat_lt r.after.count n) r.after.count (last_arrival address n rs) c test w.1
-  is_arrival (r ∷ rs) c (inr w) =
-      passed_by (comes_to address r && nat_lt r.after.count n) r.after.count (last_arrival address n rs) c (no_arrival r w.0) (is_arrival rs c w.1)
+  is_arrival (r ∷ rs) c (inl w) = rw (comes_as_told allows address answers r true w.0.0 w.0.2, lt-ltb _ _ w.0.1) w.1
+  is_arrival (r ∷ rs) c (inr w) = rw (no_arrival r w.0) (is_arrival rs c w.1)
 
   pub answered_arrival : {E : Type 0} (result : Result ℕ E) (g : Given) → IfOk result (λ c. IsLastIn allows g n c)
       → IfOk result (λ c. (rs : List Record) → IsEarlier g n rs → c ≡ last_arrival address n rs)
@@ -187,59 +157,56 @@ module _ (allows : View → Bool → Type 0) (address : ℕ) (answers : (v : Vie
 
 -- ---- what the calls answer at a place
 
-pub answered_change : {E : Type 0} (result : Result (Option (ℕ × ℕ)) E) (g k : Given) (p : Place) (a n : ℕ) (plan : Plan) → IsPlace g p → k ≡ g → n ≡ count_at g p
-    → IfOk result (λ o. IsLastChange k n a o plan) → IfOk result (λ o. o ≡ last_change a (records_of p.items))
-answered_change (Ok o) g k p a n plan is same count found =
-    let earlier : IsEarlier g (count_at g p) found.records =
-    subst (λ (m : ℕ). IsEarlier g m found.records) count (subst (λ (x : Given). IsEarlier x n found.records) same found.earlier) in
-    found.is ∙ place_change g p a found.records is earlier
-answered_change (Err e) g k p a n plan is same count found = tt
+pub answered_change : {E : Type 0} (result : Result (Option (ℕ × ℕ)) E) (g : Given) (p : Place) (a : ℕ) (plan : Plan)
+    → IsPlace g p → IfOk result (λ o. IsLastChange g (count_at g p) a o plan)
+    → IfOk result (λ o. o ≡ last_change a (records_of p.items))
+answered_change (Ok o) g p a plan is found = found.is ∙ place_change g p a found.records is found.earlier
+answered_change (Err e) g p a plan is found = tt
 
--- a machine that stands for an earlier state stands at its place
-back_stands : (g : Given) (c : ℕ) (m : Machine) (plan : Plan) → StandsEarlier g c m plan → (q : Place) × IsBack g c q × StandsAt g q m plan
-back_stands g c m plan s = (
-  at (steps s.records) (issue_of g s.records),
-  record { records = s.records; earlier = s.earlier; is = refl },
-  record { stands = s.stands; turn = s.turn; follows = s.follows; events = s.follows.events },
-)
+-- what a call answers of the last arrival is that of the place
+pub arrived : (g : Given) (p : Place) (a c : ℕ) → IsPlace g p
+    → ((rs : List Record) → IsEarlier g (count_at g p) rs → c ≡ last_arrival a (count_at g p) rs)
+    → c ≡ last_arrival a (count_at g p) (records_of p.items)
+arrived g p a c is said =
+    let e = has_earlier g (count_at g p) (place_has g p (count_at g p) is (omega arith)) in
+    said e.0 e.1 ∙ sym (place_arrival g p a e.0 is e.1)
 
-pub gone_back : {A E : Type 0} (result : Result A E) (g k : Given) (c n : ℕ) (before m : Machine) (was plan : Plan) → k ≡ g → n ≡ c
-    → OnOk result (StandsEarlier k n m plan) → OnErr result ((m ≡ before) × StaysAt was plan) → GoneBack g c result (target before was) (target m plan)
-gone_back (Ok x) g k c n before m was plan same count stands none = record {
-  gone = back_stands g c m plan (subst (λ (i : ℕ). StandsEarlier g i m plan) count (subst (λ (y : Given). StandsEarlier y n m plan) same stands));
+-- a run that is debugged has as many instructions as the view says, and fewer
+pub debugged_has : (image : List Part) (sets : Option ℕ) (m : Machine) (plan : Plan) (view : View) (c : ℕ)
+    → (r : IsDebugged image sets m plan) → Shows r.given m view → c ≤ view.count
+    → HasInstructions (given_of image sets plan) c
+debugged_has image sets m plan view c r shows le =
+    let shown : view.count ≡ count_at r.given r.place = ap (λ (v : View). v.count) (shows r.place.items r.place.end r.stands.stands) in
+    rw (same_given image sets r.given plan r.of r.stands.events)
+    (place_has r.given r.place c r.is_place (omega (arith, shown, le)))
+
+-- A machine that stands for an earlier state stands at its place. Where memory was refused, the schedule may have been
+-- looked at before.
+pub gone_back : {A E : Type 0} (result : Result A E) (g : Given) (c : ℕ) (before m : Machine) (was mid plan : Plan)
+    → StaysAt was mid → OnOk result (StandsEarlier g c m plan) → OnErr result ((m ≡ before) × StaysAt mid plan)
+    → GoneBack g c result (target before was) (target m plan)
+gone_back (Ok x) g c before m was mid plan kept s none = record {
+  gone = (
+    at (steps s.records) (issue_of g s.records),
+    record { records = s.records; earlier = s.earlier; is = refl },
+    record { stands = s.stands; turn = s.turn; follows = s.follows; events = s.follows.events },
+  );
   same = tt;
 }
-gone_back (Err e) g k c n before m was plan same count stands none = record { gone = tt; same = none }
+gone_back (Err e) g c before m was mid plan kept stands none =
+    record { gone = tt; same = (none.0, (none.1.0 ∙ kept.0, none.1.1 ∙ kept.1)) }
 
--- what is given goes by the events of a schedule alone
-pub given_kept : (image : List Part) (sets : Option ℕ) (was plan : Plan) → plan.events ≡ was.events → given_of image sets plan ≡ given_of image sets was
-given_kept image sets was plan events = ap (λ (es : List Timed). given (pairs_of image) es MAX_LENGTH sets) events
-
-follows_kept : (g : Given) (h : List Item) (f : Option Finish) (was plan : Plan) → StaysAt was plan → FollowsUntil g h f was → FollowsUntil g h f plan
+follows_kept : (g : Given) (h : List Item) (f : Option Finish) (was plan : Plan) → StaysAt was plan → FollowsUntil g h f was
+    → FollowsUntil g h f plan
 follows_kept g h None was plan same f = record { events = same.0 ∙ f.events; place = same.1 ∙ f.place }
 follows_kept g h (Some e) was plan same f = tt
 
 -- a machine stands at a place by a schedule that stays where it is
-pub stands_kept : (g : Given) (p : Place) (m : Machine) (was plan : Plan) → StaysAt was plan → StandsAt g p m was → StandsAt g p m plan
-stands_kept g p m was plan same s =
-    record { stands = s.stands; turn = s.turn; follows = follows_kept g p.items p.end was plan same s.follows; events = same.0 ∙ s.events }
-
--- what a call answers of the last arrival is that of the place
-pub arrived : (g k : Given) (p : Place) (a n c : ℕ) → IsPlace g p → k ≡ g → n ≡ count_at g p
-    → ((rs : List Record) → IsEarlier k n rs → c ≡ last_arrival a n rs) → c ≡ last_arrival a (count_at g p) (records_of p.items)
-arrived g k p a n c is same count said =
-    let e = has_earlier g (count_at g p) (place_has g p (count_at g p) is (omega arith)) in
-    let earlier : IsEarlier k n e.0 = subst (λ (m : ℕ). IsEarlier k m e.0) (sym count) (subst (λ (x : Given). IsEarlier x (count_at g p) e.0) (sym same) e.1) in
-    said e.0 earlier ∙ ap (λ (m : ℕ). last_arrival a m e.0) count ∙ sym (place_arrival g p a e.0 is e.1)
-
--- memory was refused before the way back
-pub not_gone : {A E : Type 0} (result : Result A E) (e : E) (g : Given) (c : ℕ) (m : Machine) (was plan : Plan) → result ≡ Err e → StaysAt was plan
-    → GoneBack g c result (target m was) (target m plan)
-not_gone result e g c m was plan is same = subst (λ (r : Result _ _). GoneBack g c r (target m was) (target m plan)) (sym is) (record { gone = tt; same = (refl, same) })
-
--- the same where the schedule was looked at before
-pub gone_back_from : {A E : Type 0} (result : Result A E) (g k : Given) (c n : ℕ) (before m : Machine) (was mid plan : Plan) → StaysAt was mid → k ≡ g → n ≡ c
-    → OnOk result (StandsEarlier k n m plan) → OnErr result ((m ≡ before) × StaysAt mid plan) → GoneBack g c result (target before was) (target m plan)
-gone_back_from (Ok x) g k c n before m was mid plan kept same count stands none = gone_back (Ok x) g k c n before m was plan same count stands tt
-gone_back_from (Err e) g k c n before m was mid plan kept same count stands none =
-    record { gone = tt; same = (none.0, (none.1.0 ∙ kept.0, none.1.1 ∙ kept.1)) }
+pub stands_kept : (g : Given) (p : Place) (m : Machine) (was plan : Plan) → StaysAt was plan → StandsAt g p m was
+    → StandsAt g p m plan
+stands_kept g p m was plan same s = record {
+  stands = s.stands;
+  turn = s.turn;
+  follows = follows_kept g p.items p.end was plan same s.follows;
+  events = same.0 ∙ s.events;
+}

@@ -1,7 +1,6 @@
 pub mod TextLines
 pub mod Feeds
 pub mod Prints
-pub mod Registers
 pub mod Lined
 pub mod LineCounts
 pub mod ClosedLines

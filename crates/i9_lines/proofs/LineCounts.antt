@@ -1,5 +1,5 @@
 -- Each printed line has one line feed, which is its last byte.
-use Rattle.std.proofs.Common.{◌≡◌, ℕ, ◌≤◌, length, true, false, List, [], ◌∷◌, ◌++◌, Option, Some, None, eqb, codes, refl, arith}
+use Rattle.std.proofs.Common.{◌≡◌, ℕ, ◌≤◌, length, true, false, List, [], ◌∷◌, ◌++◌, Option, Some, None, eqb, codes, refl, arith, rules}
 use Rattle.std.specs.List.{flat_map, range_with_len}
 use Rattle.std.specs.Fmt.{decimal}
 use Rattle.std.proofs.lemmas.Bool.{and_parts}
@@ -31,37 +31,40 @@ after_plain (b ∷ xs) ys h line =
     let rest : IsLine (xs ++ ys) = after_plain xs ys p.1 line in
     rw (not_feed b p.0) (omega (arith, rest))
 
+ruleset plain_rules = (plain-append, plain-decimal, plain-word_text, plain_words, plain_drained, plain_bytes, plain_registers)
+
+-- a plain text, and its line feed behind it
+line_of : (text : List ℕ) → is_plain text ≡ true → IsLine (text ++ 10 ∷ [])
+line_of text plain = after_plain text (10 ∷ []) plain refl
+
 pub line-words : (label ws : List ℕ) → is_plain label ≡ true → IsLine (words_text label ws)
 unfolding words_text
-line-words label ws h = after_plain (label ++ flat_map spaced ws) (10 ∷ []) (plain-append label (flat_map spaced ws) h (plain_words ws)) refl
+line-words label ws h = line_of (label ++ flat_map spaced ws) (search (rules, plain_rules))
 
 pub line-out : (b : ℕ) → IsLine (out_text b)
 unfolding out_text
-line-out b = after_plain (codes "#out ") (byte_text b ++ 10 ∷ []) refl (after_plain (byte_text b) (10 ∷ []) (plain-byte_text b) refl)
+line-out b = after_plain (codes "#out ") (byte_text b ++ 10 ∷ []) refl (line_of (byte_text b) (plain-byte_text b))
 
 pub line-point : (k : Point) (v : View) → IsLine (point_text k v)
 unfolding point_text
 line-point k v =
-    let counted = plain-append (codes "#point ") (decimal v.count) refl (plain-decimal v.count) in
-    let label = plain-append (codes "#point " ++ decimal v.count ++ codes " ") (drained_text k) (plain-append (codes "#point " ++ decimal v.count) (codes " ") counted refl) (plain_drained k) in
-    line-words (codes "#point " ++ decimal v.count ++ codes " " ++ drained_text k) (v.ip ∷ v.ac ∷ v.pc ∷ []) label
+    line-words (codes "#point " ++ decimal v.count ++ codes " " ++ drained_text k) (v.ip ∷ v.ac ∷ v.pc ∷ [])
+    (search (rules, plain_rules))
 
 pub line-event : (k : ℕ) (e : Event) → IsLine (event_text k e)
 unfolding event_text
-line-event k e = after_plain (journal_text k e) (10 ∷ []) (journal_plain k e) refl
+line-event k e = line_of (journal_text k e) (journal_plain k e)
 
 pub line-bytes : (a : ℕ) (bs : List (Option ℕ)) → IsLine (bytes_text a bs)
 unfolding bytes_text
-line-bytes a bs =
-    let begun = plain-append (codes "#mem") (spaced a) refl (plain-word_text a) in
-    after_plain (codes "#mem" ++ spaced a ++ flat_map spaced_byte bs) (10 ∷ []) (plain-append (codes "#mem" ++ spaced a) (flat_map spaced_byte bs) begun (plain_bytes bs)) refl
+line-bytes a bs = line_of (codes "#mem" ++ spaced a ++ flat_map spaced_byte bs) (search (rules, plain_rules))
 
 pub line-end : (f : End) → IsLine (end_text f)
 unfolding end_text
 line-end (Exit w) = line-words (codes "#end exit") (w ∷ []) refl
 line-end Limit = refl
 line-end (Hazard a) = line-words (codes "#end hazard") (a ∷ []) refl
-line-end (Dead code a) = line-words (codes "#end dead " ++ decimal code) (a ∷ []) (plain-append (codes "#end dead ") (decimal code) refl (plain-decimal code))
+line-end (Dead code a) = line-words (codes "#end dead " ++ decimal code) (a ∷ []) (plain-decimal code)
 line-end (Imprecise a) = line-words (codes "#end imprecise") (a ∷ []) refl
 
 pub end_labelled : (f : End) → length (codes "#end ") ≤ length (end_text f)
@@ -78,27 +81,19 @@ unfolding ending end_text words_text
 line-ending (Exit w) = line-words (codes "exit") (w ∷ []) refl
 line-ending Limit = refl
 line-ending (Hazard a) = line-words (codes "hazard") (a ∷ []) refl
-line-ending (Dead code a) = line-words (codes "dead " ++ decimal code) (a ∷ []) (plain-append (codes "dead ") (decimal code) refl (plain-decimal code))
+line-ending (Dead code a) = line-words (codes "dead " ++ decimal code) (a ∷ []) (plain-decimal code)
 line-ending (Imprecise a) = line-words (codes "imprecise") (a ∷ []) refl
-
--- a number, and a space behind it
-plain_number : (xs : List ℕ) (n : ℕ) → is_plain xs ≡ true → is_plain (xs ++ decimal n ++ codes " ") ≡ true
-plain_number xs n plain = plain-append (xs ++ decimal n) (codes " ") (plain-append xs (decimal n) plain (plain-decimal n)) refl
 
 pub line-generated : (number count events : ℕ) (f : End) → IsLine (generated_line number count events f)
 unfolding generated_line
 line-generated number count events f =
-    let begun = plain_number (codes "#gen ") number refl in
-    let counted = plain_number (codes "#gen " ++ decimal number ++ codes " ") count begun in
-    let taken = plain_number (codes "#gen " ++ decimal number ++ codes " " ++ decimal count ++ codes " ") events counted in
-    after_plain (codes "#gen " ++ decimal number ++ codes " " ++ decimal count ++ codes " " ++ decimal events ++ codes " ") (ending f) taken (line-ending f)
+    after_plain (codes "#gen " ++ decimal number ++ codes " " ++ decimal count ++ codes " " ++ decimal events ++ codes " ")
+    (ending f) (search (rules, plain_rules)) (line-ending f)
 
 line-registers : (label : List ℕ) (v : View) (first : ℕ) → is_plain label ≡ true → IsLine (registers_text label v first)
 unfolding registers_text
 line-registers label v first h =
-    let rs = range_with_len first 16 in
-    after_plain (label ++ flat_map (spaced_register v) rs) (10 ∷ [])
-    (plain-append label (flat_map (spaced_register v) rs) h (plain_registers v rs)) refl
+    line_of (label ++ flat_map (spaced_register v) (range_with_len first 16)) (search (rules, plain_rules))
 
 pub line-globals : (v : View) → IsLine (registers_text (codes "#g") v 16)
 line-globals v = line-registers (codes "#g") v 16 refl
@@ -110,15 +105,12 @@ line-locals v = line-registers (codes "#l") v 0 refl
 pub line-refused : (what : List ℕ) (fault : ℕ × ℕ) → is_plain what ≡ true → IsLine (refused_line what fault)
 unfolding refused_line
 line-refused what fault plain =
-    let begun = plain-append (codes "#" ++ what) (codes " line ") (plain-append (codes "#") what refl plain) refl in
-    let line = plain-append (codes "#" ++ what ++ codes " line ") (decimal fault.0) begun (plain-decimal fault.0) in
-    let kind = plain-append (codes "#" ++ what ++ codes " line " ++ decimal fault.0) (codes " kind ") line refl in
-    after_plain (codes "#" ++ what ++ codes " line " ++ decimal fault.0 ++ codes " kind " ++ decimal fault.1) (10 ∷ [])
-    (plain-append (codes "#" ++ what ++ codes " line " ++ decimal fault.0 ++ codes " kind ") (decimal fault.1) kind (plain-decimal fault.1)) refl
+    line_of (codes "#" ++ what ++ codes " line " ++ decimal fault.0 ++ codes " kind " ++ decimal fault.1)
+    (search (rules, plain_rules))
 
 pub line-elf : (kind : ℕ) → IsLine (elf_line kind)
 unfolding elf_line
-line-elf kind = after_plain (codes "#image elf kind " ++ decimal kind) (10 ∷ []) (plain-append (codes "#image elf kind ") (decimal kind) refl (plain-decimal kind)) refl
+line-elf kind = line_of (codes "#image elf kind " ++ decimal kind) (plain-decimal kind)
 
 pub ruleset line_rules = (line_alone, line-generated, line-elf)
 
@@ -126,18 +118,13 @@ pub ruleset line_rules = (line_alone, line-generated, line-elf)
 
 pub line-turn : (t k : ℕ) → IsLine (turn_text t k)
 unfolding turn_text
-line-turn t k =
-    after_plain (codes "#turn " ++ decimal t ++ codes " " ++ decimal k) (10 ∷ [])
-    (plain-append (codes "#turn " ++ decimal t ++ codes " ") (decimal k) (plain_number (codes "#turn ") t refl) (plain-decimal k)) refl
-
-pub line-counted : (label ws : List ℕ) (n : ℕ) → is_plain label ≡ true → IsLine (words_text (label ++ decimal n) ws)
-line-counted label ws n plain = line-words (label ++ decimal n) ws (plain-append label (decimal n) plain (plain-decimal n))
+line-turn t k = line_of (codes "#turn " ++ decimal t ++ codes " " ++ decimal k) (search (rules, plain_rules))
 
 pub line-view : (n : ℕ) (ws : List ℕ) → IsLine (words_text (codes "#view " ++ decimal n) ws)
-line-view n ws = line-counted (codes "#view ") ws n refl
+line-view n ws = line-words (codes "#view " ++ decimal n) ws (plain-decimal n)
 
 pub line-raw : (n : ℕ) (ws : List ℕ) → IsLine (words_text (codes "#raw " ++ decimal n) ws)
-line-raw n ws = line-counted (codes "#raw ") ws n refl
+line-raw n ws = line-words (codes "#raw " ++ decimal n) ws (plain-decimal n)
 
 pub line-raw_globals : (ws : List ℕ) → IsLine (words_text (codes "#rg") ws)
 line-raw_globals ws = line-words (codes "#rg") ws refl
@@ -147,18 +134,13 @@ line-raw_locals ws = line-words (codes "#rl") ws refl
 
 pub line-held : (n : ℕ) (fs : List Frame) → IsLine (held_text n fs)
 unfolding held_text
-line-held n fs = line-counted (codes "#held " ++ decimal n ++ codes " ") _ (length fs) (plain_number (codes "#held ") n refl)
+line-held n fs = line-words (codes "#held " ++ decimal n ++ codes " " ++ decimal (length fs)) _ (search (rules, plain_rules))
 
 pub line-raw_bytes : (a : ℕ) (bs : List (Option ℕ)) → IsLine (raw_bytes_text a bs)
 unfolding raw_bytes_text
-line-raw_bytes a bs =
-    let begun = plain-append (codes "#rawmem") (spaced a) refl (plain-word_text a) in
-    after_plain (codes "#rawmem" ++ spaced a ++ flat_map spaced_byte bs) (10 ∷ []) (plain-append (codes "#rawmem" ++ spaced a) (flat_map spaced_byte bs) begun (plain_bytes bs)) refl
+line-raw_bytes a bs = line_of (codes "#rawmem" ++ spaced a ++ flat_map spaced_byte bs) (search (rules, plain_rules))
 
 pub line-who : (change : Option (ℕ × ℕ)) → IsLine (who_text change)
 unfolding who_text
 line-who None = refl
-line-who (Some change) =
-    let begun = plain-append (codes "#who ") (decimal change.0) refl (plain-decimal change.0) in
-    after_plain (codes "#who " ++ decimal change.0 ++ spaced change.1) (10 ∷ [])
-    (plain-append (codes "#who " ++ decimal change.0) (spaced change.1) begun (plain-word_text change.1)) refl
+line-who (Some change) = line_of (codes "#who " ++ decimal change.0 ++ spaced change.1) (search (rules, plain_rules))

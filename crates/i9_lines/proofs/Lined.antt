@@ -1,6 +1,7 @@
 -- A text that is printed line by line, cut at its first line feed each time.
-use Rattle.std.proofs.Common.{◌≡◌, ℕ, suc, ◌+◌, ◌<◌, Bool, true, false, List, [], ◌∷◌, ◌++◌, length, take, drop, Some, None, refl, ap, ◌∙◌, subst, arith, append_assoc}
+use Rattle.std.proofs.Common.{◌≡◌, ℕ, suc, ◌+◌, ◌<◌, List, [], ◌∷◌, ◌++◌, length, take, drop, Some, None, refl, ap, ◌∙◌, subst, inl, inr, arith, append_assoc}
 use Rattle.std.specs.List.{position, position_or_len}
+use Rattle.std.proofs.lemmas.Bool.{cases_Bool}
 use Rattle.std.proofs.lemmas.List.{take-append-drop}
 use Rattle.i9_text.specs.Text.{is_line_feed}
 use Rattle.i9_text.proofs.Cuts.{position_or_len-found, position_or_len-missing}
@@ -13,17 +14,14 @@ use Rattle.i9_lines.proofs.Prints.{prints_none, prints_then, prints_stop, prints
 -- what stands up to the first line feed ends there
 first_line : (text : List ℕ) → position_or_len is_line_feed text < length text → IsLine (take (position_or_len is_line_feed text + 1) text)
 first_line [] h = absurd (omega arith)
-first_line (b ∷ bs) h = by_first (λ k. first_line bs k) (is_line_feed b) refl h
-  where
-    by_first : (position_or_len is_line_feed bs < length bs → IsLine (take (position_or_len is_line_feed bs + 1) bs))
-        → (t : Bool) → is_line_feed b ≡ t → position_or_len is_line_feed (b ∷ bs) < length (b ∷ bs)
-        → IsLine (take (position_or_len is_line_feed (b ∷ bs) + 1) (b ∷ bs))
-    by_first later true e k = rw e (rw e refl)
-    by_first later false e k =
-        let n = position_or_len is_line_feed bs in
-        let next : 1 + n + 1 ≡ suc (n + 1) = omega arith in
-        let rest : IsLine (take (n + 1) bs) = later (let j = rw e at k in omega (arith, j)) in
-        rw e (rw next (rw e (omega (arith, rest))))
+first_line (b ∷ bs) h = elim (cases_Bool (is_line_feed b)) [
+  | inl e ↦ rw (e, e) refl
+  | inr e ↦
+      let n = position_or_len is_line_feed bs in
+      let next : 1 + n + 1 ≡ suc (n + 1) = omega arith in
+      let rest : IsLine (take (n + 1) bs) = first_line bs (let j = rw e at h in omega (arith, j)) in
+      rw (e, next, e) (omega (arith, rest))
+]
 
 pub line_found : (text : List ℕ) (i : ℕ) → Some i ≡ position is_line_feed text → IsLine (take (i + 1) text)
 line_found text i e =

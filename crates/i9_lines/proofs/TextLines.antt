@@ -1,5 +1,6 @@
 -- The lines of a text, and of one text behind another.
-use Rattle.std.proofs.Common.{◌≡◌, ℕ, ◌<◌, ◌≤◌, Bool, true, false, List, [], ◌∷◌, ◌++◌, length, refl, sym, ap, ◌∙◌, arith, append_assoc}
+use Rattle.std.proofs.Common.{◌≡◌, ℕ, ◌<◌, ◌≤◌, List, [], ◌∷◌, ◌++◌, length, refl, sym, ap, ◌∙◌, inl, inr, arith, append_assoc}
+use Rattle.std.proofs.lemmas.Bool.{cases_Bool}
 use Rattle.std.specs.List.{position_or_len}
 use Rattle.std.proofs.lemmas.List.{append-nil}
 use Rattle.i9_text.specs.Text.{is_line_feed}
@@ -12,14 +13,10 @@ nothing_left (b ∷ bs) e = absurd (omega (arith, e))
 -- what stands behind a line with its line feed begins another one
 pub feed_line : (text behind : List ℕ) → IsLine text → lines_in (text ++ behind) ≡ text ∷ lines_in behind
 feed_line [] behind h = absurd (omega (arith, h))
-feed_line (b ∷ bs) behind h = by_first (λ k. feed_line bs behind k) (is_line_feed b) refl h
-  where
-    by_first : (IsLine bs → lines_in (bs ++ behind) ≡ bs ∷ lines_in behind) → (t : Bool) → is_line_feed b ≡ t
-        → IsLine (b ∷ bs) → lines_in (b ∷ bs ++ behind) ≡ (b ∷ bs) ∷ lines_in behind
-    by_first later true e k =
-        let none : bs ≡ [] = nothing_left bs (let j = rw e at k in omega (arith, j)) in
-        rw e (rw none refl)
-    by_first later false e k = rw e (ap (onto_first b) (later (let j = rw e at k in omega (arith, j))))
+feed_line (b ∷ bs) behind h = elim (cases_Bool (is_line_feed b)) [
+  | inl e ↦ let none : bs ≡ [] = nothing_left bs (let j = rw e at h in omega (arith, j)) in rw (e, none) refl
+  | inr e ↦ rw e (ap (onto_first b) (feed_line bs behind (let j = rw e at h in omega (arith, j))))
+]
 
 -- it is one line
 pub line_alone : (text : List ℕ) → IsLine text → IsPiece text
@@ -28,19 +25,16 @@ line_alone text h = ap lines_in (sym (append-nil text)) ∙ feed_line text [] h
 -- so is what has no line feed, where it is something
 pub rest_alone : (text : List ℕ) → length text ≤ position_or_len is_line_feed text → 0 < length text → IsPiece text
 rest_alone [] none some = absurd (omega (arith, some))
-rest_alone (b ∷ []) none some = by_first (is_line_feed b) refl
-  where
-    by_first : (t : Bool) → is_line_feed b ≡ t → IsPiece (b ∷ [])
-    by_first true e = rw e refl
-    by_first false e = rw e refl
-rest_alone (b ∷ c ∷ cs) none some = by_first (λ k. rest_alone (c ∷ cs) k (omega arith)) (is_line_feed b) refl none
-  where
-    by_first : (length (c ∷ cs) ≤ position_or_len is_line_feed (c ∷ cs) → IsPiece (c ∷ cs)) → (t : Bool) → is_line_feed b ≡ t
-        → length (b ∷ c ∷ cs) ≤ position_or_len is_line_feed (b ∷ c ∷ cs) → IsPiece (b ∷ c ∷ cs)
-    by_first later true e k = absurd (let j = rw e at k in omega (arith, j))
-    by_first later false e k =
-        let rest : IsPiece (c ∷ cs) = later (let j = rw e at k in omega (arith, j)) in
-        rw e (ap (onto_first b) rest)
+rest_alone (b ∷ []) none some = elim (cases_Bool (is_line_feed b)) [
+  | inl e ↦ rw e refl
+  | inr e ↦ rw e refl
+]
+rest_alone (b ∷ c ∷ cs) none some = elim (cases_Bool (is_line_feed b)) [
+  | inl e ↦ absurd (let j = rw e at none in omega (arith, j))
+  | inr e ↦
+      let rest : IsPiece (c ∷ cs) = rest_alone (c ∷ cs) (let j = rw e at none in omega (arith, j)) (omega arith) in
+      rw e (ap (onto_first b) rest)
+]
 
 -- ---- texts whose last line has its line feed
 
@@ -71,11 +65,10 @@ some_first b (line ∷ lines) = omega arith
 
 some_line : (front : List ℕ) → 0 < length (lines_in (front ++ 10 ∷ []))
 some_line [] = omega arith
-some_line (b ∷ bs) = by_first (is_line_feed b) refl
-  where
-    by_first : (t : Bool) → is_line_feed b ≡ t → 0 < length (lines_in (b ∷ bs ++ 10 ∷ []))
-    by_first true e = rw e (omega arith)
-    by_first false e = rw e (some_first b (lines_in (bs ++ 10 ∷ [])))
+some_line (b ∷ bs) = elim (cases_Bool (is_line_feed b)) [
+  | inl e ↦ rw e (omega arith)
+  | inr e ↦ rw e (some_first b (lines_in (bs ++ 10 ∷ [])))
+]
 
 first_apart : (b : ℕ) (lines later : List (List ℕ)) → 0 < length lines → onto_first b (lines ++ later) ≡ onto_first b lines ++ later
 first_apart b [] later some = absurd (omega (arith, some))
@@ -83,12 +76,12 @@ first_apart b (line ∷ lines) later some = refl
 
 feed_apart : (front behind : List ℕ) → lines_in ((front ++ 10 ∷ []) ++ behind) ≡ lines_in (front ++ 10 ∷ []) ++ lines_in behind
 feed_apart [] behind = refl
-feed_apart (b ∷ bs) behind = by_first (feed_apart bs behind) (is_line_feed b) refl
-  where
-    by_first : lines_in ((bs ++ 10 ∷ []) ++ behind) ≡ lines_in (bs ++ 10 ∷ []) ++ lines_in behind → (t : Bool) → is_line_feed b ≡ t
-        → lines_in ((b ∷ bs ++ 10 ∷ []) ++ behind) ≡ lines_in (b ∷ bs ++ 10 ∷ []) ++ lines_in behind
-    by_first later true e = rw e (ap (λ (ls : List (List ℕ)). (b ∷ []) ∷ ls) later)
-    by_first later false e = rw e (ap (onto_first b) later ∙ first_apart b (lines_in (bs ++ 10 ∷ [])) (lines_in behind) (some_line bs))
+feed_apart (b ∷ bs) behind = elim (cases_Bool (is_line_feed b)) [
+  | inl e ↦ rw e (ap (λ (ls : List (List ℕ)). (b ∷ []) ∷ ls) (feed_apart bs behind))
+  | inr e ↦
+      rw e (ap (onto_first b) (feed_apart bs behind)
+      ∙ first_apart b (lines_in (bs ++ 10 ∷ [])) (lines_in behind) (some_line bs))
+]
 
 pub closed_feed : (front : List ℕ) → IsClosed (front ++ 10 ∷ [])
 closed_feed front = record { apart = feed_apart front }

@@ -1,11 +1,11 @@
 -- What a source assembles to are bytes.
-use Rattle.std.proofs.Common.{◌≡◌, ℕ, zero, suc, ◌+◌, ◌<◌, Bool, true, false, not, cond, eqb, List, [], ◌∷◌, ◌++◌, flat_map, Option, Some, None, refl, sym, subst, arith}
+use Rattle.std.proofs.Common.{◌≡◌, ℕ, zero, suc, ◌+◌, ◌<◌, Bool, true, false, not, cond, eqb, List, [], ◌∷◌, ◌++◌, flat_map, Option, Some, None, refl, sym, subst, inl, inr, arith}
 use Rattle.i9_asm.proofs.ReadListing.{low_take, low_drop}
 use Rattle.std.specs.Prelude.{IfSome, codes}
 use Rattle.std.specs.List.{AllByRecursion, list_all, position_or_len}
 use Rattle.std.specs.Str.{bytes_eq}
 use Rattle.std.specs.Int.{w32, to_le_bytes, byte_at}
-use Rattle.std.proofs.lemmas.Bool.{and_parts, ltb-true}
+use Rattle.std.proofs.lemmas.Bool.{and_parts, ltb-true, cases_Bool}
 use Rattle.i9_text.specs.FirstFault.{SaysAll}
 use Rattle.i9_text.specs.Text.{is_blank, is_in_word}
 use Rattle.i9_model.specs.Image.{Part, upwards, pairs_of}
@@ -54,14 +54,15 @@ low_ascii (b ∷ bs) h =
     let small = ltb-true b 128 p.0 in
     (omega (arith, small), low_ascii bs p.1)
 
+-- what both have, the one that is chosen has
+chosen : {X : Type 0} (P : X → Type 0) (t : Bool) (x y : X) → P x → P y → P (cond t x y)
+chosen P true x y h k = h
+chosen P false x y h k = k
+
 -- ---- strings
 
 abbrev LowSome : Option (List ℕ) → Type 0
 LowSome o = IfSome o IsLow
-
-some_if : (t : Bool) (x y : Option (List ℕ)) → LowSome x → LowSome y → LowSome (cond t x y)
-some_if true x y h k = h
-some_if false x y h k = k
 
 some_blank : (s : List ℕ) → LowSome (if_blank s)
 some_blank [] = tt
@@ -72,27 +73,27 @@ some_before None cs h k = tt
 some_before (Some c) None h k = tt
 some_before (Some c) (Some cs) h k = (h, k)
 
-code_if : (t : Bool) (c : ℕ) (y : Option ℕ) → c < 256 → IfSome y (λ b. b < 256) → IfSome (cond t (Some c) y) (λ b. b < 256)
-code_if true c y h k = h
-code_if false c y h k = k
+abbrev LowByte : Option ℕ → Type 0
+LowByte o = IfSome o (λ b. b < 256)
 
-low_escaped : (b : ℕ) → IfSome (escaped b) (λ c. c < 256)
+low_escaped : (b : ℕ) → LowByte (escaped b)
 low_escaped b =
-    code_if (eqb b small_n) 10 _ (omega arith) (code_if (eqb b zero_digit) 0 _ (omega arith)
-    (code_if (eqb b quote) quote _ (omega arith) (code_if (eqb b backslash) backslash None (omega arith) tt)))
+    chosen LowByte (eqb b small_n) (Some 10) _ (omega arith) (chosen LowByte (eqb b zero_digit) (Some 0) _ (omega arith)
+    (chosen LowByte (eqb b quote) (Some quote) _ (omega arith)
+    (chosen LowByte (eqb b backslash) (Some backslash) None (omega arith) tt)))
 
 low_characters : (s : List ℕ) → IsLow s → LowSome (characters s)
 unfolding characters
 low_characters [] h = tt
-low_characters (b ∷ []) h = some_if (eqb b quote) (Some []) None tt tt
+low_characters (b ∷ []) h = chosen LowSome (eqb b quote) (Some []) None tt tt
 low_characters (b ∷ c ∷ s) h =
-    some_if (eqb b quote) _ _ (some_blank (from is_in_word (c ∷ s)))
-    (some_if (eqb b backslash) _ _ (some_before (escaped c) (characters s) (low_escaped c) (low_characters s h.1.1))
+    chosen LowSome (eqb b quote) _ _ (some_blank (from is_in_word (c ∷ s)))
+    (chosen LowSome (eqb b backslash) _ _ (some_before (escaped c) (characters s) (low_escaped c) (low_characters s h.1.1))
     (some_before (Some b) (characters (c ∷ s)) h.0 (low_characters (c ∷ s) h.1)))
 
 low_opened : (s : List ℕ) → IsLow s → LowSome (opened s)
 low_opened [] h = tt
-low_opened (b ∷ s) h = some_if (eqb b quote) (characters s) None (low_characters s h.1) tt
+low_opened (b ∷ s) h = chosen LowSome (eqb b quote) (characters s) None (low_characters s h.1) tt
 
 low_string : (s : List ℕ) → IsLow s → LowSome (string_of s)
 unfolding string_of
@@ -104,10 +105,6 @@ low_string s h = low_opened (from is_in_word s) (low_drop (position_or_len is_in
 abbrev LowItem : Item → Type 0
 LowItem (Ascii s) = IsLow s
 LowItem _ = Unit {0}
-
-item_if : (t : Bool) (x y : Item) → LowItem x → LowItem y → LowItem (cond t x y)
-item_if true x y h k = h
-item_if false x y h k = k
 
 item_data : (width : ℕ) (fs : List (List ℕ)) → LowItem (some_values width fs)
 item_data width [] = tt
@@ -128,24 +125,24 @@ item_directive : (name rest : List ℕ) → IsLow rest → LowItem (directive_of
 item_directive name rest h =
     let fs = fields_of rest in
     let is = λ (word : List ℕ). bytes_eq name word in
-    item_if (is (codes ".word")) _ _ (item_data 4 fs) (item_if (is (codes ".short")) _ _ (item_data 2 fs)
-    (item_if (is (codes ".byte")) _ _ (item_data 1 fs) (item_if (is (codes ".org")) _ _ (item_one Org fs (λ f. tt))
-    (item_if (is (codes ".space")) _ _ (item_one Space fs (λ f. tt)) (item_if (is (codes ".align")) _ _ (item_one Align fs (λ f. tt))
-    (item_if (is (codes ".set")) _ _ (item_two fs) (item_if (is (codes ".ascii")) (Ascii rest) (Bad fault.UnknownMnemonic) h tt)))))))
+    let one_of = chosen LowItem in
+    one_of (is (codes ".word")) _ _ (item_data 4 fs) (one_of (is (codes ".short")) _ _ (item_data 2 fs)
+    (one_of (is (codes ".byte")) _ _ (item_data 1 fs) (one_of (is (codes ".org")) _ _ (item_one Org fs (λ f. tt))
+    (one_of (is (codes ".space")) _ _ (item_one Space fs (λ f. tt)) (one_of (is (codes ".align")) _ _ (item_one Align fs (λ f. tt))
+    (one_of (is (codes ".set")) _ _ (item_two fs) (one_of (is (codes ".ascii")) (Ascii rest) (Bad fault.UnknownMnemonic) h tt)))))))
 
 low_item : (s : List ℕ) → IsLow s → LowItem (item_by s)
 low_item [] h = tt
 low_item (b ∷ s) h =
-    item_if (eqb b dot) (directive_of (before is_blank (b ∷ s)) (from is_blank (b ∷ s))) (Instruction (b ∷ s))
+    chosen LowItem (eqb b dot) (directive_of (before is_blank (b ∷ s)) (from is_blank (b ∷ s))) (Instruction (b ∷ s))
     (item_directive (before is_blank (b ∷ s)) (from is_blank (b ∷ s)) (low_drop (position_or_len is_blank (b ∷ s)) (b ∷ s) h)) tt
 
 low_behind : (s head t : List ℕ) → IsLow s → IsLow t → IsLow (labelled_by s head t).rest
 low_behind s head [] h k = h
-low_behind s head (b ∷ t) h k = by_colon (eqb b colon) refl
-  where
-    by_colon : (c : Bool) → eqb b colon ≡ c → IsLow (labelled_by s head (b ∷ t)).rest
-    by_colon true e = rw e (low_drop (position_or_len is_in_word t) t k.1)
-    by_colon false e = rw e h
+low_behind s head (b ∷ t) h k = elim (cases_Bool (eqb b colon)) [
+  | inl e ↦ rw e (low_drop (position_or_len is_in_word t) t k.1)
+  | inr e ↦ rw e h
+]
 
 low_labelled : (s : List ℕ) → IsLow s → IsLow (labelled s).rest
 unfolding labelled

@@ -47,20 +47,22 @@ pub record Same (c d : ℕ) (s t : List ℕ) : Type 0 where
   pub status : c ≡ d
   pub text : s ≡ t
 
--- the same image runs the same
-same_run : (version : ℕ) (traced : Option Range) (g : Given) (rs qs : List Record) (e f : Finish) → IsPipelinedRun g rs e → IsPipelinedRun g qs f
-    → Same (end_code e.end) (end_code f.end) (headed_text version traced g rs e) (headed_text version traced g qs f)
-same_run version traced g rs qs e f a b =
-    let end = late_end g rs qs e f a b in
-    let records = pipelined_records g rs qs e f a b in
-    record { status = ap (λ (x : Finish). end_code x.end) end; text = ap (λ (x : List Record). headed_text version traced g x e) records ∙ ap (headed_text version traced g qs) end }
+-- a run has one list of records and one end
+same_run : (g : Given) (rs qs : List Record) (e f : Finish) → IsPipelinedRun g rs e → IsPipelinedRun g qs f → (rs ≡ qs) × (e ≡ f)
+same_run g rs qs e f a b = (pipelined_records g rs qs e f a b, late_end g rs qs e f a b)
 
 -- one status and one text, but for those of a file that was not read
 abbrev Once : (ℕ → List ℕ → Type 0) → Type 0
 Once gives = (c d : ℕ) (s t : List ℕ) → c ≢ 5 → d ≢ 5 → gives c s → gives d t → Same c d s t
 
 once_run : (sets : Option ℕ) (limit : ℕ) (traced : Option Range) (pairs : List (ℕ × ℕ)) (plan : Contents) → Once (RunGives sets limit traced pairs plan)
-once_run sets limit traced pairs plan c d s t p q (runs rs e run) (runs us f other) = same_run plan.version traced (given pairs plan.events limit sets) rs us e f run other
+once_run sets limit traced pairs plan c d s t p q (runs rs e run) (runs us f other) =
+    let g = given pairs plan.events limit sets in
+    let same = same_run g rs us e f run other in
+    record {
+      status = ap (λ (x : Finish). end_code x.end) same.1;
+      text = ap (λ (x : List Record). headed_text plan.version traced g x e) same.0 ∙ ap (headed_text plan.version traced g us) same.1;
+    }
 
 -- one text of a script, and one place behind it
 once_script : (sets : Option ℕ) (pairs : List (ℕ × ℕ)) (events : List Timed) (commands : List ScriptCommand) → Once (ScriptGives sets pairs events commands)
@@ -95,24 +97,17 @@ once_tune a n pairs low c d s t p q (tuned is s' e one) (tuned js t' h other) =
     let ok = image_tunable pairs n a js low h in
     record { status = refl; text = one_tuning a js s t ok (subst (λ (block : List Inst). IsTuning a block s) same one) other }
 
--- one run comes to one line
-same_line : (number : ℕ) (g : Given) (rs qs : List Record) (e f : Finish) → IsPipelinedRun g rs e → IsPipelinedRun g qs f → Same (end_code e.end) (end_code f.end) (job_line number g rs e) (job_line number g qs f)
-same_line number g rs qs e f a b =
-    let end = late_end g rs qs e f a b in
-    let records = pipelined_records g rs qs e f a b in
-    record { status = ap (λ (x : Finish). end_code x.end) end; text = ap (λ (x : List Record). job_line number g x e) records ∙ ap (job_line number g qs) end }
-
--- so do two of what is the same
-same_job : (number : ℕ) (g h : Given) (rs qs : List Record) (e f : Finish) → g ≡ h → IsPipelinedRun g rs e → IsPipelinedRun h qs f → Same (end_code e.end) (end_code f.end) (job_line number g rs e) (job_line number h qs f)
-same_job number g h rs qs e f same a b =
-    subst (λ (k : Given). IsPipelinedRun k qs f → Same (end_code e.end) (end_code f.end) (job_line number g rs e) (job_line number k qs f)) same (same_line number g rs qs e f a) b
-
+-- one job is made, whose run comes to one line
 once_job : (number : ℕ) (sets : Option ℕ) → Once (GenGives number sets)
 once_job number sets c d s t p q (job_runs i ts rs e made says run) (job_runs j us qs f made' says' other) =
-    let image = one_value Source (generated_source number) i j made made' in
-    let events = one_value Schedule (generated_schedule number) ts us says says' in
-    let same = ap (λ (x : List Part). given (pairs_of x) ts.events MAX_LENGTH sets) image ∙ ap (λ (x : Contents). given (pairs_of j) x.events MAX_LENGTH sets) events in
-    same_job number _ _ rs qs e f same run other
+    let image = one_value Source (generated_source number) j i made' made in
+    let events = one_value Schedule (generated_schedule number) us ts says' says in
+    let g = given (pairs_of i) ts.events MAX_LENGTH sets in
+    let same = same_run g rs qs e f run (rw (image, events) at other) in
+    rw (image, events) (record {
+      status = ap (λ (x : Finish). end_code x.end) same.1;
+      text = ap (λ (x : List Record). job_line number g x e) same.0 ∙ ap (job_line number g qs) same.1;
+    })
 
 once_task : (task : Task) → Sound task → Once (TaskGives task)
 once_task (Runs pairs plan sets (ToLength limit traced)) h = once_run sets limit traced pairs plan

@@ -1,5 +1,6 @@
 -- A script prints one text from a place on, and leads to one place.
 use Rattle.std.proofs.Common.{◌≡◌, ℕ, ◌+◌, ◌<◌, ◌≤◌, true, false, List, [], ◌∷◌, ◌++◌, length, drop, Option, Some, None, refl, sym, ap, ◌∙◌, subst, ◌⊎◌, inl, inr, arith}
+use Rattle.std.proofs.Math.Nat.{eq-or-lt_of_le}
 use Rattle.i9_past.proofs.Unique.{does_is}
 use Rattle.i9_model.specs.Late.{turns as late_turns}
 use Rattle.i9_model.specs.PrintedText.{text_of, lines_of}
@@ -27,9 +28,6 @@ same_length g h (r ∷ rs) (q ∷ qs) e c d =
     let heads = does_is r q (sym c.2 ∙ ap (λ (xs : List Record). (ahead g (steps_on xs h)).next) tails ∙ d.2) in
     ap (λ (x : Record). x ∷ rs) heads ∙ ap (λ (xs : List Record). q ∷ xs) tails
 
-split : (m n : ℕ) → m ≤ n → (m < n) ⊎ (m ≡ n)
-split m n h = grind arith
-
 either_way : (m n : ℕ) → (m ≤ n) ⊎ (n ≤ m)
 either_way m n = grind arith
 
@@ -37,9 +35,9 @@ either_way m n = grind arith
 goes_on : (g : Given) (h : List Item) (rs qs : List Record) → length rs ≤ length qs → IsCourse g (steps_on rs h) → IsCourse g (steps_on qs h)
     → (more : List Record) × (more ++ rs ≡ qs)
 goes_on g h rs [] le c d = ([], same_length g h rs [] (omega (arith, le)) c d)
-goes_on g h rs (q ∷ qs) le c d = elim (split (length rs) (length (q ∷ qs)) le) [
-  | inl lt ↦ let m = goes_on g h rs qs (omega (arith, lt)) c d.0 in (q ∷ m.0, ap (λ (xs : List Record). q ∷ xs) m.1)
-  | inr same ↦ ([], same_length g h rs (q ∷ qs) same c d)
+goes_on g h rs (q ∷ qs) le c d = elim (eq-or-lt_of_le le) [
+  | inr lt ↦ let m = goes_on g h rs qs (omega (arith, lt)) c d.0 in (q ∷ m.0, ap (λ (xs : List Record). q ∷ xs) m.1)
+  | inl same ↦ ([], same_length g h rs (q ∷ qs) same c d)
 ]
 
 module _ (g : Given) (h : List Item) (rs : List Record) where
@@ -86,8 +84,14 @@ module _ (g : Given) (h : List Item) (Stops : List Record → Type 0)
 abbrev Same : List ℕ → List ℕ → Place → Place → Type 0
 Same x y p q = (x ≡ y) × (p ≡ q)
 
-one_end : (e f : Finish) → ◌≡◌ {A = Option Finish} (Some e) (Some f) → e ≡ f
-one_end e f h = cc
+-- the same records have one end behind them
+same_ends : (g : Given) (h : List Item) (rs qs : List Record) (f k : Finish) → EndsBehind g h rs f → EndsBehind g h qs k → rs ≡ qs
+    → Same (text_of (ending_lines g h rs f)) (text_of (ending_lines g h qs k))
+    (ended (steps_on rs h) (turn_ahead g (steps_on rs h)) f) (ended (steps_on qs h) (turn_ahead g (steps_on qs h)) k)
+same_ends g h rs qs f k e d same =
+    let both : ◌≡◌ {A = Option Finish} (Some f) (Some k) = sym (rw same at e.is_end) ∙ d.is_end in
+    let end : f ≡ k = cc in
+    rw (same, end) (refl, refl)
 
 -- ---- up to a turn
 
@@ -122,21 +126,15 @@ module _ (g : Given) (h : List Item) (u : ℕ) where
       let same = same_pass rs qs (passes b) (passes d) in
       (ap (λ (xs : List Record). text_of (lines_of xs)) same, ap (λ (xs : List Record). at (steps_on xs h) u) same)
   one_turns x y p q (turns_pass rs b) (turns_end qs f e low) =
-      let same = same_pass rs qs (passes b) (finishes f e low) in
-      let turn = ap (λ (xs : List Record). turn_ahead g (steps_on xs h)) same in
-      let high = b.later in
-      absurd (omega (arith, turn, high, low))
+      let high = rw (same_pass rs qs (passes b) (finishes f e low)) at b.later in
+      absurd (omega (arith, high, low))
   one_turns x y p q (turns_end rs f e low) (turns_pass qs d) =
-      let same = same_pass rs qs (finishes f e low) (passes d) in
-      let turn = ap (λ (xs : List Record). turn_ahead g (steps_on xs h)) same in
+      let under = rw (same_pass rs qs (finishes f e low) (passes d)) at low in
       let high = d.later in
-      absurd (omega (arith, turn, high, low))
+      absurd (omega (arith, high, under))
   one_turns x y p q (turns_end rs f e low) (turns_end qs k d down) =
       let same = same_pass rs qs (finishes f e low) (finishes k d down) in
-      let end = one_end f k (sym e.is_end ∙ ap (λ (xs : List Record). end_ahead g (steps_on xs h)) same ∙ d.is_end) in (
-        ap (λ (xs : List Record). text_of (ending_lines g h xs f)) same ∙ ap (λ (z : Finish). text_of (ending_lines g h qs z)) end,
-        ap (λ (xs : List Record). ended (steps_on xs h) (turn_ahead g (steps_on xs h)) f) same ∙ ap (ended (steps_on qs h) (turn_ahead g (steps_on qs h))) end,
-      )
+      same_ends g h rs qs f k e d same
 
 -- ---- up to an address
 
@@ -194,10 +192,7 @@ module _ (g : Given) (h : List Item) (a : ℕ) where
       absurd (apart s qs rs is' (same_come (s ∷ qs) rs (there s qs d none' is') (nowhere rs f e none)) none)
   one_comes x y p q (none_comes rs f e none) (none_comes qs k d none') =
       let same = same_come rs qs (nowhere rs f e none) (nowhere qs k d none') in
-      let end = one_end f k (sym e.is_end ∙ ap (λ (xs : List Record). end_ahead g (steps_on xs h)) same ∙ d.is_end) in (
-        ap (λ (xs : List Record). text_of (ending_lines g h xs f)) same ∙ ap (λ (z : Finish). text_of (ending_lines g h qs z)) end,
-        ap (λ (xs : List Record). ended (steps_on xs h) (turn_ahead g (steps_on xs h)) f) same ∙ ap (ended (steps_on qs h) (turn_ahead g (steps_on qs h))) end,
-      )
+      same_ends g h rs qs f k e d same
 
 -- ---- commands
 
@@ -214,14 +209,9 @@ module _ (g : Given) where
   one_run (commands.Turn n) p q r x y s t =
       unless_once p.end p q r x y (TurnsTo g p.items (p.turn + n)) (one_turns g p.items (p.turn + n) x y q r) s t
   one_run (commands.Until a) p q r x y s t = unless_once p.end p q r x y (ComesTo g p.items a) (one_comes g p.items a x y q r) s t
-  one_run commands.Regs p q r x y s t = one_stay p q r x y s t
-  one_run commands.Raw p q r x y s t = one_stay p q r x y s t
-  one_run commands.Held p q r x y s t = one_stay p q r x y s t
-  one_run (commands.Mem a n) p q r x y s t = one_stay p q r x y s t
-  one_run (commands.RawMem a n) p q r x y s t = one_stay p q r x y s t
   one_run (commands.Back n) p q r x y s t = (s.0 ∙ sym t.0, one_back g _ q r s.1 t.1)
   one_run (commands.Last a) p q r x y s t = (s.0 ∙ sym t.0, one_back g _ q r s.1 t.1)
-  one_run (commands.Who a) p q r x y s t = one_stay p q r x y s t
+  one_run c p q r x y s t = one_stay p q r x y s t
 
   one_answer : (c : Command) (p q r : Place) (x y : List ℕ) → Answers g c p x q → Answers g c p y r → Same x y q r
   one_answer c p q r x y s t =

@@ -1,5 +1,4 @@
-use Rattle.std.proofs.Common.{◌≡◌, ℕ, refl, ◌∙◌, subst, arith}
-use Rattle.i9_back.specs.Trail.{FoundBetween}
+use Rattle.std.proofs.Common.{◌≡◌, refl, ◌∙◌, arith}
 use Rattle.i9_back.proofs.Trails.{can_go_on, found_none}
 use Rattle.i9_debug.specs.Driven.{given_of}
 use Rattle.i9_debug.specs.Last.{HeldLast}
@@ -8,11 +7,10 @@ use Rattle.i9_debug.proofs.seeking.seek_last.Goals as goal
 
 pub stops-init : goal.stops-init
 stops-init g c =
-    let what = given_of c.args.image.now c.args.sets c.args.plan.now in
     let order = c.in_ok-m.ensures.order in
     let before = c.saturating_sub-before.ensures in
     record {
-      found = found_none (HeldLast (g.F.ViewTest.allows c.args.s.now) c.args.n) what _ c.in_ok-m.m c.nearest.new.plan refl c.in_ok-m.ensures.stands;
+      found = found_none (HeldLast (g.F.ViewTest.allows c.args.s.now) c.args.n) _ _ _ _ refl c.in_ok-m.ensures.stands;
       stands = c.in_ok-m.ensures.stands;
       within = omega (arith, order, before);
       trail = c.requires.trail;
@@ -21,8 +19,7 @@ stops-init g c =
 
 pub seek-requires-clause-stands : goal.seek-requires-clause-stands
 seek-requires-clause-stands g c =
-    let what = given_of c.args.image.now c.args.sets c.args.plan.now in
-    can_go_on what c.stops.done _ c.args.to c.stops.m c.stops.plan c.next_stop-next.ensures.within c.stops.invariant.stands c.requires.reaches
+    can_go_on _ c.stops.done _ c.args.to c.stops.m c.stops.plan c.next_stop-next.ensures.within c.stops.invariant.stands c.requires.reaches
 
 pub stops-preserved : goal.stops-preserved
 stops-preserved g c =
@@ -39,8 +36,7 @@ stops-preserved g c =
 
 pub returns-clause-found : goal.returns-clause-found
 returns-clause-found g c =
-    let what = given_of c.args.image.now c.args.sets c.args.plan.now in
     let within = c.stops.invariant.within in
     let over = c.stops-test.false in
     let whole : c.stops.done ≡ c.args.to = omega (arith, within, over) in
-    subst (λ (n : ℕ). FoundBetween (HeldLast (g.F.ViewTest.allows c.args.s.now) c.args.n) what c.in_ok-m.from n c.stops.found) whole c.stops.invariant.found
+    rw whole at c.stops.invariant.found

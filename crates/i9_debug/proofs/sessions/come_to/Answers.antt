@@ -1,8 +1,6 @@
-use Rattle.std.proofs.Common.{◌≡◌, ◌∙◌, sym, Option, None, subst}
-use Rattle.i9_model.specs.Run.{Finish}
-use Rattle.i9_machine.specs.StandsFor.{StandsFor, FollowsUntil}
+use Rattle.std.proofs.Common.{◌≡◌, ◌∙◌, sym, None}
 use Rattle.i9_debug.specs.Session.{ComesTo}
-use Rattle.i9_debug.proofs.Commands.{drives_as, goes_on, on_its_way, stays_there, over_stays, none_ended, some_ended}
+use Rattle.i9_debug.proofs.Commands.{on_its_way, stays_there, over_stays, none_ended, some_ended}
 use Rattle.i9_debug.proofs.sessions.come_to.Goals as goal
 
 pub run_to-requires : goal.run_to-requires
@@ -13,10 +11,7 @@ run_to-requires g c =
 pub returns-in-None : goal.returns-in-None
 returns-in-None g c = λ what p at_place.
     let none : p.end ≡ None = none_ended p.end (sym (c.ended.ensures what p.items p.end at_place.stands) ∙ c.in-None.is) in
-    let stands = subst (λ (e : Option Finish). StandsFor what p.items e c.args.m.now) none at_place.stands in
-    let follows = subst (λ (e : Option Finish). FollowsUntil what p.items e c.args.plan.now) none at_place.follows in
-    drives_as _ what _ _ _ _ _ _ _ _ _ (λ x q leads. goes_on (ComesTo what p.items c.args.address) p none x q leads) (λ x y q cut. cut)
-    (c.run_to.ensures what p.items stands follows)
+    rw none (c.run_to.ensures what p.items (rw none at at_place.stands) (rw none at at_place.follows))
 
 pub returns-in-Some : goal.returns-in-Some
 returns-in-Some g c = λ what p at_place.

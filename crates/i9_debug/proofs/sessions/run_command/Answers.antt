@@ -1,7 +1,8 @@
-use Rattle.std.proofs.Common.{refl}
+use Rattle.std.proofs.Common.{refl, inl}
 use Rattle.i9_debug.specs.Driven.{in_run, not_back, not_last}
 use Rattle.i9_debug.proofs.Returning.{back_leads, last_leads}
-use Rattle.i9_debug.proofs.Commands.{drives_as, place_in_run, stays_there, went_back}
+use Rattle.i9_debug.proofs.Stepwise.{drives_by}
+use Rattle.i9_debug.proofs.Commands.{place_in_run, stays_there, went_back}
 use Rattle.i9_debug.proofs.sessions.run_command.Goals as goal
 
 pub turn_on-requires : goal.turn_on-requires
@@ -17,12 +18,12 @@ come_to-requires g c =
 
 pub returns-in-Turn-clause-drives : goal.returns-in-Turn-clause-drives
 returns-in-Turn-clause-drives g c = λ what p of is at_place.
-    drives_as _ what _ _ _ _ _ _ _ _ _ (λ x q leads. rw c.in-Turn.is leads) (λ x y q cut. rw c.in-Turn.is (in_run _ x y q cut))
+    drives_by _ what _ _ _ _ _ _ _ _ _ (λ x y q cut. rw c.in-Turn.is (in_run _ x y q cut)) (λ x q leads. inl (rw c.in-Turn.is leads))
     (c.turn_on.ensures what p at_place)
 
 pub returns-in-Until-clause-drives : goal.returns-in-Until-clause-drives
 returns-in-Until-clause-drives g c = λ what p of is at_place.
-    drives_as _ what _ _ _ _ _ _ _ _ _ (λ x q leads. rw c.in-Until.is leads) (λ x y q cut. rw c.in-Until.is (in_run _ x y q cut))
+    drives_by _ what _ _ _ _ _ _ _ _ _ (λ x y q cut. rw c.in-Until.is (in_run _ x y q cut)) (λ x q leads. inl (rw c.in-Until.is leads))
     (c.come_to.ensures what p at_place)
 
 pub returns-in-Back-clause-drives : goal.returns-in-Back-clause-drives

@@ -1,8 +1,11 @@
-use Rattle.std.specs.Prelude.{◌-◌, vec_capacity, vec_len}
-use Rattle.std.proofs.Common.{◌+◌, Some, ap, arith}
+use Rattle.std.proofs.Common.{arith}
+use Rattle.i9_machine.specs.declared.line.Turn.TheVariants as answers
 use Rattle.i9_machine.specs.Turned.{steps_on}
 use Rattle.i9_lines.specs.declared.print.Printed.TheVariants.{Write, Memory}
-use Rattle.i9_debug.proofs.Turns.{none_turned, none_left, stops_left, refused_left, ends_left, on_left, issued_left, on_under_way, issued_under_way}
+use Rattle.i9_lines.proofs.Prints.{prints_behind}
+use Rattle.i9_debug.specs.Session.{turns_end}
+use Rattle.i9_debug.proofs.Stepwise.{none_yet, under_way, one_more, at_end}
+use Rattle.i9_debug.proofs.Turns.{turned_whole, still_low, turn_stopped}
 use Rattle.i9_debug.proofs.sessions.run_turns.Goals as goal
 
 pub overflow_add-until : goal.overflow_add-until
@@ -12,75 +15,62 @@ overflow_add-until g c =
     omega (arith, small, few)
 
 pub loop-turn-init : goal.loop-turn-init
-loop-turn-init g c =
+loop-turn-init g c = λ what h stands follows.
     let some = c.requires.some in
-    record {
-      under_way = c.requires.stands;
-      turned = λ what h stands follows. none_turned _ what h (c.args.m.now.pipeline.turn + c.args.count) c.args.out.now c.args.m.now c.args.plan.now (omega (arith, some)) stands follows;
-    }
+    none_yet _ what h _ _ _ _ (omega (arith, some)) stands follows
 
 pub proceed_below-requires : goal.proceed_below-requires
-proceed_below-requires g c = record { stands = λ none. c.loop-turn.invariant.under_way }
+proceed_below-requires g c =
+    let w = c.requires.stands in
+    record { stands = λ none. under_way _ w.given w.items _ _ _ _ _ (c.loop-turn.invariant w.given w.items w.stands w.follows) }
 
 pub returns-in_default : goal.returns-in_default
 returns-in_default g c = λ what h stands follows.
-    let inv = c.loop-turn.invariant.turned what h stands follows in
-    none_left _ what h (c.args.m.now.pipeline.turn + c.args.count) c.args.out.now c.loop-turn.out c.loop-turn.m c.proceed_below.new.self c.loop-turn.plan c.proceed_below.new.plan inv _ _
-    c.clear.new.self.items c.proceed_below.new.out.items c.proceed_below.result c.clear.ensures.items (ap (λ t. t + c.args.count) c.at_turn.ensures.value)
-    (c.proceed_below.ensures.next what (steps_on inv.done h) inv.stands inv.follows) c.in_default.is
+    let s = c.loop-turn.invariant what h stands follows in
+    let came = c.proceed_below.ensures.next what (steps_on s.done h) s.stands s.follows in
+    turned_whole _ what h _ _ _ _ _ _ _ _ s (rw (c.clear.ensures.items, c.at_turn.ensures.value, c.in_default.is) at came)
 
 pub returns-in-Write : goal.returns-in-Write
 returns-in-Write g c = λ what h stands follows.
-    let inv = c.loop-turn.invariant.turned what h stands follows in
-    stops_left _ what h (c.args.m.now.pipeline.turn + c.args.count) c.args.out.now c.loop-turn.out c.loop-turn.m c.proceed_below.new.self c.loop-turn.plan c.proceed_below.new.plan inv _ _
-    c.clear.new.self.items c.proceed_below.new.out.items c.proceed_below.result c.clear.ensures.items (ap (λ t. t + c.args.count) c.at_turn.ensures.value)
-    (c.proceed_below.ensures.next what (steps_on inv.done h) inv.stands inv.follows) c.print_lines.new.out c.in-Some.turn c.in-Some.is Write tt (rw c.deref.ensures.value at c.in-Write.ensures)
+    let s = c.loop-turn.invariant what h stands follows in
+    let came = c.proceed_below.ensures.next what (steps_on s.done h) s.stands s.follows in
+    turn_stopped _ what h _ _ _ _ _ _ _ _ _ s _ _ (rw (c.clear.ensures.items, c.at_turn.ensures.value, c.in-Some.is) at came)
+    Write tt (rw c.deref.ensures.value at c.in-Write.ensures)
 
 pub returns-in-Memory : goal.returns-in-Memory
 returns-in-Memory g c = λ what h stands follows.
-    let inv = c.loop-turn.invariant.turned what h stands follows in
-    stops_left _ what h (c.args.m.now.pipeline.turn + c.args.count) c.args.out.now c.loop-turn.out c.loop-turn.m c.proceed_below.new.self c.loop-turn.plan c.proceed_below.new.plan inv _ _
-    c.clear.new.self.items c.proceed_below.new.out.items c.proceed_below.result c.clear.ensures.items (ap (λ t. t + c.args.count) c.at_turn.ensures.value)
-    (c.proceed_below.ensures.next what (steps_on inv.done h) inv.stands inv.follows) c.print_lines.new.out c.in-Some.turn c.in-Some.is Memory tt (rw c.deref.ensures.value at c.in-Memory.ensures)
+    let s = c.loop-turn.invariant what h stands follows in
+    let came = c.proceed_below.ensures.next what (steps_on s.done h) s.stands s.follows in
+    turn_stopped _ what h _ _ _ _ _ _ _ _ _ s _ _ (rw (c.clear.ensures.items, c.at_turn.ensures.value, c.in-Some.is) at came)
+    Memory tt (rw c.deref.ensures.value at c.in-Memory.ensures)
 
 pub returns-in-Memory-turn : goal.returns-in-Memory-turn
 returns-in-Memory-turn g c = λ what h stands follows.
-    let inv = c.loop-turn.invariant.turned what h stands follows in
-    refused_left _ what h (c.args.m.now.pipeline.turn + c.args.count) c.args.out.now c.loop-turn.out c.loop-turn.m c.proceed_below.new.self c.loop-turn.plan c.proceed_below.new.plan inv _ _
-    c.clear.new.self.items c.proceed_below.new.out.items c.proceed_below.result c.clear.ensures.items (ap (λ t. t + c.args.count) c.at_turn.ensures.value)
-    (c.proceed_below.ensures.next what (steps_on inv.done h) inv.stands inv.follows) c.print_lines.new.out c.in-Some.turn c.in-Some.is (rw c.deref.ensures.value at c.in-Done.ensures) c.in-Memory-turn.is
+    let s = c.loop-turn.invariant what h stands follows in
+    let came = c.proceed_below.ensures.next what (steps_on s.done h) s.stands s.follows in
+    turn_stopped _ what h _ _ _ _ _ _ _ _ _ s _ _ (rw (c.clear.ensures.items, c.at_turn.ensures.value, c.in-Some.is) at came)
+    Memory tt (prints_behind _ _ _ _ (rw c.deref.ensures.value at c.in-Done.ensures))
 
 pub returns-in-End : goal.returns-in-End
 returns-in-End g c = λ what h stands follows.
-    let inv = c.loop-turn.invariant.turned what h stands follows in
-    ends_left _ what h (c.args.m.now.pipeline.turn + c.args.count) c.args.out.now c.loop-turn.out c.loop-turn.m c.proceed_below.new.self c.loop-turn.plan c.proceed_below.new.plan inv _ _
-    c.clear.new.self.items c.proceed_below.new.out.items c.proceed_below.result c.clear.ensures.items (ap (λ t. t + c.args.count) c.at_turn.ensures.value)
-    (c.proceed_below.ensures.next what (steps_on inv.done h) inv.stands inv.follows) c.print_lines.new.out c.in-Some.turn c.in-Some.is (rw c.deref.ensures.value at c.in-Done.ensures) c.in-End.field-0 c.in-End.is
+    let s = c.loop-turn.invariant what h stands follows in
+    let next = c.proceed_below.ensures.next what (steps_on s.done h) s.stands s.follows in
+    let came = rw (c.clear.ensures.items, c.at_turn.ensures.value, c.in-Some.is, c.in-End.is) at next in
+    at_end _ what h _ _ _ _ _ came.1.mid _ _ _ _ s _ c.in-End.field-0 came.1.comes (λ f e. turns_end s.done f e came.0)
+    (rw c.deref.ensures.value at c.in-Done.ensures)
 
 pub loop-turn-preserved-in-On : goal.loop-turn-preserved-in-On
-loop-turn-preserved-in-On g c =
-    let u = c.loop-turn.invariant.under_way in
-    record {
-      under_way = on_under_way u.given u.items (Some (c.at_turn.result + c.args.count)) c.proceed_below.result c.in-Some.turn c.loop-turn.m c.proceed_below.new.self
-          c.loop-turn.plan c.proceed_below.new.plan (vec_capacity c.clear.new.self - vec_len c.clear.new.self) c.clear.new.self.items c.proceed_below.new.out.items c.in-Some.is
-          (c.proceed_below.ensures.next u.given u.items u.stands u.follows) c.in-On.is;
-      turned = λ what h stands follows.
-          let inv = c.loop-turn.invariant.turned what h stands follows in
-          on_left _ what h (c.args.m.now.pipeline.turn + c.args.count) c.args.out.now c.loop-turn.out c.loop-turn.m c.proceed_below.new.self c.loop-turn.plan c.proceed_below.new.plan inv _ _
-          c.clear.new.self.items c.proceed_below.new.out.items c.proceed_below.result c.clear.ensures.items (ap (λ t. t + c.args.count) c.at_turn.ensures.value)
-          (c.proceed_below.ensures.next what (steps_on inv.done h) inv.stands inv.follows) c.print_lines.new.out c.in-Some.turn c.in-Some.is (rw c.deref.ensures.value at c.in-Done.ensures) c.in-On.is;
-    }
+loop-turn-preserved-in-On g c = λ what h stands follows.
+    let s = c.loop-turn.invariant what h stands follows in
+    let next = c.proceed_below.ensures.next what (steps_on s.done h) s.stands s.follows in
+    let came = rw (c.clear.ensures.items, c.at_turn.ensures.value, c.in-Some.is, c.in-On.is) at next in
+    one_more _ what h _ _ _ _ _ came.1.mid _ _ _ _ s answers.On came.1.comes (still_low _ what h _ _ _ c.loop-turn.out _ _ _ _ _ s _ _ came)
+    (rw c.deref.ensures.value at c.in-Done.ensures)
 
 pub loop-turn-preserved : goal.loop-turn-preserved
-loop-turn-preserved g c =
-    let u = c.loop-turn.invariant.under_way in
-    record {
-      under_way = issued_under_way u.given u.items (Some (c.at_turn.result + c.args.count)) c.proceed_below.result c.in-Some.turn c.loop-turn.m c.proceed_below.new.self
-          c.loop-turn.plan c.proceed_below.new.plan (vec_capacity c.clear.new.self - vec_len c.clear.new.self) c.clear.new.self.items c.proceed_below.new.out.items c.in-Some.is
-          (c.proceed_below.ensures.next u.given u.items u.stands u.follows) c.in-Issued.field-0 c.in-Issued.is;
-      turned = λ what h stands follows.
-          let inv = c.loop-turn.invariant.turned what h stands follows in
-          issued_left _ what h (c.args.m.now.pipeline.turn + c.args.count) c.args.out.now c.loop-turn.out c.loop-turn.m c.proceed_below.new.self c.loop-turn.plan c.proceed_below.new.plan inv _ _
-          c.clear.new.self.items c.proceed_below.new.out.items c.proceed_below.result c.clear.ensures.items (ap (λ t. t + c.args.count) c.at_turn.ensures.value)
-          (c.proceed_below.ensures.next what (steps_on inv.done h) inv.stands inv.follows) c.print_lines.new.out c.in-Some.turn c.in-Some.is (rw c.deref.ensures.value at c.in-Done.ensures) c.in-Issued.field-0 c.in-Issued.is;
-    }
+loop-turn-preserved g c = λ what h stands follows.
+    let s = c.loop-turn.invariant what h stands follows in
+    let next = c.proceed_below.ensures.next what (steps_on s.done h) s.stands s.follows in
+    let came = rw (c.clear.ensures.items, c.at_turn.ensures.value, c.in-Some.is, c.in-Issued.is) at next in
+    one_more _ what h _ _ _ _ _ came.1.mid _ _ _ _ s _ came.1.comes (still_low _ what h _ _ _ c.loop-turn.out _ _ _ _ _ s _ _ came)
+    (rw c.deref.ensures.value at c.in-Done.ensures)

@@ -1,20 +1,21 @@
-use Rattle.std.proofs.Common.{◌≡◌, ℕ, ◌+◌, List, ◌++◌, append_assoc, sym, ap, ◌∙◌, arith}
+use Rattle.std.proofs.Common.{◌≡◌, ℕ, ◌+◌, List, ◌++◌, append_assoc, refl, arith}
 use Rattle.std.specs.List.{flat_map, range_with_len}
+use Rattle.std.proofs.lemmas.List.{append-nil}
+use Rattle.std.proofs.lemmas.List.Folds.{flat_map-map}
+use Rattle.std.proofs.lemmas.List.FromFn.{map-range_with_len_more}
+use Rattle.std.proofs.lemmas.Grind.{flat_map-append}
 use Rattle.i9_model.specs.PrintedText.{spaced_register}
-use Rattle.i9_lines.proofs.Registers.{registers-more}
 use Rattle.i9_lines.proofs.text.add_sixteen.Goals as goal
+
+one_more : (f : ℕ → List ℕ) (a k : ℕ) → flat_map f (range_with_len a (k + 1)) ≡ flat_map f (range_with_len a k) ++ f (a + k)
+one_more f a k =
+    let all = flat_map-map (λ (l : List ℕ). l) f in
+    rw (← all (range_with_len a (k + 1)), map-range_with_len_more f a k (a + k) refl, flat_map-append, all (range_with_len a k), append-nil) refl
 
 pub loop-k-preserved : goal.loop-k-preserved
 loop-k-preserved c =
     let one = spaced_register c.args.view.now in
-    let told = flat_map one (range_with_len c.args.first c.loop-k.k) in
-    c.in_ok-add_register.ensures
-    ∙ ap (λ (xs : List ℕ). xs ++ one (c.args.first + c.loop-k.k)) c.loop-k.invariant
-    ∙ append_assoc c.args.text.now.items told (one (c.args.first + c.loop-k.k))
-    ∙ ap (λ (xs : List ℕ). c.args.text.now.items ++ xs) (sym (registers-more one c.args.first c.loop-k.k))
+    rw (one_more one c.args.first c.loop-k.k, ← append_assoc, ← c.loop-k.invariant) c.in_ok-add_register.ensures
 
 pub returns : goal.returns
-returns c =
-    let told : ℕ → List ℕ = λ n. flat_map (spaced_register c.args.view.now) (range_with_len c.args.first n) in
-    let all : c.loop-k.k ≡ 16 = omega arith in
-    c.loop-k.invariant ∙ ap (λ (n : ℕ). c.args.text.now.items ++ told n) all
+returns c = let all : c.loop-k.k ≡ 16 = omega arith in rw all at c.loop-k.invariant

@@ -1,10 +1,11 @@
 use Rattle.std.proofs.Common.{sym}
 use Rattle.i9_course.specs.PipelinedRun.{steps}
+use Rattle.i9_lines.proofs.Prints.{prints_behind}
 use Rattle.i9_machine.specs.declared.line.Turn.TheVariants as turns
 use Rattle.i9_tool.specs.declared.run.Ran.TheVariants as ran
 use Rattle.i9_machine.specs.Progress.{progress}
 use Rattle.i9_machine.proofs.Turned.{does_under_way}
-use Rattle.i9_tool.proofs.Running.{none_done, on_done, issued_done, in_step, ran_refused, at_the_end}
+use Rattle.i9_tool.proofs.Running.{none_done, one_done, in_step, at_the_end}
 use Rattle.i9_tool.proofs.run.run_machine.Goals as goal
 
 pub loop-lines-init : goal.loop-lines-init
@@ -18,39 +19,35 @@ proceed-turn-requires g c = record { stands = λ none. c.loop-lines.invariant.un
 
 pub returns-in-Write : goal.returns-in-Write
 returns-in-Write g c = λ what stands follows.
-    let inv = c.loop-lines.invariant.traced what stands follows in
-    let came = c.proceed-turn.ensures.next what (steps inv.done) inv.stands inv.follows in
-    let step = rw c.clear.ensures.items at came.comes in
+    let s = c.loop-lines.invariant.traced what stands follows in
+    let came = c.proceed-turn.ensures.next what (steps s.done) s.stands s.follows in
     let said = rw c.deref.ensures.value at c.in-Write.ensures in
-    in_step _ what _ _ _ _ _ came.mid c.proceed-turn.new.self _ c.proceed-turn.new.plan c.proceed-turn.new.out.items said.passes inv ran.Write
-    c.proceed-turn.result tt step said.allowed said.prints
+    in_step _ what _ _ _ _ _ came.mid _ _ _ _ said.passes s ran.Write c.proceed-turn.result tt (rw c.clear.ensures.items at came.comes)
+    said.allowed said.prints
 
 pub returns-in-Memory : goal.returns-in-Memory
 returns-in-Memory g c = λ what stands follows.
-    let inv = c.loop-lines.invariant.traced what stands follows in
-    let came = c.proceed-turn.ensures.next what (steps inv.done) inv.stands inv.follows in
-    let step = rw c.clear.ensures.items at came.comes in
+    let s = c.loop-lines.invariant.traced what stands follows in
+    let came = c.proceed-turn.ensures.next what (steps s.done) s.stands s.follows in
     let said = rw c.deref.ensures.value at c.in-Memory.ensures in
-    in_step _ what _ _ _ _ _ came.mid c.proceed-turn.new.self _ c.proceed-turn.new.plan c.proceed-turn.new.out.items said.passes inv ran.Memory
-    c.proceed-turn.result tt step said.allowed said.prints
+    in_step _ what _ _ _ _ _ came.mid _ _ _ _ said.passes s ran.Memory c.proceed-turn.result tt (rw c.clear.ensures.items at came.comes)
+    said.allowed said.prints
 
 pub returns-in-Memory-turn : goal.returns-in-Memory-turn
 returns-in-Memory-turn g c = λ what stands follows.
-    let inv = c.loop-lines.invariant.traced what stands follows in
-    let came = c.proceed-turn.ensures.next what (steps inv.done) inv.stands inv.follows in
-    let step = rw c.in-Memory-turn.is at (rw c.clear.ensures.items at came.comes) in
-    let said = rw c.in-Memory-turn.is at (rw c.deref.ensures.value at c.in-Done.ensures) in
-    ran_refused _ what _ _ _ _ _ came.mid c.proceed-turn.new.self _ c.proceed-turn.new.plan c.proceed-turn.new.out.items said.passes inv
-    step said.prints
+    let s = c.loop-lines.invariant.traced what stands follows in
+    let came = c.proceed-turn.ensures.next what (steps s.done) s.stands s.follows in
+    let said = rw c.deref.ensures.value at c.in-Done.ensures in
+    in_step _ what _ _ _ _ _ came.mid _ _ _ _ said.passes s ran.Memory c.proceed-turn.result tt (rw c.clear.ensures.items at came.comes)
+    said.allowed (prints_behind _ _ _ _ said.prints)
 
 pub returns-in-End : goal.returns-in-End
 returns-in-End g c = λ what stands follows.
-    let inv = c.loop-lines.invariant.traced what stands follows in
-    let came = c.proceed-turn.ensures.next what (steps inv.done) inv.stands inv.follows in
-    let step = rw c.in-End.is at (rw c.clear.ensures.items at came.comes) in
-    let said = rw c.in-End.is at (rw c.deref.ensures.value at c.in-Done.ensures) in
-    at_the_end _ what _ _ _ _ _ came.mid c.proceed-turn.new.self _ c.proceed-turn.new.plan c.proceed-turn.new.out.items said.passes inv
-    (ran.Done c.in-End.end) c.in-End.end step (sym step.answers) said.prints
+    let s = c.loop-lines.invariant.traced what stands follows in
+    let came = c.proceed-turn.ensures.next what (steps s.done) s.stands s.follows in
+    let step = rw (c.clear.ensures.items, c.in-End.is) at came.comes in
+    let said = rw (c.deref.ensures.value, c.in-End.is) at c.in-Done.ensures in
+    at_the_end _ what _ _ _ _ _ came.mid _ _ _ _ said.passes s (ran.Done c.in-End.end) c.in-End.end step (sym step.answers) said.prints
 
 pub loop-lines-preserved : goal.loop-lines-preserved
 loop-lines-preserved g c =
@@ -60,12 +57,11 @@ loop-lines-preserved g c =
       under_way = does_under_way under.given under.items (turns.Issued c.in-Issued.field-0) _
           (progress c.proceed-turn.new.self c.proceed-turn.new.plan c.proceed-turn.new.out.items) (rw c.in-Issued.is at came.comes);
       traced = λ what stands follows.
-          let inv = c.loop-lines.invariant.traced what stands follows in
-          let came = c.proceed-turn.ensures.next what (steps inv.done) inv.stands inv.follows in
-          let step = rw c.in-Issued.is at (rw c.clear.ensures.items at came.comes) in
-          let said = rw c.in-Issued.is at (rw c.deref.ensures.value at c.in-Done.ensures) in
-          issued_done _ what _ _ _ _ _ came.mid c.proceed-turn.new.self _ c.proceed-turn.new.plan c.proceed-turn.new.out.items said.passes inv
-          c.in-Issued.field-0 step said.allowed said.prints;
+          let s = c.loop-lines.invariant.traced what stands follows in
+          let came = c.proceed-turn.ensures.next what (steps s.done) s.stands s.follows in
+          let said = rw (c.deref.ensures.value, c.in-Issued.is) at c.in-Done.ensures in
+          one_done _ what _ _ _ _ _ came.mid _ _ _ _ said.passes s (turns.Issued c.in-Issued.field-0)
+          (rw (c.clear.ensures.items, c.in-Issued.is) at came.comes) said.allowed said.prints;
     }
 
 pub loop-lines-preserved-in-On : goal.loop-lines-preserved-in-On
@@ -76,10 +72,9 @@ loop-lines-preserved-in-On g c =
       under_way = does_under_way under.given under.items turns.On _
           (progress c.proceed-turn.new.self c.proceed-turn.new.plan c.proceed-turn.new.out.items) (rw c.in-On.is at came.comes);
       traced = λ what stands follows.
-          let inv = c.loop-lines.invariant.traced what stands follows in
-          let came = c.proceed-turn.ensures.next what (steps inv.done) inv.stands inv.follows in
-          let step = rw c.in-On.is at (rw c.clear.ensures.items at came.comes) in
-          let said = rw c.in-On.is at (rw c.deref.ensures.value at c.in-Done.ensures) in
-          on_done _ what _ _ _ _ _ came.mid c.proceed-turn.new.self _ c.proceed-turn.new.plan c.proceed-turn.new.out.items said.passes inv
-          step said.prints;
+          let s = c.loop-lines.invariant.traced what stands follows in
+          let came = c.proceed-turn.ensures.next what (steps s.done) s.stands s.follows in
+          let said = rw (c.deref.ensures.value, c.in-On.is) at c.in-Done.ensures in
+          one_done _ what _ _ _ _ _ came.mid _ _ _ _ said.passes s turns.On
+          (rw (c.clear.ensures.items, c.in-On.is) at came.comes) said.allowed said.prints;
     }
