@@ -30,10 +30,6 @@ pub zeros-more : (n : ℕ) → zeros n ++ 0 ∷ [] ≡ zeros (n + 1)
 unfolding zeros
 zeros-more n = rw add-one (zeros-suc n)
 
--- a fact that holds after a call went well, from another
-pub on_ok : {X E P Q : Type 0} (r : Result X E) → OnOk r P → (P → Q) → OnOk r Q
-on_ok (Ok x) h f = f h
-on_ok (Err e) h f = tt
 
 -- ---- words
 

@@ -18,8 +18,8 @@ use Rattle.i9_decode.specs.Ignored.{ignored_bits}
 use Rattle.i9_decode.proofs.ValidWords.{encodes_valid}
 use Rattle.i9_text.specs.Text.{space, lines_of}
 use Rattle.i9_text.specs.Written.{word_text, byte_text}
-use Rattle.i9_statement.specs.Noted.{least}
-use Rattle.i9_statement.specs.Values.{Names, settled}
+use Rattle.i9_statement.specs.declared.values.Value.TheVariants.{Number}
+use Rattle.i9_statement.specs.Values.{Names, value_of, settled}
 use Rattle.i9_statement.specs.NumberText.{hex_text, hex_byte_text}
 use Rattle.i9_model.specs.Image.{Part}
 use Rattle.i9_hex.specs.Put.{with_part}
@@ -76,18 +76,16 @@ plain_assembles names s line bs item says clean plain room =
 
 -- ---- the lines of a run
 
--- `.word` with a number
-plain_word : (names : Names) (p : Place) (w : ℕ) → w < 2 ^ 32 → IsPlain names p (Data 4 (hex_text w ∷ [])) (to_le_bytes w32 w)
-plain_word names p w h =
-    let v = value_of-hex names w h in
-    let fits : fits_width 4 w ≡ true = rw (lt-ltb w (2 ^ 32) h) refl in
-    record {
-      gives = subst (λ bs. Gives names p (Data 4 (hex_text w ∷ [])) bs) (ap (λ o. flat_map (λ n. low_bytes 4 n) ((data_value 4 o).value ∷ [])) v ∙ rw fits refl) (gives_data 4 (hex_text w ∷ []));
-      sound = ap (λ o. least (data_value 4 o).fault None) v ∙ rw fits refl;
-      size = ap (λ o. cond (is_some o && true) 4 0) (value_of-hex no_names w h);
-      stays = refl;
-      known = refl;
-    }
+-- a number of so many bytes
+plain_data : (names : Names) (p : Place) (width n : ℕ) (f bs : List ℕ) → ((ns : Names) → value_of ns f ≡ Some (Number n)) → fits_width width n ≡ true → low_bytes width n ≡ bs → length bs ≡ width
+    → IsPlain names p (Data width (f ∷ [])) bs
+plain_data names p width n f bs read fits is size = record {
+  gives = subst (Gives names p (Data width (f ∷ []))) (rw (read names) (rw fits (append-nil (low_bytes width n) ∙ is))) (gives_data width (f ∷ []));
+  sound = rw (read names) (rw fits refl);
+  size = rw (read no_names) (omega (arith, size));
+  stays = refl;
+  known = refl;
+}
 
 -- so many bytes have the words of an instruction
 taken_length : (i : Inst) (w0 w1 : ℕ) → 4 * words_of i ≡ length (flat_map (to_le_bytes w32) (taken w0 w1 i))
@@ -96,23 +94,6 @@ taken_length i w0 w1 = elim (one_or_two i.ea.mode) [
   | inr two ↦ rw two refl
 ]
 
--- an instruction
-plain_instruction : (names : Names) (p : Place) (i : Inst) (w0 w1 : ℕ) (q : Bool) → p.location < 2 ^ 32 → w0 < 2 ^ 32 → w1 < 2 ^ 32 → decoded w0 w1 ≡ Ok i
-    → IsPlain names p (Instruction (statement_text p.location i (bit_and w0 (ignored_bits i)) ++ pad q)) (flat_map (to_le_bytes w32) (taken w0 w1 i))
-plain_instruction names p i w0 w1 q low h0 h1 is =
-    let bits = bit_and w0 (ignored_bits i) in
-    let v = encodes_valid w0 w1 i h1 (decoded_encodes w0 w1 i is) in
-    let small : bits < 2 ^ 32 = omega (arith, and_le_l w0 (ignored_bits i)) in
-    let text = statement_text p.location i bits ++ pad q in
-    let here : p.location ≡ address_at p = omega arith in
-    let read = λ (ns : Names). ap (λ a. statement_of a ns text) (sym here) ∙ statement_of-text p.location ns i bits q low small v (and_again w0 (ignored_bits i)) in
-    record {
-      gives = gives_instruction text (taken w0 w1 i) (subst (λ a. Stands names a text (taken w0 w1 i)) here (statement_stands names p.location w0 w1 i q low h0 h1 is));
-      sound = ap (λ n. n.fault) (read names);
-      size = ap statement_size (read no_names) ∙ taken_length i w0 w1;
-      stays = refl;
-      known = refl;
-    }
 
 -- ---- bytes of a run
 
@@ -162,20 +143,12 @@ record LineSays (names : Names) (p : Place) (line bs : List ℕ) : Type 0 where
 byte_line : (names : Names) (p : Place) (b : ℕ) (t : Tail) → b < 256 → is_plain (tail_text t) ≡ true → LineSays names p ((codes ".byte " ++ hex_byte_text b) ++ tail_text t) (b ∷ [])
 byte_line names p b t h clean =
     let f = hex_byte_text b in
-    let v = value_of-hex_byte names b h in
-    let fits : fits_width 1 b ≡ true = rw (lt-ltb b 256 h) refl in
     let low : b % 256 ≡ b = omega arith in
     record {
       item = Data 1 (f ∷ []);
       says = says_byte f t (hex_byte_field b h);
       clean = plain-append (codes ".byte " ++ f) (tail_text t) (statement_plain (codes ".byte " ++ f) (operand_statement f (hex_byte_field b h).bytes)) clean;
-      plain = record {
-        gives = subst (λ bs. Gives names p (Data 1 (f ∷ [])) bs) (ap (λ o. flat_map (λ n. low_bytes 1 n) ((data_value 1 o).value ∷ [])) v ∙ rw (fits, low) refl) (gives_data 1 (f ∷ []));
-        sound = ap (λ o. least (data_value 1 o).fault None) v ∙ rw fits refl;
-        size = ap (λ o. cond (is_some o && true) 1 0) (value_of-hex_byte no_names b h);
-        stays = refl;
-        known = refl;
-      };
+      plain = plain_data names p 1 b f (b ∷ []) (λ ns. value_of-hex_byte ns b h) (rw (lt-ltb b 256 h) refl) (rw low refl) refl;
     }
 
 -- a word
@@ -186,7 +159,7 @@ word_line names p w t h clean =
       item = Data 4 (f ∷ []);
       says = says_word f t (hex_field w);
       clean = plain-append (codes ".word " ++ f) (tail_text t) (statement_plain (codes ".word " ++ f) (operand_statement f (hex_field w).bytes)) clean;
-      plain = plain_word names p w h;
+      plain = plain_data names p 4 w f (to_le_bytes w32 w) (λ ns. value_of-hex ns w h) (rw (lt-ltb w (2 ^ 32) h) refl) refl refl;
     }
 
 -- an instruction
@@ -196,11 +169,22 @@ instruction_line names p i w0 w1 t low h0 h1 is clean =
     let bits = bit_and w0 (ignored_bits i) in
     let v = encodes_valid w0 w1 i h1 (decoded_encodes w0 w1 i is) in
     let small : bits < 2 ^ 32 = omega (arith, and_le_l w0 (ignored_bits i)) in
+    let q = leaves t in
+    let statement = statement_text p.location i bits in
+    let text = statement ++ pad q in
+    let here : p.location ≡ address_at p = omega arith in
+    let read = λ (ns : Names). ap (λ a. statement_of a ns text) (sym here) ∙ statement_of-text p.location ns i bits q low small v (and_again w0 (ignored_bits i)) in
     record {
-      item = Instruction (statement_text p.location i bits ++ pad (leaves t));
+      item = Instruction text;
       says = says_statement p.location i bits t small v;
-      clean = plain-append (statement_text p.location i bits) (tail_text t) (statement_plain (statement_text p.location i bits) (statement_bytes p.location i bits small v)) clean;
-      plain = plain_instruction names p i w0 w1 (leaves t) low h0 h1 is;
+      clean = plain-append statement (tail_text t) (statement_plain statement (statement_bytes p.location i bits small v)) clean;
+      plain = record {
+        gives = gives_instruction text (taken w0 w1 i) (subst (λ a. Stands names a text (taken w0 w1 i)) here (statement_stands names p.location w0 w1 i q low h0 h1 is));
+        sound = ap (λ n. n.fault) (read names);
+        size = ap statement_size (read no_names) ∙ taken_length i w0 w1;
+        stays = refl;
+        known = refl;
+      };
     }
 
 -- two words that are there

@@ -28,7 +28,7 @@ use Rattle.i9_statement.specs.Instructions.{Fields, comes_first, first_use, last
 use Rattle.i9_statement.proofs.Cutting.{is_free, free_by, all_by, all_append}
 use Rattle.i9_statement.proofs.ReadValues.{has_byte, has_byte-some, register_bytes, register_some, decimal_bytes, decimal_some, hex_bytes, hex_byte_bytes}
 use Rattle.i9_statement.proofs.ReadOperands.{taken_in_range}
-use Rattle.i9_statement.proofs.ReadAddresses.{scale_name_bytes, Parts, parts, ea}
+use Rattle.i9_statement.proofs.ReadAddresses.{scale_name_bytes, ea, Within, within}
 
 -- a letter, a digit, `_`, or a sign of an address
 abbrev pub is_operand_byte : ℕ → Bool
@@ -134,28 +134,8 @@ address_some Disp b i s d h = has_back (bang_text Disp d) _ refl
 address_some BaseDisp b i s d h = has_back (bang_text BaseDisp d) _ refl
 address_some _ b i s d h = refl
 
--- the parts of any address are in these ranges
-record Within (b i s d : ℕ) : Type 0 where
-  base : b < 32
-  index : i < 32
-  scale : s < 5
-  disp : d < 2 ^ 32
 
-widened : (b i s d lb li ls ld : ℕ) → lb ≤ 32 → li ≤ 32 → ls ≤ 5 → ld ≤ 2 ^ 32 → Parts b i s d lb li ls ld → Within b i s d
-widened b i s d lb li ls ld hb hi hs hd p = record { base = omega arith; index = omega arith; scale = omega arith; disp = omega arith }
-
-within : (m : Mode) (b i s d : ℕ) → is_address (ea m b i s d) ≡ true → Within b i s d
-within Offset b i s d h = widened b i s d _ _ _ _ (omega arith) (omega arith) (omega arith) (omega arith) (parts b i s d 1 1 1 4096 h)
-within BaseOffset b i s d h = widened b i s d _ _ _ _ (omega arith) (omega arith) (omega arith) (omega arith) (parts b i s d 32 1 1 4096 h)
-within Mode.Base b i s d h = widened b i s d _ _ _ _ (omega arith) (omega arith) (omega arith) (omega arith) (parts b i s d 32 1 1 1 h)
-within Mode.Ip b i s d h = widened b i s d _ _ _ _ (omega arith) (omega arith) (omega arith) (omega arith) (parts b i s d 1 1 1 (2 ^ 32) h)
-within BaseIndex b i s d h = widened b i s d _ _ _ _ (omega arith) (omega arith) (omega arith) (omega arith) (parts b i s d 32 32 5 1 h)
-within Disp b i s d h = widened b i s d _ _ _ _ (omega arith) (omega arith) (omega arith) (omega arith) (parts b i s d 1 1 1 (2 ^ 32) h)
-within BaseDisp b i s d h = widened b i s d _ _ _ _ (omega arith) (omega arith) (omega arith) (omega arith) (parts b i s d 32 1 1 (2 ^ 32) h)
-within IndexDisp b i s d h = widened b i s d _ _ _ _ (omega arith) (omega arith) (omega arith) (omega arith) (parts b i s d 1 32 5 (2 ^ 32) h)
-within BaseIndexDisp b i s d h = widened b i s d _ _ _ _ (omega arith) (omega arith) (omega arith) (omega arith) (parts b i s d 32 32 5 (2 ^ 32) h)
-
-address_bytes : (m : Mode) (b i s d : ℕ) → Within b i s d → list_all is_operand_byte (bang_text m d ++ (front_text m d ++ (base_text m b ++ index_text m i s))) ≡ true
+address_bytes : (m : Mode) (b i s d : ℕ) → Within (ea m b i s d) → list_all is_operand_byte (bang_text m d ++ (front_text m d ++ (base_text m b ++ index_text m i s))) ≡ true
 address_bytes m b i s d w =
     all_append is_operand_byte (bang_text m d) _ (bang_bytes (needs_bang m d))
     (all_append is_operand_byte (front_text m d) _ (front_bytes m d w.disp)
@@ -163,39 +143,28 @@ address_bytes m b i s d w =
 
 pub field_of_address : (e : Ea) → is_address e ≡ true → IsField (address_text e)
 unfolding address_text
-field_of_address e h =
-    let w = within e.mode e.base e.index e.scale e.disp h in
-    record { bytes = address_bytes e.mode e.base e.index e.scale e.disp w; some = address_some e.mode e.base e.index e.scale e.disp w.disp }
+field_of_address e h = record {
+  bytes = address_bytes e.mode e.base e.index e.scale e.disp (within e h);
+  some = address_some e.mode e.base e.index e.scale e.disp (within e h).disp;
+}
 
 -- ---- the operands of an instruction
 
 operand_fields-ok : (u : Use) (o : Operand) → takes u o ≡ true → AllByRecursion IsField (operand_field u o)
 operand_fields-ok Unused o h = tt
-operand_fields-ok (Source n) o h = (field_of_operand o (taken_in_range (Source n) o h), tt)
-operand_fields-ok Left o h = (field_of_operand o (taken_in_range Left o h), tt)
-operand_fields-ok Right o h = (field_of_operand o (taken_in_range Right o h), tt)
-operand_fields-ok (Destination n) o h = (field_of_operand o (taken_in_range (Destination n) o h), tt)
-operand_fields-ok (Load n) o h = (field_of_operand o (taken_in_range (Load n) o h), tt)
-operand_fields-ok (Store n) o h = (field_of_operand o (taken_in_range (Store n) o h), tt)
-operand_fields-ok Change o h = (field_of_operand o (taken_in_range Change o h), tt)
+operand_fields-ok u o h = (field_of_operand o (taken_in_range u o h), tt)
 
 address_fields-ok : (f : Format) (e : Ea) → FitsAddress f e → AllByRecursion IsField (address_field f e)
 address_fields-ok format.Mem e h = (field_of_address e h, tt)
-address_fields-ok format.Reg e h = tt
-address_fields-ok format.Cobr e h = tt
-address_fields-ok format.Ctrl e h = tt
+address_fields-ok _ e h = tt
 
 target_fields-ok : (uses : Bool) (ip : ℕ) (z : ℤ) → AllByRecursion IsField (target_field uses ip z)
 target_fields-ok true ip z = (field_of_target ip z, tt)
 target_fields-ok false ip z = tt
 
-use_first-ok : (q : Bool) (u : Use) (o : Operand) → takes u o ≡ true → AllByRecursion IsField (operand_field (cond q u Unused) o)
-use_first-ok true u o h = operand_fields-ok u o h
-use_first-ok false u o h = tt
-
-use_last-ok : (q : Bool) (u : Use) (o : Operand) → takes u o ≡ true → AllByRecursion IsField (operand_field (cond q Unused u) o)
-use_last-ok true u o h = tt
-use_last-ok false u o h = operand_fields-ok u o h
+either_use-ok : (q : Bool) (u v : Use) (o : Operand) → AllByRecursion IsField (operand_field u o) → AllByRecursion IsField (operand_field v o) → AllByRecursion IsField (operand_field (cond q u v) o)
+either_use-ok true u v o x y = x
+either_use-ok false u v o x y = y
 
 fields_append : (fs gs : Fields) → AllByRecursion IsField fs → AllByRecursion IsField gs → AllByRecursion IsField (fs ++ gs)
 fields_append [] gs hf hg = hg
@@ -205,8 +174,9 @@ pub operand_fields-fields : (ip : ℕ) (i : Inst) → IsValid i → AllByRecursi
 unfolding operand_fields
 operand_fields-fields ip i v =
     let r = row_of i.op in
+    let c = operand_fields-ok r.c i.c v.c in
     fields_append (operand_field r.a i.a) _ (operand_fields-ok r.a i.a v.a)
     (fields_append (operand_field r.b i.b) _ (operand_fields-ok r.b i.b v.b)
-    (fields_append (operand_field (first_use r) i.c) _ (use_first-ok (comes_first r.format r.c) r.c i.c v.c)
+    (fields_append (operand_field (first_use r) i.c) _ (either_use-ok (comes_first r.format r.c) r.c Unused i.c c tt)
     (fields_append (address_field r.format i.ea) _ (address_fields-ok r.format i.ea v.ea)
-    (fields_append (target_field r.disp ip i.disp) (operand_field (last_use r) i.c) (target_fields-ok r.disp ip i.disp) (use_last-ok (comes_first r.format r.c) r.c i.c v.c)))))
+    (fields_append (target_field r.disp ip i.disp) (operand_field (last_use r) i.c) (target_fields-ok r.disp ip i.disp) (either_use-ok (comes_first r.format r.c) Unused r.c i.c tt c)))))

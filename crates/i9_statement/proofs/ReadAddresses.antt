@@ -6,12 +6,14 @@ use Rattle.std.specs.List.{list_all}
 use Rattle.std.specs.Str.{bytes_eq}
 use Rattle.std.specs.Fmt.{decimal}
 use Rattle.std.proofs.lemmas.Bool.{and_parts, eqb-true, ltb-true, lt-ltb, cases_Bool, not-true}
+use Rattle.std.proofs.lemmas.Bool.Decides.{nat_tests}
 use Rattle.std.proofs.Math.Dec.{eqb-suc-zero}
 use Rattle.std.proofs.lemmas.List.Folds.{list_all-append}
 use Rattle.i9_isa.specs.declared.inst.Mode.{Mode}
 use Rattle.i9_isa.specs.declared.inst.Mode.TheVariants.{Offset, BaseOffset, BaseIndex, Disp, BaseDisp, IndexDisp, BaseIndexDisp}
 use Rattle.i9_isa.specs.declared.inst.Ea.{Ea}
-use Rattle.i9_isa.specs.Operands.{is_address}
+use Rattle.i9_isa.specs.Operands.{is_address, has_base, has_index, has_offset, has_disp}
+use Rattle.i9_decode.proofs.Forms.{AddressParts, address_parts}
 use Rattle.i9_statement.specs.declared.values.Value.{Value}
 use Rattle.i9_statement.specs.declared.values.Value.TheVariants.{Number}
 use Rattle.i9_statement.specs.declared.parts.Front.{Front}
@@ -119,10 +121,10 @@ only_index t = refl
 -- ---- the whole
 
 -- an address whose parts are read
-address_parts : (forced : Bool) (names : Names) (f b i : List ℕ) (front : Front) (at : Base) (by : Index) → list_all is_name_byte f ≡ true → stops opens (b ++ i) ≡ true → front_of names f ≡ front
+parts_behind : (forced : Bool) (names : Names) (f b i : List ℕ) (front : Front) (at : Base) (by : Index) → list_all is_name_byte f ≡ true → stops opens (b ++ i) ≡ true → front_of names f ≡ front
     → base_of (b ++ i) ≡ Some (at, i) → index_of i ≡ Some by → address_behind forced names (f ++ (b ++ i)) ≡ address_by (mode_of forced front at by) front at by
 unfolding address_behind
-address_parts forced names f b i front at by bytes stop ef eb ei =
+parts_behind forced names f b i front at by bytes stop ef eb ei =
     let free = free_of_opens f bytes in
     ap (λ x. with_base forced (front_of names x) (base_of (from opens (f ++ (b ++ i))))) (before-cut opens f (b ++ i) free stop)
     ∙ ap (λ x. with_base forced (front_of names f) (base_of x)) (from-cut opens f (b ++ i) free stop)
@@ -135,19 +137,29 @@ address_parts forced names f b i front at by bytes stop ef eb ei =
 abbrev pub ea : Mode → ℕ → ℕ → ℕ → ℕ → Ea
 ea m b i s d = record { mode = m; base = b; index = i; scale = s; disp = d }
 
--- the parts of an address, from its test
-pub record Parts (b i s d lb li ls ld : ℕ) : Type 0 where
-  pub base : b < lb
-  pub index : i < li
-  pub scale : s < ls
-  pub disp : d < ld
+-- the parts of any address are in these ranges
+pub record Within (e : Ea) : Type 0 where
+  pub base : e.base < 32
+  pub index : e.index < 32
+  pub scale : e.scale < 5
+  pub disp : e.disp < 2 ^ 32
 
-pub parts : (b i s d lb li ls ld : ℕ) → (ltb b lb && (ltb i li && (ltb s ls && ltb d ld))) ≡ true → Parts b i s d lb li ls ld
-parts b i s d lb li ls ld h =
-    let p = and_parts (ltb b lb) (ltb i li && (ltb s ls && ltb d ld)) h in
-    let q = and_parts (ltb i li) (ltb s ls && ltb d ld) p.1 in
-    let r = and_parts (ltb s ls) (ltb d ld) q.1 in
-    record { base = ltb-true b lb p.0; index = ltb-true i li q.0; scale = ltb-true s ls r.0; disp = ltb-true d ld r.1 }
+below_if : (has : Bool) (limit n : ℕ) → 0 < limit → ltb n (cond has limit 1) ≡ true → n < limit
+below_if true limit n some h = ltb-true n limit h
+below_if false limit n some h = let l = ltb-true n 1 h in omega arith
+
+disp_below : (long short : Bool) (n : ℕ) → ltb n (cond long (2 ^ 32) (cond short (2 ^ 12) 1)) ≡ true → n < 2 ^ 32
+disp_below long short n h = grind (arith, nat_tests)
+
+pub within : (e : Ea) → is_address e ≡ true → Within e
+within e h =
+    let p = address_parts e h in
+    record {
+      base = below_if (has_base e.mode) 32 e.base (omega arith) p.base;
+      index = below_if (has_index e.mode) 32 e.index (omega arith) p.index;
+      scale = below_if (has_index e.mode) 5 e.scale (omega arith) p.scale;
+      disp = disp_below (has_disp e.mode) (has_offset e.mode) e.disp p.disp;
+    }
 
 -- a text that begins with a name's byte has no `!`
 not_forced : (names : Names) (w t : List ℕ) → 0 < length w → list_all is_name_byte w ≡ true → address_of names (w ++ t) ≡ address_behind false names (w ++ t)
@@ -163,8 +175,8 @@ front_of-hex : (names : Names) (n : ℕ) → n < 2 ^ 32 → front_of names (hex_
 unfolding hex_text
 front_of-hex names n h = ap valued (value_of-hex names n h)
 
-front_of-decimal : (names : Names) (n : ℕ) → n < 2 ^ 12 → front_of names (decimal n) ≡ Valued (Number n)
-front_of-decimal names n h = front_of-some names (decimal n) (Number n) (decimal_some n (omega arith)) (value_of-decimal names n (omega arith))
+front_of-decimal : (names : Names) (n : ℕ) → n < 2 ^ 32 → front_of names (decimal n) ≡ Valued (Number n)
+front_of-decimal names n h = front_of-some names (decimal n) (Number n) (decimal_some n h) (value_of-decimal names n h)
 
 round_unforced : (names : Names) (t : List ℕ) → address_of names (open_round ∷ t) ≡ address_behind false names (open_round ∷ t)
 unfolding address_of
@@ -192,110 +204,57 @@ mode_base_disp false d r h = rw h refl
 abbrev IsRead : Names → Ea → Type 0
 IsRead names e = address_of names (address_text e) ≡ fine e
 
-read_offset : (names : Names) (b i s d : ℕ) → Parts b i s d 1 1 1 4096 → IsRead names (ea Offset b i s d)
-unfolding address_text
-read_offset names b i s d p =
-    let zb : b ≡ 0 = omega arith in
-    let zi : i ≡ 0 = omega arith in
-    let zs : s ≡ 0 = omega arith in
-    not_forced names (decimal d) ([] ++ []) (decimal_some d (omega arith)) (decimal_bytes d (omega arith))
-    ∙ address_parts false names (decimal d) [] [] (Valued (Number d)) base.Nothing index.Nothing (decimal_bytes d (omega arith)) refl (front_of-decimal names d p.disp) no_base no_index
-    ∙ rw (zb, zi, zs, lt-ltb d 4096 p.disp) refl
+zero_of : (n : ℕ) → ltb n 1 ≡ true → n ≡ 0
+zero_of n h = let l = ltb-true n 1 h in omega arith
 
-read_base_offset : (names : Names) (b i s d : ℕ) → Parts b i s d 32 1 1 4096 → IsRead names (ea BaseOffset b i s d)
+read_by : (names : Names) (m : Mode) (b i s d : ℕ) → AddressParts (ea m b i s d) → Within (ea m b i s d) → IsRead names (ea m b i s d)
 unfolding address_text
-read_base_offset names b i s zero p =
-    let zi : i ≡ 0 = omega arith in
-    let zs : s ≡ 0 = omega arith in
+read_by names Offset b i s d p w =
+    not_forced names (decimal d) ([] ++ []) (decimal_some d w.disp) (decimal_bytes d w.disp)
+    ∙ parts_behind false names (decimal d) [] [] (Valued (Number d)) base.Nothing index.Nothing (decimal_bytes d w.disp) refl (front_of-decimal names d w.disp) no_base no_index
+    ∙ rw (zero_of b p.base, zero_of i p.index, zero_of s p.scale, p.disp) refl
+read_by names BaseOffset b i s zero p w =
     round_unforced names _
-    ∙ address_parts false names [] (base_text BaseOffset b) [] Absent (base.Register b) index.Nothing refl refl refl (base_of-text b [] p.base) no_index
-    ∙ rw (zi, zs, lt-ltb b 32 p.base) refl
-read_base_offset names b i s (suc d) p =
-    let zi : i ≡ 0 = omega arith in
-    let zs : s ≡ 0 = omega arith in
+    ∙ parts_behind false names [] (base_text BaseOffset b) [] Absent (base.Register b) index.Nothing refl refl refl (base_of-text b [] w.base) no_index
+    ∙ rw (zero_of i p.index, zero_of s p.scale, p.base) refl
+read_by names BaseOffset b i s (suc d) p w =
     let n = suc d in
     ap (λ q. address_of names (cond q [] (decimal n) ++ (base_text BaseOffset b ++ []))) (eqb-suc-zero d)
-    ∙ not_forced names (decimal n) (base_text BaseOffset b ++ []) (decimal_some n (omega arith)) (decimal_bytes n (omega arith))
-    ∙ address_parts false names (decimal n) (base_text BaseOffset b) [] (Valued (Number n)) (base.Register b) index.Nothing (decimal_bytes n (omega arith)) refl (front_of-decimal names n p.disp) (base_of-text b [] p.base) no_index
-    ∙ rw (zi, zs, lt-ltb n 4096 p.disp, lt-ltb b 32 p.base) refl
-
-read_base : (names : Names) (b i s d : ℕ) → Parts b i s d 32 1 1 1 → IsRead names (ea Mode.Base b i s d)
-unfolding address_text
-read_base names b i s d p =
-    let zi : i ≡ 0 = omega arith in
-    let zs : s ≡ 0 = omega arith in
-    let zd : d ≡ 0 = omega arith in
+    ∙ not_forced names (decimal n) (base_text BaseOffset b ++ []) (decimal_some n w.disp) (decimal_bytes n w.disp)
+    ∙ parts_behind false names (decimal n) (base_text BaseOffset b) [] (Valued (Number n)) (base.Register b) index.Nothing (decimal_bytes n w.disp) refl (front_of-decimal names n w.disp) (base_of-text b [] w.base) no_index
+    ∙ rw (zero_of i p.index, zero_of s p.scale, p.disp, p.base) refl
+read_by names Mode.Base b i s d p w =
     bang_forced names _
-    ∙ address_parts true names [] (base_text Mode.Base b) [] Absent (base.Register b) index.Nothing refl refl refl (base_of-text b [] p.base) no_index
-    ∙ rw (zi, zs, zd, lt-ltb b 32 p.base) refl
-
-read_ip : (names : Names) (b i s d : ℕ) → Parts b i s d 1 1 1 (2 ^ 32) → IsRead names (ea Mode.Ip b i s d)
-unfolding address_text
-read_ip names b i s d p =
-    let zb : b ≡ 0 = omega arith in
-    let zi : i ≡ 0 = omega arith in
-    let zs : s ≡ 0 = omega arith in
+    ∙ parts_behind true names [] (base_text Mode.Base b) [] Absent (base.Register b) index.Nothing refl refl refl (base_of-text b [] w.base) no_index
+    ∙ rw (zero_of i p.index, zero_of s p.scale, zero_of d p.disp, p.base) refl
+read_by names Mode.Ip b i s d p w =
     perhaps_forced false names d (codes "(ip)" ++ [])
-    ∙ address_parts false names (hex_text d) (codes "(ip)") [] (Valued (Number d)) base.Ip index.Nothing (hex_bytes d) refl (front_of-hex names d p.disp) (base_of-ip []) no_index
-    ∙ rw (zb, zi, zs) refl
-
-read_base_index : (names : Names) (b i s d : ℕ) → Parts b i s d 32 32 5 1 → IsRead names (ea BaseIndex b i s d)
-unfolding address_text
-read_base_index names b i s d p =
-    let zd : d ≡ 0 = omega arith in
+    ∙ parts_behind false names (hex_text d) (codes "(ip)") [] (Valued (Number d)) base.Ip index.Nothing (hex_bytes d) refl (front_of-hex names d w.disp) (base_of-ip []) no_index
+    ∙ rw (zero_of b p.base, zero_of i p.index, zero_of s p.scale) refl
+read_by names BaseIndex b i s d p w =
     round_unforced names _
-    ∙ address_parts false names [] (base_text BaseIndex b) (index_text BaseIndex i s) Absent (base.Register b) (index.Scaled i s) refl refl refl (base_of-text b (index_text BaseIndex i s) p.base) (index_of-text i s p.index p.scale)
-    ∙ rw (zd, lt-ltb b 32 p.base, lt-ltb i 32 p.index) refl
-
-read_disp : (names : Names) (b i s d : ℕ) → Parts b i s d 1 1 1 (2 ^ 32) → IsRead names (ea Disp b i s d)
-unfolding address_text
-read_disp names b i s d p =
-    let zb : b ≡ 0 = omega arith in
-    let zi : i ≡ 0 = omega arith in
-    let zs : s ≡ 0 = omega arith in
+    ∙ parts_behind false names [] (base_text BaseIndex b) (index_text BaseIndex i s) Absent (base.Register b) (index.Scaled i s) refl refl refl (base_of-text b (index_text BaseIndex i s) w.base) (index_of-text i s w.index w.scale)
+    ∙ rw (zero_of d p.disp, p.base, p.index) refl
+read_by names Disp b i s d p w =
     perhaps_forced (ltb d 4096) names d ([] ++ [])
-    ∙ address_parts (ltb d 4096) names (hex_text d) [] [] (Valued (Number d)) base.Nothing index.Nothing (hex_bytes d) refl (front_of-hex names d p.disp) no_base no_index
+    ∙ parts_behind (ltb d 4096) names (hex_text d) [] [] (Valued (Number d)) base.Nothing index.Nothing (hex_bytes d) refl (front_of-hex names d w.disp) no_base no_index
     ∙ ap (λ m. address_by m (Valued (Number d)) base.Nothing index.Nothing) (mode_disp (ltb d 4096) d refl)
-    ∙ rw (zb, zi, zs) refl
-
-read_base_disp : (names : Names) (b i s d : ℕ) → Parts b i s d 32 1 1 (2 ^ 32) → IsRead names (ea BaseDisp b i s d)
-unfolding address_text
-read_base_disp names b i s d p =
-    let zi : i ≡ 0 = omega arith in
-    let zs : s ≡ 0 = omega arith in
+    ∙ rw (zero_of b p.base, zero_of i p.index, zero_of s p.scale) refl
+read_by names BaseDisp b i s d p w =
     perhaps_forced (ltb d 4096) names d (base_text BaseDisp b ++ [])
-    ∙ address_parts (ltb d 4096) names (hex_text d) (base_text BaseDisp b) [] (Valued (Number d)) (base.Register b) index.Nothing (hex_bytes d) refl (front_of-hex names d p.disp) (base_of-text b [] p.base) no_index
+    ∙ parts_behind (ltb d 4096) names (hex_text d) (base_text BaseDisp b) [] (Valued (Number d)) (base.Register b) index.Nothing (hex_bytes d) refl (front_of-hex names d w.disp) (base_of-text b [] w.base) no_index
     ∙ ap (λ m. address_by m (Valued (Number d)) (base.Register b) index.Nothing) (mode_base_disp (ltb d 4096) d b refl)
-    ∙ rw (zi, zs, lt-ltb b 32 p.base) refl
-
-read_index_disp : (names : Names) (b i s d : ℕ) → Parts b i s d 1 32 5 (2 ^ 32) → IsRead names (ea IndexDisp b i s d)
-unfolding address_text
-read_index_disp names b i s d p =
-    let zb : b ≡ 0 = omega arith in
+    ∙ rw (zero_of i p.index, zero_of s p.scale, p.base) refl
+read_by names IndexDisp b i s d p w =
     perhaps_forced false names d ([] ++ index_text IndexDisp i s)
-    ∙ address_parts false names (hex_text d) [] (index_text IndexDisp i s) (Valued (Number d)) base.Nothing (index.Scaled i s) (hex_bytes d) refl (front_of-hex names d p.disp) (only_index _) (index_of-text i s p.index p.scale)
-    ∙ rw (zb, lt-ltb i 32 p.index) refl
-
-read_base_index_disp : (names : Names) (b i s d : ℕ) → Parts b i s d 32 32 5 (2 ^ 32) → IsRead names (ea BaseIndexDisp b i s d)
-unfolding address_text
-read_base_index_disp names b i s d p =
+    ∙ parts_behind false names (hex_text d) [] (index_text IndexDisp i s) (Valued (Number d)) base.Nothing (index.Scaled i s) (hex_bytes d) refl (front_of-hex names d w.disp) (only_index _) (index_of-text i s w.index w.scale)
+    ∙ rw (zero_of b p.base, p.index) refl
+read_by names BaseIndexDisp b i s d p w =
     perhaps_forced false names d (base_text BaseIndexDisp b ++ index_text BaseIndexDisp i s)
-    ∙ address_parts false names (hex_text d) (base_text BaseIndexDisp b) (index_text BaseIndexDisp i s) (Valued (Number d)) (base.Register b) (index.Scaled i s) (hex_bytes d) refl (front_of-hex names d p.disp)
-    (base_of-text b (index_text BaseIndexDisp i s) p.base) (index_of-text i s p.index p.scale)
-    ∙ rw (lt-ltb b 32 p.base, lt-ltb i 32 p.index) refl
-
--- the parts of an address are in the ranges of its mode
-read_by : (names : Names) (m : Mode) (b i s d : ℕ) → is_address (ea m b i s d) ≡ true → IsRead names (ea m b i s d)
-read_by names Offset b i s d h = read_offset names b i s d (parts b i s d 1 1 1 4096 h)
-read_by names BaseOffset b i s d h = read_base_offset names b i s d (parts b i s d 32 1 1 4096 h)
-read_by names Mode.Base b i s d h = read_base names b i s d (parts b i s d 32 1 1 1 h)
-read_by names Mode.Ip b i s d h = read_ip names b i s d (parts b i s d 1 1 1 (2 ^ 32) h)
-read_by names BaseIndex b i s d h = read_base_index names b i s d (parts b i s d 32 32 5 1 h)
-read_by names Disp b i s d h = read_disp names b i s d (parts b i s d 1 1 1 (2 ^ 32) h)
-read_by names BaseDisp b i s d h = read_base_disp names b i s d (parts b i s d 32 1 1 (2 ^ 32) h)
-read_by names IndexDisp b i s d h = read_index_disp names b i s d (parts b i s d 1 32 5 (2 ^ 32) h)
-read_by names BaseIndexDisp b i s d h = read_base_index_disp names b i s d (parts b i s d 32 32 5 (2 ^ 32) h)
+    ∙ parts_behind false names (hex_text d) (base_text BaseIndexDisp b) (index_text BaseIndexDisp i s) (Valued (Number d)) (base.Register b) (index.Scaled i s) (hex_bytes d) refl (front_of-hex names d w.disp)
+    (base_of-text b (index_text BaseIndexDisp i s) w.base) (index_of-text i s w.index w.scale)
+    ∙ rw (p.base, p.index) refl
 
 -- a printed address is read again
 pub address_of-text : (names : Names) (e : Ea) → is_address e ≡ true → address_of names (address_text e) ≡ fine e
-address_of-text names e h = read_by names e.mode e.base e.index e.scale e.disp h
+address_of-text names e h = read_by names e.mode e.base e.index e.scale e.disp (address_parts e h) (within e h)

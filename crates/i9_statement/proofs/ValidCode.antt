@@ -2,7 +2,7 @@
 use Rattle.std.proofs.Common.{◌≡◌, ℕ, ◌+◌, ◌-◌, ◌*◌, ◌%◌, ◌^◌, ◌<◌, Bool, true, false, not, cond, ltb, eqb, Some, refl, sym, ap, ◌∙◌, arith, inl, inr}
 use Rattle.std.specs.Prelude.{ℤ, pos, negsuc}
 use Rattle.std.specs.Int.{from_bool}
-use Rattle.std.proofs.lemmas.Bool.{ltb-true, eqb-true, and_parts, cases_Bool}
+use Rattle.std.proofs.lemmas.Bool.{ltb-true, lt-ltb, le-ltb, eqb-true, and_parts, cases_Bool}
 use Rattle.std.proofs.lemmas.Bool.Decides.{nat_tests}
 use Rattle.std.proofs.lemmas.Int.{ints}
 use Rattle.i9_isa.specs.declared.op.Op.{Op}
@@ -21,6 +21,7 @@ use Rattle.i9_decode.proofs.Spelled.{number_small, row_fits_at}
 use Rattle.i9_decode.proofs.Forms.{register_form, branch_form, control_form, memory_form, address_parts, address_read}
 use Rattle.i9_decode.proofs.Clear.{register_clear, branch_clear, control_clear, memory_clear}
 use Rattle.i9_decode.proofs.Modes.{mode_added}
+use Rattle.i9_statement.proofs.ReadAddresses.{within}
 
 -- a first word of the instruction, with no ignored bit set
 pub record HasWord (i : Inst) : Type 0 where
@@ -66,19 +67,7 @@ register_sum o e a b c m1 s1 m2 s2 m3 =
 
 register_fields : (o e a b c m1 s1 m2 s2 m3 : ℕ) → o < 256 → e < 16 → a < 32 → b < 32 → c < 32 → m1 < 2 → s1 < 2 → m2 < 2 → s2 < 2 → m3 < 2
     → RegisterFields (register_sum o e a b c m1 s1 m2 s2 m3) o e a b c m1 s1 m2 s2 m3
-register_fields o e a b c m1 s1 m2 s2 m3 lo le la lb lc lm1 ls1 lm2 ls2 lm3 = record {
-  small = omega arith;
-  opcode = omega arith;
-  extension = omega arith;
-  src1 = omega arith;
-  bit_m1 = omega arith;
-  bit_s1 = omega arith;
-  src2 = omega arith;
-  bit_m2 = omega arith;
-  bit_s2 = omega arith;
-  src_dst = omega arith;
-  bit_m3 = omega arith;
-}
+register_fields o e a b c m1 s1 m2 s2 m3 lo le la lb lc lm1 ls1 lm2 ls2 lm3 = search arith
 
 register_word : (i : Inst) → IsValid i → (row_of i.op).format ≡ Format.Reg → HasWord i
 register_word i v f =
@@ -112,35 +101,24 @@ record LowDisp (width : ℕ) (z : ℤ) : Type 0 where
   fours : low % 4 ≡ 0
   said : z ≡ signed_of width low
 
-near_within : (z : ℤ) → is_within (2 ^ 12) z ≡ true → LowDisp 13 z
-near_within (pos n) h =
-    let p = and_parts (ltb n 4096) (eqb (n % 4) 0) h in
-    let l = ltb-true n 4096 p.0 in
-    record { low = n; small = omega arith; fours = eqb-true (n % 4) 0 p.1; said = grind (arith, ints, nat_tests) }
-near_within (negsuc n) h =
-    let p = and_parts (ltb n 4096) (eqb (n % 4) 3) h in
-    let l = ltb-true n 4096 p.0 in
+low_within : (width half : ℕ) → 2 ^ width ≡ 2 * half → 2 ^ (width - 1) ≡ half → half % 4 ≡ 0 → (z : ℤ) → is_within half z ≡ true → LowDisp width z
+low_within width half twice once fours (pos n) h =
+    let p = and_parts (ltb n half) (eqb (n % 4) 0) h in
+    let l = ltb-true n half p.0 in
+    record { low = n; small = omega arith; fours = eqb-true (n % 4) 0 p.1; said = rw (once, lt-ltb n half l) refl }
+low_within width half twice once fours (negsuc n) h =
+    let p = and_parts (ltb n half) (eqb (n % 4) 3) h in
+    let l = ltb-true n half p.0 in
     let e = eqb-true (n % 4) 3 p.1 in
-    record { low = 8191 - n; small = omega arith; fours = omega arith; said = grind (arith, ints, nat_tests) }
-
-far_within : (z : ℤ) → is_within (2 ^ 23) z ≡ true → LowDisp 24 z
-far_within (pos n) h =
-    let p = and_parts (ltb n 8388608) (eqb (n % 4) 0) h in
-    let l = ltb-true n 8388608 p.0 in
-    record { low = n; small = omega arith; fours = eqb-true (n % 4) 0 p.1; said = grind (arith, ints, nat_tests) }
-far_within (negsuc n) h =
-    let p = and_parts (ltb n 8388608) (eqb (n % 4) 3) h in
-    let l = ltb-true n 8388608 p.0 in
-    let e = eqb-true (n % 4) 3 p.1 in
-    record { low = 16777215 - n; small = omega arith; fours = omega arith; said = grind (arith, ints, nat_tests) }
+    record { low = 2 * half - 1 - n; small = omega arith; fours = omega arith; said = rw (once, le-ltb (2 * half - 1 - n) half (omega arith), twice) (omega (arith, ints)) }
 
 near_low : (uses : Bool) (z : ℤ) → FitsDisp Format.Cobr uses z → LowDisp 13 z
-near_low true z h = near_within z h
-near_low false z h = rw h (near_within (pos 0) refl)
+near_low true z h = low_within 13 (2 ^ 12) refl refl refl z h
+near_low false z h = rw h (low_within 13 (2 ^ 12) refl refl refl (pos 0) refl)
 
 far_low : (uses : Bool) (z : ℤ) → FitsDisp Format.Ctrl uses z → LowDisp 24 z
-far_low true z h = far_within z h
-far_low false z h = rw h (far_within (pos 0) refl)
+far_low true z h = low_within 24 (2 ^ 23) refl refl refl z h
+far_low false z h = rw h (low_within 24 (2 ^ 23) refl refl refl (pos 0) refl)
 
 -- the fields of a word of the compare-and-branch format
 record BranchFields (w o a b m s low hint : ℕ) : Type 0 where
@@ -248,9 +226,6 @@ mode_bits Offset = record { small = refl; mode = refl; low = refl; long = refl }
 mode_bits BaseOffset = record { small = refl; mode = refl; low = refl; long = refl }
 mode_bits _ = record { small = refl; mode = refl; low = refl; long = refl }
 
-below_if : (has : Bool) (limit n : ℕ) → 0 < limit → ltb n (cond has limit 1) ≡ true → n < limit
-below_if true limit n some h = ltb-true n limit h
-below_if false limit n some h = let l = ltb-true n 1 h in omega arith
 
 offset_small : (m : Mode) (n : ℕ) → has_offset m ≡ true → ltb n (disp_limit m) ≡ true → n < 4096
 offset_small Offset n e h = ltb-true n 4096 h
@@ -293,12 +268,6 @@ short_mode Offset e = refl
 short_mode BaseOffset e = refl
 short_mode _ e = absurd cc
 
-within : (n l : ℕ) → n < 16384 → n % 1024 ≡ 0 → l < 1024 → n + l < 16384
-within n l a b c = omega arith
-
-within_short : (n l : ℕ) → n < 16384 → n % 4096 ≡ 0 → l < 4096 → n + l < 16384
-within_short n l a b c = omega arith
-
 -- a word with the fields of an instruction of the memory format
 memory_of : (i : Inst) (w : ℕ) → IsValid i → (row_of i.op).format ≡ Format.Mem → is_address i.ea ≡ true
     → MemoryFields w (row_of i.op).opcode (field_number i.c) i.ea.base → mode_in w ≡ Some i.ea.mode
@@ -315,12 +284,9 @@ long_word : (i : Inst) → IsValid i → (row_of i.op).format ≡ Format.Mem →
 long_word i v f ia off =
     let r = row_of i.op in
     let m = mode_number i.ea.mode in
-    let p = address_parts i.ea ia in
     let b = mode_bits i.ea.mode in
     let lm = ltb-true m 16384 b.small in
-    let lb = below_if (has_base i.ea.mode) 32 i.ea.base (omega arith) p.base in
-    let li = below_if (has_index i.ea.mode) 32 i.ea.index (omega arith) p.index in
-    let ls = below_if (has_index i.ea.mode) 5 i.ea.scale (omega arith) p.scale in
+    let in_range = within i.ea ia in
     let c = field_number i.c in
     let low = i.ea.scale * 128 + i.ea.index in
     let ll : low < 1024 = omega arith in
@@ -328,8 +294,8 @@ long_word i v f ia off =
     let mode = mode_added (r.opcode * 16777216 + c * 524288 + i.ea.base * 16384) m low (omega arith) lm b.low
     (λ t. absurd (cc)) (omega arith) (λ _. ll) in
     memory_of i (memory_sum r.opcode c i.ea.base m low) v f ia
-    (memory_fields r.opcode c i.ea.base m low (opcode_small i.op) (number_small r.c i.c v.c) lb (within m low lm b.low ll))
-    (mode ∙ b.mode) (λ _. long_fields r.opcode c i.ea.base m i.ea.index i.ea.scale b.low li (omega arith)) (λ t. absurd (cc))
+    (memory_fields r.opcode c i.ea.base m low (opcode_small i.op) (number_small r.c i.c v.c) in_range.base (omega (arith, b.low)))
+    (mode ∙ b.mode) (λ _. long_fields r.opcode c i.ea.base m i.ea.index i.ea.scale b.low in_range.index (omega arith)) (λ t. absurd (cc))
 
 short_word : (i : Inst) → IsValid i → (row_of i.op).format ≡ Format.Mem → is_address i.ea ≡ true → has_offset i.ea.mode ≡ true → HasWord i
 short_word i v f ia off =
@@ -338,16 +304,16 @@ short_word i v f ia off =
     let p = address_parts i.ea ia in
     let b = mode_bits i.ea.mode in
     let lm = ltb-true m 16384 b.small in
-    let lb = below_if (has_base i.ea.mode) 32 i.ea.base (omega arith) p.base in
+    let in_range = within i.ea ia in
     let c = field_number i.c in
     let low = i.ea.disp in
-    let ll = offset_small i.ea.mode low off p.disp in
+    let ll = offset_small i.ea.mode low off (address_parts i.ea ia).disp in
     let em = short_mode i.ea.mode off in
     let clear : bit m 12 ≡ false = b.long ∙ ap not off in
     let mode = mode_added (r.opcode * 16777216 + c * 524288 + i.ea.base * 16384) m low (omega arith) lm b.low
     (λ _. em) ll (λ t. absurd (cc)) in
     memory_of i (memory_sum r.opcode c i.ea.base m low) v f ia
-    (memory_fields r.opcode c i.ea.base m low (opcode_small i.op) (number_small r.c i.c v.c) lb (within_short m low lm em ll))
+    (memory_fields r.opcode c i.ea.base m low (opcode_small i.op) (number_small r.c i.c v.c) in_range.base (omega (arith, em)))
     (mode ∙ b.mode) (λ t. absurd (cc)) (λ _. short_field r.opcode c i.ea.base m low em ll)
 
 memory_word : (i : Inst) → IsValid i → (row_of i.op).format ≡ Format.Mem → HasWord i
