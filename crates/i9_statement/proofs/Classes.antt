@@ -1,5 +1,5 @@
 -- The bytes of which printed operands are made.
-use Rattle.std.proofs.Common.{◌≡◌, ℕ, ◌+◌, ◌^◌, ◌<◌, ◌≤◌, Bool, true, false, cond, eqb, ◌||◌, List, [], ◌∷◌, ◌++◌, refl, ap, arith, inl, inr}
+use Rattle.std.proofs.Common.{◌≡◌, ℕ, ◌+◌, ◌^◌, ◌<◌, Bool, true, false, cond, eqb, ◌||◌, List, [], ◌∷◌, ◌++◌, refl, ap, arith, inl, inr}
 use Rattle.std.specs.Prelude.{ℤ, get_or}
 use Rattle.std.specs.List.{list_all, AllByRecursion}
 use Rattle.std.proofs.lemmas.Bool.{eqb-true, cases_Bool}
@@ -12,7 +12,7 @@ use Rattle.i9_isa.specs.declared.inst.Inst.{Inst}
 use Rattle.i9_isa.specs.declared.format.Format.{Format}
 use Rattle.i9_isa.specs.declared.format.Format.TheVariants as format
 use Rattle.i9_isa.specs.declared.format.Use.{Use}
-use Rattle.i9_isa.specs.declared.format.Use.TheVariants.{Unused, Source, Left, Right, Destination, Load, Store, Change}
+use Rattle.i9_isa.specs.declared.format.Use.TheVariants.{Unused}
 use Rattle.i9_isa.specs.Operands.{takes, is_address}
 use Rattle.i9_isa.specs.Valid.{IsValid, FitsAddress}
 use Rattle.i9_isa.specs.Table.{row_of}
@@ -133,7 +133,6 @@ address_some BaseIndex b i s d h = refl
 address_some Disp b i s d h = has_back (bang_text Disp d) _ refl
 address_some BaseDisp b i s d h = has_back (bang_text BaseDisp d) _ refl
 address_some _ b i s d h = refl
-
 
 address_bytes : (m : Mode) (b i s d : ℕ) → Within (ea m b i s d) → list_all is_operand_byte (bang_text m d ++ (front_text m d ++ (base_text m b ++ index_text m i s))) ≡ true
 address_bytes m b i s d w =

@@ -1,9 +1,8 @@
 -- Each valid instruction has words.
-use Rattle.std.proofs.Common.{◌≡◌, ℕ, ◌+◌, ◌-◌, ◌*◌, ◌%◌, ◌^◌, ◌<◌, Bool, true, false, not, cond, ltb, eqb, Some, refl, sym, ap, ◌∙◌, arith, inl, inr}
+use Rattle.std.proofs.Common.{◌≡◌, ℕ, ◌+◌, ◌-◌, ◌*◌, ◌%◌, ◌^◌, ◌<◌, Bool, true, false, not, ltb, eqb, Some, refl, sym, ap, ◌∙◌, arith, inl, inr}
 use Rattle.std.specs.Prelude.{ℤ, pos, negsuc}
 use Rattle.std.specs.Int.{from_bool}
 use Rattle.std.proofs.lemmas.Bool.{ltb-true, lt-ltb, le-ltb, eqb-true, and_parts, cases_Bool}
-use Rattle.std.proofs.lemmas.Bool.Decides.{nat_tests}
 use Rattle.std.proofs.lemmas.Int.{ints}
 use Rattle.i9_isa.specs.declared.op.Op.{Op}
 use Rattle.i9_isa.specs.declared.op.Op.TheVariants.{Notbit}
@@ -11,7 +10,7 @@ use Rattle.i9_isa.specs.declared.inst.Inst.{Inst}
 use Rattle.i9_isa.specs.declared.inst.Mode.{Mode}
 use Rattle.i9_isa.specs.declared.inst.Mode.TheVariants.{Offset, BaseOffset, Base, Ip, BaseIndex, Disp, BaseDisp, IndexDisp, BaseIndexDisp}
 use Rattle.i9_isa.specs.declared.format.Format.{Format}
-use Rattle.i9_isa.specs.Operands.{field_number, is_address, has_base, has_index, has_offset, has_disp, disp_limit}
+use Rattle.i9_isa.specs.Operands.{field_number, is_address, has_offset, has_disp, disp_limit}
 use Rattle.i9_isa.specs.Table.{row_of}
 use Rattle.i9_isa.specs.Valid.{IsValid, FitsDisp, is_within}
 use Rattle.i9_isa.specs.Words.{field, bit, signed_of, mode_in, Encodes}
@@ -80,16 +79,14 @@ register_word i v f =
     (from_bool m1) (from_bool s1) (from_bool m2) (from_bool s2) (from_bool m3)
     (opcode_small i.op) (ltb-true r.extension 16 fits.1) (number_small r.a i.a v.a) (number_small r.b i.b v.b) (number_small r.c i.c v.c)
     (flag_small m1) (flag_small s1) (flag_small m2) (flag_small s2) (flag_small m3) in
-    let n = register_sum r.opcode r.extension (field_number i.a) (field_number i.b) (field_number i.c)
-    (from_bool m1) (from_bool s1) (from_bool m2) (from_bool s2) (from_bool m3) in
-    let bm1 = flag_read (field n 11 1) m1 w.bit_m1 in let bs1 = flag_read (field n 5 1) s1 w.bit_s1 in
-    let bm2 = flag_read (field n 12 1) m2 w.bit_m2 in let bs2 = flag_read (field n 6 1) s2 w.bit_s2 in
-    let bm3 = flag_read (field n 13 1) m3 w.bit_m3 in
+    let bm1 = flag_read _ m1 w.bit_m1 in let bs1 = flag_read _ s1 w.bit_s1 in
+    let bm2 = flag_read _ m2 w.bit_m2 in let bs2 = flag_read _ s2 w.bit_s2 in
+    let bm3 = flag_read _ m3 w.bit_m3 in
     record {
-      word = n;
+      word = _;
       small = w.small;
-      form = λ w1 _. register_form n w1 i v f w.opcode w.extension w.src1 bm1 bs1 w.src2 bm2 bs2 w.src_dst bm3;
-      clear = register_clear n i v f w.src1 bm1 bs1 w.src2 bm2 bs2 w.src_dst bm3;
+      form = λ w1 _. register_form _ w1 i v f w.opcode w.extension w.src1 bm1 bs1 w.src2 bm2 bs2 w.src_dst bm3;
+      clear = register_clear _ i v f w.src1 bm1 bs1 w.src2 bm2 bs2 w.src_dst bm3;
     }
 
 -- ---- the compare-and-branch and the control format
@@ -136,16 +133,7 @@ branch_sum o a b m s low hint = o * 16777216 + a * 524288 + b * 16384 + m * 8192
 
 branch_fields : (o a b m s low hint : ℕ) → o < 256 → a < 32 → b < 32 → m < 2 → s < 2 → low < 8192 → low % 4 ≡ 0 → hint < 2
     → BranchFields (branch_sum o a b m s low hint) o a b m s low hint
-branch_fields o a b m s low hint lo la lb lm ls ll fours lh = record {
-  small = omega arith;
-  opcode = omega arith;
-  src1 = omega arith;
-  bit_m1 = omega arith;
-  src2 = omega arith;
-  bit_s2 = omega arith;
-  disp = omega arith;
-  predicted = omega arith;
-}
+branch_fields o a b m s low hint lo la lb lm ls ll fours lh = search arith
 
 branch_word : (i : Inst) → IsValid i → (row_of i.op).format ≡ Format.Cobr → HasWord i
 branch_word i v f =
@@ -154,15 +142,14 @@ branch_word i v f =
     let d = near_low r.disp i.disp (rw f at v.disp) in
     let w = branch_fields r.opcode (field_number i.a) (field_number i.b) (from_bool m) (from_bool s) d.low (from_bool i.hint)
     (opcode_small i.op) (number_small r.a i.a v.a) (number_small r.b i.b v.b) (flag_small m) (flag_small s) d.small d.fours (flag_small i.hint) in
-    let n = branch_sum r.opcode (field_number i.a) (field_number i.b) (from_bool m) (from_bool s) d.low (from_bool i.hint) in
-    let bm = flag_read (field n 13 1) m w.bit_m1 in let bs = flag_read (field n 0 1) s w.bit_s2 in
-    let bh = flag_read (field n 1 1) i.hint w.predicted in
+    let bm = flag_read _ m w.bit_m1 in let bs = flag_read _ s w.bit_s2 in
+    let bh = flag_read _ i.hint w.predicted in
     let said = d.said ∙ ap (signed_of 13) (sym w.disp) in
     record {
-      word = n;
+      word = _;
       small = w.small;
-      form = λ w1 _. branch_form n w1 i v f w.opcode w.src1 bm w.src2 bs said bh;
-      clear = branch_clear n i v f w.src2 bs said bh;
+      form = λ w1 _. branch_form _ w1 i v f w.opcode w.src1 bm w.src2 bs said bh;
+      clear = branch_clear _ i v f w.src2 bs said bh;
     }
 
 -- the fields of a word of the control format
@@ -177,27 +164,20 @@ abbrev control_sum : ℕ → ℕ → ℕ → ℕ
 control_sum o low hint = o * 16777216 + low + hint * 2
 
 control_fields : (o low hint : ℕ) → o < 256 → low < 16777216 → low % 4 ≡ 0 → hint < 2 → ControlFields (control_sum o low hint) o low hint
-control_fields o low hint lo ll fours lh = record {
-  small = omega arith;
-  opcode = omega arith;
-  disp = omega arith;
-  predicted = omega arith;
-  rest = omega arith;
-}
+control_fields o low hint lo ll fours lh = search arith
 
 control_word : (i : Inst) → IsValid i → (row_of i.op).format ≡ Format.Ctrl → HasWord i
 control_word i v f =
     let r = row_of i.op in
     let d = far_low r.disp i.disp (rw f at v.disp) in
     let w = control_fields r.opcode d.low (from_bool i.hint) (opcode_small i.op) d.small d.fours (flag_small i.hint) in
-    let n = control_sum r.opcode d.low (from_bool i.hint) in
-    let bh = flag_read (field n 1 1) i.hint w.predicted in
+    let bh = flag_read _ i.hint w.predicted in
     let said = d.said ∙ ap (signed_of 24) (sym w.disp) in
     record {
-      word = n;
+      word = _;
       small = w.small;
-      form = λ w1 _. control_form n w1 i v f w.opcode said bh;
-      clear = control_clear n i v f said bh w.rest;
+      form = λ w1 _. control_form _ w1 i v f w.opcode said bh;
+      clear = control_clear _ i v f said bh w.rest;
     }
 
 -- ---- the memory format
@@ -226,7 +206,6 @@ mode_bits Offset = record { small = refl; mode = refl; low = refl; long = refl }
 mode_bits BaseOffset = record { small = refl; mode = refl; low = refl; long = refl }
 mode_bits _ = record { small = refl; mode = refl; low = refl; long = refl }
 
-
 offset_small : (m : Mode) (n : ℕ) → has_offset m ≡ true → ltb n (disp_limit m) ≡ true → n < 4096
 offset_small Offset n e h = ltb-true n 4096 h
 offset_small BaseOffset n e h = ltb-true n 4096 h
@@ -243,12 +222,7 @@ abbrev memory_sum : ℕ → ℕ → ℕ → ℕ → ℕ → ℕ
 memory_sum o c base mode low = o * 16777216 + c * 524288 + base * 16384 + mode + low
 
 memory_fields : (o c base mode low : ℕ) → o < 256 → c < 32 → base < 32 → mode + low < 16384 → MemoryFields (memory_sum o c base mode low) o c base
-memory_fields o c base mode low lo lc lb lm = record {
-  small = omega arith;
-  opcode = omega arith;
-  src_dst = omega arith;
-  base_field = omega arith;
-}
+memory_fields o c base mode low lo lc lb lm = search arith
 
 -- the low bits of the word of a mode without an offset
 record LongFields (w index scale : ℕ) : Type 0 where
@@ -257,7 +231,7 @@ record LongFields (w index scale : ℕ) : Type 0 where
   gap : field w 5 2 ≡ 0
 
 long_fields : (o c base mode index scale : ℕ) → mode % 1024 ≡ 0 → index < 32 → scale < 8 → LongFields (memory_sum o c base mode (scale * 128 + index)) index scale
-long_fields o c base mode index scale em li ls = record { index_field = omega arith; scale_field = omega arith; gap = omega arith }
+long_fields o c base mode index scale em li ls = search arith
 
 short_field : (o c base mode disp : ℕ) → mode % 4096 ≡ 0 → disp < 4096 → field (memory_sum o c base mode disp) 0 12 ≡ disp
 short_field o c base mode disp em ld = omega arith
