@@ -26,6 +26,7 @@ use Rattle.i9_statement.specs.NumberText.{hex_text, hex_byte_text}
 use Rattle.i9_statement.specs.Printed.{HasText, needs_bang, operand_text, front_text, base_text, index_text, bang_text, address_text, target, target_text}
 use Rattle.i9_statement.specs.Instructions.{Fields, comes_first, first_use, last_use, operand_field, address_field, target_field, operand_fields}
 use Rattle.i9_statement.proofs.Cutting.{is_free, free_by, all_by, all_append}
+pub use Rattle.i9_statement.proofs.Cutting.{apart_by, free_in}
 use Rattle.i9_statement.proofs.ReadValues.{has_byte, has_byte-some, register_bytes, register_some, decimal_bytes, decimal_some, hex_bytes, hex_byte_bytes}
 use Rattle.i9_statement.proofs.ReadOperands.{taken_in_range}
 use Rattle.i9_statement.proofs.ReadAddresses.{scale_name_bytes, ea, Within, within}
@@ -33,16 +34,6 @@ use Rattle.i9_statement.proofs.ReadAddresses.{scale_name_bytes, ea, Within, with
 -- a letter, a digit, `_`, or a sign of an address
 abbrev pub is_operand_byte : ℕ → Bool
 is_operand_byte b = is_name_byte b || (is_byte 33 b || (is_byte 40 b || (is_byte 41 b || (is_byte 42 b || (is_byte 91 b || is_byte 93 b)))))
-
--- a byte that is not in a class is none of its bytes
-pub apart_by : (q : ℕ → Bool) (x b : ℕ) → q x ≡ false → q b ≡ true → is_byte x b ≡ false
-apart_by q x b other h = elim (cases_Bool (is_byte x b)) [
-  | inl same ↦ let e : b ≡ x = eqb-true b x same in absurd (cc (ap q e))
-  | inr differs ↦ differs
-]
-
-pub free_in : (q : ℕ → Bool) (x : ℕ) (w : List ℕ) → q x ≡ false → list_all q w ≡ true → is_free (is_byte x) w ≡ true
-free_in q x w other h = free_by q (is_byte x) (λ b. apart_by q x b other) w h
 
 pub free_of_blanks : (q : ℕ → Bool) (w : List ℕ) → q 32 ≡ false → q 9 ≡ false → list_all q w ≡ true → is_free is_blank w ≡ true
 free_of_blanks q w space tab h = free_by q is_blank (λ b in_q. rw (apart_by q 32 b space in_q, apart_by q 9 b tab in_q) refl) w h

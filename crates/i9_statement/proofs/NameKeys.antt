@@ -127,11 +127,7 @@ same_words x y h =
     )
 
 key_itself : (x : Key) → is_eq (key_cmp x x) ≡ true
-key_itself x =
-    let one = both_so (nat_cmp x.0 x.0) (nat_cmp x.1 x.1) (word_itself x.0) (word_itself x.1) in
-    let two = both_so (one_cmp x x) (nat_cmp x.2 x.2) one (word_itself x.2) in
-    let three = both_so (two_cmp x x) (nat_cmp x.3 x.3) two (word_itself x.3) in
-    both_so (three_cmp x x) (nat_cmp x.4 x.4) three (word_itself x.4)
+key_itself x = grind arith
 
 same_key : (x y : Key) → is_eq (key_cmp x y) ≡ true → x ≡ y
 same_key x y h = let e = same_words x y h in rw (e.0, e.1, e.2, e.3, e.4) refl

@@ -29,23 +29,14 @@ use Rattle.i9_statement.specs.Values.{Names, value_of, is_name_byte}
 use Rattle.i9_statement.specs.Addresses.{bang, star, open_round, close_round, open_square, if_last, close_square, opens, base_of, with_rest, base_named, scale_names, scale_of, scaled, index_of, valued, front_of, mode_of, address_by, with_base, with_index, address_behind, address_of}
 use Rattle.i9_statement.specs.NumberText.{hex_text}
 use Rattle.i9_statement.specs.Printed.{base_text, index_text, address_text}
-use Rattle.i9_statement.proofs.Cutting.{is_free, stops, before-cut, from-cut, closed-cut, free_by}
+use Rattle.i9_statement.proofs.Cutting.{is_free, stops, before-cut, from-cut, closed-cut, free_by, apart_by, free_in}
 use Rattle.i9_text.proofs.Below.{test_below, passes_below}
 use Rattle.i9_statement.proofs.ReadValues.{register_place-text, register_bytes, value_of-decimal, value_of-hex, decimal_bytes, decimal_some, hex_bytes, found_at, found_true}
 
 -- ---- bytes of names and numbers are none of the signs
 
-name_apart : (x b : ℕ) → is_name_byte x ≡ false → is_name_byte b ≡ true → is_byte x b ≡ false
-name_apart x b other h = elim (cases_Bool (is_byte x b)) [
-  | inl same ↦ let e : b ≡ x = eqb-true b x same in absurd (cc (ap is_name_byte e))
-  | inr other_byte ↦ other_byte
-]
-
-pub free_of_byte : (x : ℕ) (w : List ℕ) → is_name_byte x ≡ false → list_all is_name_byte w ≡ true → is_free (is_byte x) w ≡ true
-free_of_byte x w other h = free_by is_name_byte (is_byte x) (λ b. name_apart x b other) w h
-
 opens_apart : (b : ℕ) → is_name_byte b ≡ true → opens b ≡ false
-opens_apart b h = rw (name_apart 40 b refl h, name_apart 91 b refl h) refl
+opens_apart b h = rw (apart_by is_name_byte 40 b refl h, apart_by is_name_byte 91 b refl h) refl
 
 pub free_of_opens : (w : List ℕ) → list_all is_name_byte w ≡ true → is_free opens w ≡ true
 free_of_opens w h = free_by is_name_byte opens opens_apart w h
@@ -65,7 +56,7 @@ base_of_open s = option_and_then (λ c. with_rest (base_named c.0) c.1) (closed 
 base_of-text : (r : ℕ) (t : List ℕ) → r < 32 → base_of ((open_round ∷ register_text r ++ close_round ∷ []) ++ t) ≡ Some (base.Register r, t)
 unfolding base_of
 base_of-text r t h =
-    let free = free_of_byte close_round (register_text r) refl (register_bytes r (omega arith)) in
+    let free = free_in is_name_byte close_round (register_text r) refl (register_bytes r (omega arith)) in
     ap base_of_open (append_assoc (register_text r) (close_round ∷ []) t ∙ refl)
     ∙ ap (option_and_then (λ c. with_rest (base_named c.0) c.1)) (closed-cut close_round (register_text r) t free)
     ∙ ap (λ o. with_rest o t) (base_named-text r h)
@@ -96,10 +87,10 @@ index_of-text r k hr hk =
     let reg = register_text r in
     let scale = get_or scale_names k [] in
     let reg_bytes = register_bytes r (omega arith) in
-    let scale_free = free_of_byte close_square scale refl (scale_name_bytes k hk) in
+    let scale_free = free_in is_name_byte close_square scale refl (scale_name_bytes k hk) in
     let inside : is_free (is_byte close_square) (reg ++ star ∷ scale) ≡ true =
-    list_all-append square_byte reg (star ∷ scale) ∙ rw (free_of_byte close_square reg refl reg_bytes, scale_free) refl in
-    let reg_free = free_of_byte star reg refl reg_bytes in
+    list_all-append square_byte reg (star ∷ scale) ∙ rw (free_in is_name_byte close_square reg refl reg_bytes, scale_free) refl in
+    let reg_free = free_in is_name_byte star reg refl reg_bytes in
     ap (option_and_then if_last) (closed-cut close_square (reg ++ star ∷ scale) [] inside)
     ∙ ap (λ x. option_and_then (λ n. scaled (register_place (before (is_byte star) (reg ++ star ∷ scale))) (scale_of n)) (behind star x)) (from-cut (is_byte star) reg (star ∷ scale) reg_free refl)
     ∙ ap (λ x. scaled (register_place x) (scale_of scale)) (before-cut (is_byte star) reg (star ∷ scale) reg_free refl)
@@ -165,7 +156,7 @@ within e h =
 not_forced : (names : Names) (w t : List ℕ) → 0 < length w → list_all is_name_byte w ≡ true → address_of names (w ++ t) ≡ address_behind false names (w ++ t)
 unfolding address_of
 not_forced names [] t some h = absurd (omega arith)
-not_forced names (c ∷ w) t some h = rw (name_apart bang c refl (and_parts (is_name_byte c) (list_all is_name_byte w) h).0) refl
+not_forced names (c ∷ w) t some h = rw (apart_by is_name_byte bang c refl (and_parts (is_name_byte c) (list_all is_name_byte w) h).0) refl
 
 front_of-some : (names : Names) (w : List ℕ) (v : Value) → 0 < length w → value_of names w ≡ Some v → front_of names w ≡ Valued v
 front_of-some names [] v some h = absurd (omega arith)

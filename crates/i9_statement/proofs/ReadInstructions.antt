@@ -24,9 +24,9 @@ use Rattle.i9_statement.specs.Values.{Names, is_name_byte}
 use Rattle.i9_statement.specs.Targets.{reach}
 use Rattle.i9_statement.specs.Mnemonics.{mnemonic, op_named, dot, hint_by, with_hint, named_by, mnemonic_text}
 use Rattle.i9_statement.specs.Instructions.{Fields, take_operand, take_address, take_target, comes_first, last_use, chosen, instruction_of, operand_field, address_field, target_field, operand_fields}
-use Rattle.i9_statement.proofs.Cutting.{stops, before-cut, from-cut}
+use Rattle.i9_statement.proofs.Cutting.{stops, before-cut, from-cut, free_in}
 use Rattle.i9_statement.proofs.ReadOperands.{operand_of-text}
-use Rattle.i9_statement.proofs.ReadAddresses.{address_of-text, free_of_byte}
+use Rattle.i9_statement.proofs.ReadAddresses.{address_of-text}
 use Rattle.i9_statement.proofs.ReadTargets.{target_of-text}
 
 -- ---- names
@@ -56,7 +56,7 @@ pub named_by-text : (op : Op) (hint : Bool) → (hint ≡ true → (row_of op).h
 unfolding named_by
 named_by-text op hint h =
     let suffix = cond hint (codes ".f") [] in
-    let free = free_of_byte dot (mnemonic op) refl (mnemonic_bytes op) in
+    let free = free_in is_name_byte dot (mnemonic op) refl (mnemonic_bytes op) in
     ap (λ s. option_and_then (λ o. with_hint o (hint_by (row_of o).hint (from (is_byte dot) (mnemonic op ++ suffix)))) (op_named s)) (before-cut (is_byte dot) (mnemonic op) suffix free (suffix_stops hint))
     ∙ ap (λ s. option_and_then (λ o. with_hint o (hint_by (row_of o).hint s)) (op_named (mnemonic op))) (from-cut (is_byte dot) (mnemonic op) suffix free (suffix_stops hint))
     ∙ ap (option_and_then (λ o. with_hint o (hint_by (row_of o).hint suffix))) (op_named-mnemonic op)
