@@ -1,11 +1,10 @@
 -- One turn of a loop over the values of a directive.
-use Rattle.std.proofs.Common.{◌≡◌, ℕ, ◌+◌, ◌*◌, Bool, true, false, cond, ltb, List, [], ◌∷◌, ◌++◌, length, map, Option, Some, None, Bor, refl, sym, ap, ◌∙◌, append_assoc, arith, inl, inr, ◌≤◌, lit≤, zero-add}
+use Rattle.std.proofs.Common.{◌≡◌, ℕ, ◌+◌, ◌*◌, Bool, true, false, cond, List, [], ◌∷◌, ◌++◌, length, map, Option, Some, None, Bor, refl, sym, ap, ◌∙◌, append_assoc, arith, ◌≤◌, lit≤, zero-add}
 use Rattle.std.specs.Prelude.{is_some}
 use Rattle.std.specs.List.{list_all, slice_split, flat_map}
-use Rattle.std.proofs.lemmas.Bool.{ltb-true, ltb-false, lt-ltb, le-ltb, cases_Bool}
 use Rattle.std.proofs.lemmas.Bool.Decides.{nat_tests}
 use Rattle.i9_statement.specs.declared.fault.Fault.{Fault}
-use Rattle.i9_statement.specs.Noted.{kind_of, least}
+use Rattle.i9_statement.specs.Noted.{least}
 use Rattle.i9_statement.specs.Values.{Names, value_of}
 use Rattle.i9_statement.specs.Fields.{is_comma, field_of, fields_left}
 use Rattle.i9_asm.specs.declared.lines.Width.{Width}

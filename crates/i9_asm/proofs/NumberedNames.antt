@@ -6,6 +6,7 @@ use Rattle.std.specs.Map.{update}
 use Rattle.std.specs.Str.{bytes_eq}
 use Rattle.std.proofs.Math.Path.{fun_ext}
 use Rattle.std.proofs.lemmas.Bool.{cases_Bool, lt-ltb, le-ltb}
+use Rattle.std.proofs.lemmas.Option.{same_Some}
 use Rattle.std.proofs.lemmas.Slice.Eq.{bytes_eq-Decides}
 use Rattle.i9_statement.specs.declared.known.Definition.{Definition}
 use Rattle.i9_statement.specs.Known.{enter, values_of, value_before, values_before}
@@ -14,12 +15,9 @@ use Rattle.i9_asm.specs.Lines.{Item, Set, label_of}
 use Rattle.i9_asm.specs.Places.{Place, define, address_at, past_label, past_line, past_lines, effect_of, assigned}
 use Rattle.i9_asm.specs.Numbered.{Definitions, no_definitions, label_entered, item_entered, line_entered, lines_entered}
 
-pub same_some : (table : Definitions) (name : List ℕ) → is_some (table name) ≡ is_some (values_of table name)
-same_some table name = by_option (table name)
-  where
-    by_option : (o : Option Definition) → is_some o ≡ is_some (option_map (λ d. d.value) o)
-    by_option None = refl
-    by_option (Some d) = refl
+same_some : (o : Option Definition) → is_some o ≡ is_some (option_map (λ d. d.value) o)
+same_some None = refl
+same_some (Some d) = refl
 
 -- ---- values
 
@@ -31,8 +29,8 @@ updated table name q d = elim (cases_Bool (bytes_eq name q)) [
 
 entered_values : (name : List ℕ) (d : Definition) (table : Definitions) → values_of (enter name d table) ≡ define name d.value (values_of table)
 entered_values name d table = elim (cases_Bool (is_some (table name))) [
-  | inl old ↦ let known : is_some (values_of table name) ≡ true = sym (same_some table name) ∙ old in rw (old, known) refl
-  | inr new ↦ let unknown : is_some (values_of table name) ≡ false = sym (same_some table name) ∙ new in rw (new, unknown) (fun_ext (λ q. updated table name q d))
+  | inl old ↦ let known : is_some (values_of table name) ≡ true = sym (same_some (table name)) ∙ old in rw (old, known) refl
+  | inr new ↦ let unknown : is_some (values_of table name) ≡ false = sym (same_some (table name)) ∙ new in rw (new, unknown) (fun_ext (λ q. updated table name q d))
 ]
 
 -- ---- definitions at later steps
@@ -41,19 +39,12 @@ entered_values name d table = elim (cases_Bool (is_some (table name))) [
 abbrev pub IsEarly : ℕ → Definitions → Type 0
 IsEarly step table = (q : List ℕ) (d : Definition) → table q ≡ Some d → d.step < step
 
--- a definition that was made before a step, and one that was not
-before_step : (step : ℕ) (d : Definition) → d.step < step → value_before step d ≡ Some d.value
-before_step step d h = rw (lt-ltb d.step step h) refl
-
-from_step : (step : ℕ) (d : Definition) → step ≤ d.step → value_before step d ≡ None
-from_step step d h = rw (le-ltb d.step step h) refl
-
 early_values : (step : ℕ) (table : Definitions) → IsEarly step table → values_before step table ≡ values_of table
 early_values step table early = fun_ext (λ q. by_option q (table q) refl)
   where
     by_option : (q : List ℕ) (o : Option Definition) → table q ≡ o → option_and_then (value_before step) o ≡ option_map (λ d. d.value) o
     by_option q None e = refl
-    by_option q (Some d) e = before_step step d (early q d e)
+    by_option q (Some d) e = rw (lt-ltb d.step step (early q d e)) refl
 
 later_early : (step later : ℕ) (table : Definitions) → step ≤ later → IsEarly step table → IsEarly later table
 later_early step later table h early = λ q d e. omega (arith, h, early q d e)
@@ -63,15 +54,12 @@ data IsEntered (step : ℕ) (table : Definitions) : Definitions → Type 0 where
   entered_none : IsEntered step table table
   entered_one : (name : List ℕ) (d : Definition) → d.step ≡ step → IsEntered step table (enter name d table)
 
-some_is : (d e : Definition) → ◌≡◌ {A = Option Definition} (Some d) (Some e) → d ≡ e
-some_is d e h = cc
-
 entered_early : (step : ℕ) (table more : Definitions) → IsEntered step table more → IsEarly step table → IsEarly (step + 1) more
 entered_early step table _ entered_none early = later_early step (step + 1) table (omega arith) early
 entered_early step table _ (entered_one name d at) early = λ q e is. elim (cases_Bool (is_some (table name))) [
   | inl old ↦ later_early step (step + 1) table (omega arith) early q e (rw old at is)
   | inr new ↦ elim (cases_Bool (bytes_eq name q)) [
-    | inl same ↦ let h : d ≡ e = some_is d e (rw (new, same) at is) in let s = ap (λ (x : Definition). x.step) h in omega (arith, s, at)
+    | inl same ↦ let h : d ≡ e = same_Some d e (rw (new, same) at is) in let s = ap (λ (x : Definition). x.step) h in omega (arith, s, at)
     | inr other ↦ later_early step (step + 1) table (omega arith) early q e (rw (new, other) at is)
   ]
 ]
@@ -87,7 +75,7 @@ entered_stable step j table _ h (entered_one name d at) = elim (cases_Bool (is_s
   | inr new ↦ rw new (fun_ext (λ q. elim (cases_Bool (bytes_eq name q)) [
     | inl same ↦
         let not : table q ≡ None = ap table (sym ((bytes_eq-Decides name q).0 same)) ∙ not_some (table name) new in
-        rw (same, not) (from_step j d (omega (arith, h, at)))
+        rw (same, not) (rw (le-ltb d.step j (omega (arith, h, at))) refl)
     | inr other ↦ rw other refl
   ]))
 ]

@@ -1,6 +1,6 @@
 -- The lines of a listing assemble to the bytes that they were made of.
-use Rattle.std.proofs.Common.{◌≡◌, ℕ, zero, suc, ◌+◌, ◌*◌, ◌%◌, ◌^◌, ◌<◌, ◌≤◌, Bool, true, false, cond, eqb, ltb, ◌&&◌, List, [], ◌∷◌, ◌++◌, length, take, drop, get_or, Some, None, Result, Ok, Err, refl, sym, ap, subst, ◌∙◌, arith, append_assoc, add-zero, inl, inr}
-use Rattle.std.specs.Prelude.{codes, is_some, slice_index}
+use Rattle.std.proofs.Common.{◌≡◌, ℕ, zero, suc, ◌+◌, ◌*◌, ◌%◌, ◌^◌, ◌<◌, ◌≤◌, Bool, true, false, cond, eqb, ltb, List, [], ◌∷◌, ◌++◌, length, take, drop, get_or, Some, None, Result, Ok, Err, refl, sym, ap, subst, ◌∙◌, arith, append_assoc, add-zero, inl, inr}
+use Rattle.std.specs.Prelude.{codes}
 use Rattle.std.specs.List.{list_all, flat_map, AllByRecursion}
 use Rattle.std.specs.Int.{w32, to_le_bytes, from_le_bytes}
 use Rattle.std.specs.Int.Bits.{bit_and}
@@ -9,6 +9,7 @@ use Rattle.std.proofs.Math.Seq.{take-add}
 use Rattle.std.proofs.lemmas.List.{append-nil, length-take-le, length-drop, length-append, take-append-drop}
 use Rattle.i9_text.specs.FirstFault.{SaysAll}
 use Rattle.i9_text.proofs.FirstFaultOnce.{SaysAll-append}
+use Rattle.std.proofs.lemmas.Bool.Decides.{nat_tests}
 use Rattle.std.proofs.lemmas.Nat.{and_le_l, le_bytes_4}
 use Rattle.i9_isa.specs.declared.inst.Inst.{Inst}
 use Rattle.i9_isa.specs.declared.inst.BadWord.{BadWord}
@@ -27,7 +28,7 @@ use Rattle.i9_statement.specs.Statements.{statement_of, statement_text}
 use Rattle.i9_asm.specs.Lines.{Item, Empty, Org, Data, Instruction, Says, item_of, labelled, code_len}
 use Rattle.i9_statement.specs.Codes.{Stands, taken}
 use Rattle.i9_asm.specs.Places.{is_ascii, all_names, no_names, if_fine, Place, address_at, location_count, statement_size, size_of, moved_to, assigned}
-use Rattle.i9_asm.specs.Source.{start_source, segments_of, Gives, gives_nothing, gives_instruction, gives_data, gives_move, item_fault, Source, most_bytes, line_fault, Assembles, data_value, fits_width, low_bytes, past_bytes, HasRoom, AddsBytes}
+use Rattle.i9_asm.specs.Source.{start_source, segments_of, Gives, gives_nothing, gives_instruction, gives_data, gives_move, item_fault, Source, most_bytes, line_fault, Assembles, fits_width, low_bytes, past_bytes, HasRoom, AddsBytes}
 use Rattle.i9_asm.specs.Listing.{text_by, text_of, printed_words, printed_bytes, word_at, whole_size, is_single, line_size, whole_text, said_text, noted_words, first_line, Lists, lists_none, lists_line, org_line, ListsAll, lists_all, lists_run}
 use Rattle.i9_hex.specs.Runs.{IsLow, IsRun, bytes_in}
 use Rattle.i9_asm.specs.Laws.{IsAssembly}
@@ -35,22 +36,20 @@ use Rattle.i9_statement.proofs.Cutting.{all_by}
 use Rattle.i9_text.proofs.WrittenLines.{is_plain_byte, is_plain, ascii-plain, plain-append, plain-word_text, plain-byte_text, IsPlain as IsPlainLine, lines_of-written}
 use Rattle.i9_hex.specs.Writing.{with_line_feed}
 use Rattle.i9_statement.proofs.ReadValues.{value_of-hex, value_of-hex_byte}
-use Rattle.i9_statement.proofs.Classes.{apart_by, hex_field, hex_byte_field}
+use Rattle.i9_statement.proofs.Classes.{hex_field, hex_byte_field}
 use Rattle.i9_statement.proofs.ReadFields.{pad}
 use Rattle.i9_statement.proofs.ReadStatements.{statement_of-text}
-use Rattle.i9_statement.proofs.StatementBytes.{is_statement_byte, low_statement, statement_bytes, operand_statement}
+use Rattle.i9_statement.proofs.StatementBytes.{is_statement_byte, statement_bytes, operand_statement}
 use Rattle.i9_statement.proofs.StatementWords.{and_again, one_or_two, statement_stands}
 use Rattle.i9_asm.proofs.ReadLines.{Tail, NoTail, Comment, tail_text, leaves, says_statement, says_word, says_byte, says_org}
 
 -- ---- one line
 
--- the bytes of a printed statement are plain
-plain_by : (b : ℕ) → ltb b 128 ≡ true → eqb b 10 ≡ false → eqb b 13 ≡ false → is_plain_byte b ≡ true
-plain_by b ascii feed return = rw (ascii, feed, return) refl
+plain_statement_byte : (b : ℕ) → is_statement_byte b ≡ true → is_plain_byte b ≡ true
+plain_statement_byte b h = grind (arith, nat_tests)
 
 statement_plain : (w : List ℕ) → list_all is_statement_byte w ≡ true → is_plain w ≡ true
-statement_plain w h =
-    all_by is_statement_byte is_plain_byte (λ b in_q. plain_by b (lt-ltb b 128 (low_statement b in_q)) (apart_by is_statement_byte 10 b refl in_q) (apart_by is_statement_byte 13 b refl in_q)) w h
+statement_plain w h = all_by is_statement_byte is_plain_byte plain_statement_byte w h
 
 -- an item that gives bytes and no more
 record IsPlain (names : Names) (p : Place) (item : Item) (bs : List ℕ) : Type 0 where
@@ -94,12 +93,7 @@ taken_length i w0 w1 = elim (one_or_two i.ea.mode) [
   | inr two ↦ rw two refl
 ]
 
-
 -- ---- bytes of a run
-
--- four bytes as a word and back
-word_bytes : (bs : List ℕ) → length bs ≡ 4 → ((i : ℕ) → get_or bs i 0 < 256) → to_le_bytes w32 (from_le_bytes w32 bs) ≡ bs
-word_bytes bs len low = le_bytes_4 bs (from_le_bytes w32 bs) len low refl
 
 low_at : (bs : List ℕ) → IsLow bs → (i : ℕ) → get_or bs i 0 < 256
 low_at [] h i = omega arith
@@ -119,15 +113,10 @@ low_drop (suc n) (b ∷ bs) h = low_drop n bs h.1
 -- the word at a place that is there
 word_at-bytes : (k : ℕ) (bs : List ℕ) → k + 4 ≤ length bs → IsLow bs → to_le_bytes w32 (word_at k bs) ≡ take 4 (drop k bs)
 word_at-bytes k bs room low =
-    word_bytes (take 4 (drop k bs)) (length-take-le 4 (drop k bs) (omega (arith, length-drop k bs))) (low_at (take 4 (drop k bs)) (low_take 4 (drop k bs) (low_drop k bs low)))
+    le_bytes_4 (take 4 (drop k bs)) (word_at k bs) (length-take-le 4 (drop k bs) (omega (arith, length-drop k bs))) (low_at (take 4 (drop k bs)) (low_take 4 (drop k bs) (low_drop k bs low))) refl
 
 word_small : (xs : List ℕ) → ((i : ℕ) → get_or xs i 0 < 256) → from_le_bytes w32 xs < 2 ^ 32
-word_small xs h =
-    let h0 : slice_index xs 0 < 256 = h 0 in
-    let h1 : slice_index xs 1 < 256 = h 1 in
-    let h2 : slice_index xs 2 < 256 = h 2 in
-    let h3 : slice_index xs 3 < 256 = h 3 in
-    omega arith
+word_small xs h = omega (arith, h 0, h 1, h 2, h 3)
 
 word_at-small : (k : ℕ) (bs : List ℕ) → IsLow bs → word_at k bs < 2 ^ 32
 word_at-small k bs low = word_small (take 4 (drop k bs)) (low_at (take 4 (drop k bs)) (low_take 4 (drop k bs) (low_drop k bs low)))

@@ -3,7 +3,7 @@ use Rattle.std.proofs.Common.{◌≡◌, ℕ, ◌+◌, ◌^◌, Bool, true, fals
 use Rattle.std.specs.Prelude.{is_some, if◌then◌else◌}
 use Rattle.std.specs.Option.{option_map}
 use Rattle.std.specs.List.{list_all}
-use Rattle.std.proofs.lemmas.Bool.{ltb-false}
+use Rattle.std.proofs.lemmas.Bool.{ltb-false, not-false}
 use Rattle.i9_statement.specs.declared.fault.Fault.{Fault}
 use Rattle.i9_statement.specs.declared.fault.Fault.TheVariants.{Form, NameTwice, Range, TooMany}
 use Rattle.i9_statement.specs.Noted.{kind_of, least}
@@ -74,9 +74,9 @@ least_left (Some a) (Some b) h = by_first _ h
 pub least_right : (a b : Option Fault) → a ≡ None → least a b ≡ None → b ≡ None
 least_right a b e h = rw e at h
 
-ascii_by : (b : Bool) → fault_if (not b) Form ≡ None → b ≡ true
-ascii_by true h = refl
-ascii_by false h = absurd cc
+no_fault_if : (q : Bool) (f : Fault) → fault_if q f ≡ None → q ≡ false
+no_fault_if true f h = absurd cc
+no_fault_if false f h = refl
 
 label_by : (o : Option (List ℕ)) (known : Names) → label_fault o known ≡ None → is_label o ≡ true
 label_by None known h = refl
@@ -90,13 +90,9 @@ label_by (Some name) known h = by_name (is_name name) h
 pub effect_is_item : (p : Place) (line : List ℕ) → front_fault p line ≡ None → effect_of line ≡ item_of line
 effect_is_item p line h =
     let form = least_left (fault_if (not (list_all is_ascii line)) Form) (label_fault (label_of line) p.known) h in
-    let ascii = ascii_by (list_all is_ascii line) form in
+    let ascii = not-false (list_all is_ascii line) (no_fault_if (not (list_all is_ascii line)) Form form) in
     let label = label_by (label_of line) p.known (least_right (fault_if (not (list_all is_ascii line)) Form) (label_fault (label_of line) p.known) form h) in
     rw (ascii, label) refl
-
-no_fault_if : (q : Bool) (f : Fault) → fault_if q f ≡ None → q ≡ false
-no_fault_if true f h = absurd cc
-no_fault_if false f h = refl
 
 -- a line without fault has none in its parts, and has room for its bytes
 pub record IsSound (names : Names) (s : Source) (line : List ℕ) : Type 0 where

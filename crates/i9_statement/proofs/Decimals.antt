@@ -1,9 +1,9 @@
 -- Decimal numbers of any length, with a limit.
-use Rattle.std.proofs.Common.{◌≡◌, ℕ, ◌+◌, ◌*◌, ◌^◌, ◌<◌, ◌≤◌, Bool, true, false, ltb, leb, cond, ◌&&◌, List, [], ◌∷◌, length, get_or, Some, None, refl, ap, arith, lit<, inl, inr}
+use Rattle.std.proofs.Common.{◌≡◌, ℕ, ◌+◌, ◌*◌, ◌^◌, ◌<◌, ◌≤◌, true, false, ltb, leb, ◌&&◌, List, [], ◌∷◌, length, get_or, Some, None, refl, ap, arith, lit<, inl, inr}
 use Rattle.std.specs.Option.{option_map}
 use Rattle.std.specs.Char.{digit_value, is_digit}
 use Rattle.std.specs.Str.Parse.{AllDigits, digits_value}
-use Rattle.std.proofs.lemmas.Bool.{and_parts, lt-ltb, le-ltb, ltb-true, leb-true, cases_Bool}
+use Rattle.std.proofs.lemmas.Bool.{and_parts, and_right, lt-ltb, le-ltb, ltb-true, leb-true, cases_Bool}
 use Rattle.std.proofs.lemmas.Bool.Decides.{nat_tests}
 use Rattle.std.proofs.lemmas.List.Folds.{list_all_at}
 use Rattle.std.proofs.lemmas.Option.{cond_some}
@@ -21,11 +21,7 @@ unfolding decimal_of
 decimal_of-other w i lt h =
     let test : is_digit (get_or w i 0) 10 ≡ false = le-ltb _ _ h in
     let all = list_all_at (λ c. is_digit c 10) w i 0 lt test in
-    rw all (no_value (ltb 0 (length w)) (digits_value 10 w))
-  where
-    no_value : (q : Bool) (n : ℕ) → cond (q && false) (Some n) None ≡ None
-    no_value true n = refl
-    no_value false n = refl
+    rw (and_right (ltb 0 (length w)) (are_digits 10 w) all) refl
 
 -- the limit before or after a digit is the same
 pub capped_digit : (m d : ℕ) → capped (capped m * 10 + d) ≡ capped (m * 10 + d)

@@ -1,11 +1,11 @@
 -- A printed address is read again.
-use Rattle.std.proofs.Common.{◌≡◌, ℕ, zero, suc, ◌^◌, ◌<◌, Bool, true, false, not, cond, ltb, List, [], ◌∷◌, ◌++◌, length, Option, Some, refl, ap, ◌∙◌, arith, append_assoc, inl, inr}
+use Rattle.std.proofs.Common.{◌≡◌, ℕ, zero, suc, ◌^◌, ◌<◌, Bool, true, false, not, cond, ltb, List, [], ◌∷◌, ◌++◌, length, Option, Some, refl, ap, ◌∙◌, arith, append_assoc}
 use Rattle.std.specs.Prelude.{codes, get_or}
 use Rattle.std.specs.Option.{option_and_then}
 use Rattle.std.specs.List.{list_all}
 use Rattle.std.specs.Str.{bytes_eq}
 use Rattle.std.specs.Fmt.{decimal}
-use Rattle.std.proofs.lemmas.Bool.{and_parts, eqb-true, ltb-true, cases_Bool, not-true}
+use Rattle.std.proofs.lemmas.Bool.{and_parts, ltb-true, not-true}
 use Rattle.std.proofs.lemmas.Bool.Decides.{nat_tests}
 use Rattle.std.proofs.Math.Dec.{eqb-suc-zero}
 use Rattle.std.proofs.lemmas.List.Folds.{list_all-append}
@@ -61,10 +61,6 @@ base_of-text r t h =
     ∙ ap (option_and_then (λ c. with_rest (base_named c.0) c.1)) (closed-cut close_round (register_text r) t free)
     ∙ ap (λ o. with_rest o t) (base_named-text r h)
 
-base_of-ip : (t : List ℕ) → base_of (codes "(ip)" ++ t) ≡ Some (base.Ip, t)
-unfolding base_of closed
-base_of-ip t = refl
-
 scale_bytes : test_below (λ k. list_all is_name_byte (get_or scale_names k [])) 5 ≡ true
 scale_bytes = refl
 
@@ -96,18 +92,6 @@ index_of-text r k hr hk =
     ∙ ap (λ x. scaled (register_place x) (scale_of scale)) (before-cut (is_byte star) reg (star ∷ scale) reg_free refl)
     ∙ ap (λ o. scaled o (scale_of scale)) (register_place-text r (omega arith))
     ∙ ap (scaled (Some r)) (scale_of-text k hk)
-
-no_base : base_of [] ≡ Some (base.Nothing, [])
-unfolding base_of
-no_base = refl
-
-no_index : index_of [] ≡ Some index.Nothing
-unfolding index_of
-no_index = refl
-
-only_index : (t : List ℕ) → base_of (open_square ∷ t) ≡ Some (base.Nothing, open_square ∷ t)
-unfolding base_of
-only_index t = refl
 
 -- ---- the whole
 
@@ -169,18 +153,10 @@ front_of-hex names n h = ap valued (value_of-hex names n h)
 front_of-decimal : (names : Names) (n : ℕ) → n < 2 ^ 32 → front_of names (decimal n) ≡ Valued (Number n)
 front_of-decimal names n h = front_of-some names (decimal n) (Number n) (decimal_some n h) (value_of-decimal names n h)
 
-round_unforced : (names : Names) (t : List ℕ) → address_of names (open_round ∷ t) ≡ address_behind false names (open_round ∷ t)
-unfolding address_of
-round_unforced names t = refl
-
-bang_forced : (names : Names) (t : List ℕ) → address_of names (bang ∷ t) ≡ address_behind true names t
-unfolding address_of
-bang_forced names t = refl
-
 -- a displacement, with `!` where it is needed
 perhaps_forced : (q : Bool) (names : Names) (d : ℕ) (t : List ℕ) → address_of names ((cond q (bang ∷ []) []) ++ (hex_text d ++ t)) ≡ address_behind q names (hex_text d ++ t)
-unfolding hex_text
-perhaps_forced true names d t = bang_forced names (hex_text d ++ t)
+unfolding hex_text address_of
+perhaps_forced true names d t = refl
 perhaps_forced false names d t = not_forced names (hex_text d) t (omega arith) (hex_bytes d)
 
 mode_disp : (q : Bool) (d : ℕ) → ltb d 4096 ≡ q → mode_of q (Valued (Number d)) base.Nothing index.Nothing ≡ Some Disp
@@ -199,46 +175,43 @@ zero_of : (n : ℕ) → ltb n 1 ≡ true → n ≡ 0
 zero_of n h = let l = ltb-true n 1 h in omega arith
 
 read_by : (names : Names) (m : Mode) (b i s d : ℕ) → AddressParts (ea m b i s d) → Within (ea m b i s d) → IsRead names (ea m b i s d)
-unfolding address_text
+unfolding address_text address_of base_of index_of closed
 read_by names Offset b i s d p w =
     not_forced names (decimal d) ([] ++ []) (decimal_some d w.disp) (decimal_bytes d w.disp)
-    ∙ parts_behind false names (decimal d) [] [] (Valued (Number d)) base.Nothing index.Nothing (decimal_bytes d w.disp) refl (front_of-decimal names d w.disp) no_base no_index
+    ∙ parts_behind false names (decimal d) [] [] (Valued (Number d)) base.Nothing index.Nothing (decimal_bytes d w.disp) refl (front_of-decimal names d w.disp) refl refl
     ∙ rw (zero_of b p.base, zero_of i p.index, zero_of s p.scale, p.disp) refl
 read_by names BaseOffset b i s zero p w =
-    round_unforced names _
-    ∙ parts_behind false names [] (base_text BaseOffset b) [] Absent (base.Register b) index.Nothing refl refl refl (base_of-text b [] w.base) no_index
+    parts_behind false names [] (base_text BaseOffset b) [] Absent (base.Register b) index.Nothing refl refl refl (base_of-text b [] w.base) refl
     ∙ rw (zero_of i p.index, zero_of s p.scale, p.base) refl
 read_by names BaseOffset b i s (suc d) p w =
     let n = suc d in
     ap (λ q. address_of names (cond q [] (decimal n) ++ (base_text BaseOffset b ++ []))) (eqb-suc-zero d)
     ∙ not_forced names (decimal n) (base_text BaseOffset b ++ []) (decimal_some n w.disp) (decimal_bytes n w.disp)
-    ∙ parts_behind false names (decimal n) (base_text BaseOffset b) [] (Valued (Number n)) (base.Register b) index.Nothing (decimal_bytes n w.disp) refl (front_of-decimal names n w.disp) (base_of-text b [] w.base) no_index
+    ∙ parts_behind false names (decimal n) (base_text BaseOffset b) [] (Valued (Number n)) (base.Register b) index.Nothing (decimal_bytes n w.disp) refl (front_of-decimal names n w.disp) (base_of-text b [] w.base) refl
     ∙ rw (zero_of i p.index, zero_of s p.scale, p.disp, p.base) refl
 read_by names Mode.Base b i s d p w =
-    bang_forced names _
-    ∙ parts_behind true names [] (base_text Mode.Base b) [] Absent (base.Register b) index.Nothing refl refl refl (base_of-text b [] w.base) no_index
+    parts_behind true names [] (base_text Mode.Base b) [] Absent (base.Register b) index.Nothing refl refl refl (base_of-text b [] w.base) refl
     ∙ rw (zero_of i p.index, zero_of s p.scale, zero_of d p.disp, p.base) refl
 read_by names Mode.Ip b i s d p w =
     perhaps_forced false names d (codes "(ip)" ++ [])
-    ∙ parts_behind false names (hex_text d) (codes "(ip)") [] (Valued (Number d)) base.Ip index.Nothing (hex_bytes d) refl (front_of-hex names d w.disp) (base_of-ip []) no_index
+    ∙ parts_behind false names (hex_text d) (codes "(ip)") [] (Valued (Number d)) base.Ip index.Nothing (hex_bytes d) refl (front_of-hex names d w.disp) refl refl
     ∙ rw (zero_of b p.base, zero_of i p.index, zero_of s p.scale) refl
 read_by names BaseIndex b i s d p w =
-    round_unforced names _
-    ∙ parts_behind false names [] (base_text BaseIndex b) (index_text BaseIndex i s) Absent (base.Register b) (index.Scaled i s) refl refl refl (base_of-text b (index_text BaseIndex i s) w.base) (index_of-text i s w.index w.scale)
+    parts_behind false names [] (base_text BaseIndex b) (index_text BaseIndex i s) Absent (base.Register b) (index.Scaled i s) refl refl refl (base_of-text b (index_text BaseIndex i s) w.base) (index_of-text i s w.index w.scale)
     ∙ rw (zero_of d p.disp, p.base, p.index) refl
 read_by names Disp b i s d p w =
     perhaps_forced (ltb d 4096) names d ([] ++ [])
-    ∙ parts_behind (ltb d 4096) names (hex_text d) [] [] (Valued (Number d)) base.Nothing index.Nothing (hex_bytes d) refl (front_of-hex names d w.disp) no_base no_index
+    ∙ parts_behind (ltb d 4096) names (hex_text d) [] [] (Valued (Number d)) base.Nothing index.Nothing (hex_bytes d) refl (front_of-hex names d w.disp) refl refl
     ∙ ap (λ m. address_by m (Valued (Number d)) base.Nothing index.Nothing) (mode_disp (ltb d 4096) d refl)
     ∙ rw (zero_of b p.base, zero_of i p.index, zero_of s p.scale) refl
 read_by names BaseDisp b i s d p w =
     perhaps_forced (ltb d 4096) names d (base_text BaseDisp b ++ [])
-    ∙ parts_behind (ltb d 4096) names (hex_text d) (base_text BaseDisp b) [] (Valued (Number d)) (base.Register b) index.Nothing (hex_bytes d) refl (front_of-hex names d w.disp) (base_of-text b [] w.base) no_index
+    ∙ parts_behind (ltb d 4096) names (hex_text d) (base_text BaseDisp b) [] (Valued (Number d)) (base.Register b) index.Nothing (hex_bytes d) refl (front_of-hex names d w.disp) (base_of-text b [] w.base) refl
     ∙ ap (λ m. address_by m (Valued (Number d)) (base.Register b) index.Nothing) (mode_base_disp (ltb d 4096) d b refl)
     ∙ rw (zero_of i p.index, zero_of s p.scale, p.base) refl
 read_by names IndexDisp b i s d p w =
     perhaps_forced false names d ([] ++ index_text IndexDisp i s)
-    ∙ parts_behind false names (hex_text d) [] (index_text IndexDisp i s) (Valued (Number d)) base.Nothing (index.Scaled i s) (hex_bytes d) refl (front_of-hex names d w.disp) (only_index _) (index_of-text i s w.index w.scale)
+    ∙ parts_behind false names (hex_text d) [] (index_text IndexDisp i s) (Valued (Number d)) base.Nothing (index.Scaled i s) (hex_bytes d) refl (front_of-hex names d w.disp) refl (index_of-text i s w.index w.scale)
     ∙ rw (zero_of b p.base, p.index) refl
 read_by names BaseIndexDisp b i s d p w =
     perhaps_forced false names d (base_text BaseIndexDisp b ++ index_text BaseIndexDisp i s)

@@ -254,48 +254,33 @@ memory_of i w v f ia w' em long short = record {
   clear = memory_clear w i v f ia w'.src_dst w'.base_field (λ t. (long t).index_field) (λ t. (long t).scale_field) (λ t. (long t).gap);
 }
 
-long_word : (i : Inst) → IsValid i → (row_of i.op).format ≡ Format.Mem → is_address i.ea ≡ true → has_offset i.ea.mode ≡ false → HasWord i
-long_word i v f ia off =
-    let r = row_of i.op in
-    let m = mode_number i.ea.mode in
-    let b = mode_bits i.ea.mode in
-    let lm = ltb-true m 16384 b.small in
-    let in_range = within i.ea ia in
-    let c = field_number i.c in
-    let low = i.ea.scale * 128 + i.ea.index in
-    let ll : low < 1024 = omega arith in
-    let set : bit m 12 ≡ true = b.long ∙ ap not off in
-    let mode = mode_added (r.opcode * 16777216 + c * 524288 + i.ea.base * 16384) m low (omega arith) lm b.low
-    (λ t. absurd (cc)) (omega arith) (λ _. ll) in
-    memory_of i (memory_sum r.opcode c i.ea.base m low) v f ia
-    (memory_fields r.opcode c i.ea.base m low (opcode_small i.op) (number_small r.c i.c v.c) in_range.base (omega (arith, b.low)))
-    (mode ∙ b.mode) (λ _. long_fields r.opcode c i.ea.base m i.ea.index i.ea.scale b.low in_range.index (omega arith)) (λ t. absurd (cc))
-
-short_word : (i : Inst) → IsValid i → (row_of i.op).format ≡ Format.Mem → is_address i.ea ≡ true → has_offset i.ea.mode ≡ true → HasWord i
-short_word i v f ia off =
-    let r = row_of i.op in
-    let m = mode_number i.ea.mode in
-    let p = address_parts i.ea ia in
-    let b = mode_bits i.ea.mode in
-    let lm = ltb-true m 16384 b.small in
-    let in_range = within i.ea ia in
-    let c = field_number i.c in
-    let low = i.ea.disp in
-    let ll = offset_small i.ea.mode low off (address_parts i.ea ia).disp in
-    let em = short_mode i.ea.mode off in
-    let clear : bit m 12 ≡ false = b.long ∙ ap not off in
-    let mode = mode_added (r.opcode * 16777216 + c * 524288 + i.ea.base * 16384) m low (omega arith) lm b.low
-    (λ _. em) ll (λ t. absurd (cc)) in
-    memory_of i (memory_sum r.opcode c i.ea.base m low) v f ia
-    (memory_fields r.opcode c i.ea.base m low (opcode_small i.op) (number_small r.c i.c v.c) in_range.base (omega (arith, em)))
-    (mode ∙ b.mode) (λ t. absurd (cc)) (λ _. short_field r.opcode c i.ea.base m low em ll)
-
 memory_word : (i : Inst) → IsValid i → (row_of i.op).format ≡ Format.Mem → HasWord i
 memory_word i v f =
     let ia = rw f at v.ea in
+    let r = row_of i.op in
+    let c = field_number i.c in
+    let m = mode_number i.ea.mode in
+    let b = mode_bits i.ea.mode in
+    let lm = ltb-true m 16384 b.small in
+    let in_range = within i.ea ia in
+    let above = r.opcode * 16777216 + c * 524288 + i.ea.base * 16384 in
+    let fields = λ (low : ℕ) (room : m + low < 16384). memory_fields r.opcode c i.ea.base m low (opcode_small i.op) (number_small r.c i.c v.c) in_range.base room in
     elim (cases_Bool (has_offset i.ea.mode)) [
-      | inl short ↦ short_word i v f ia short
-      | inr long ↦ long_word i v f ia long
+      | inl short ↦
+          let low = i.ea.disp in
+          let ll = offset_small i.ea.mode low short (address_parts i.ea ia).disp in
+          let em = short_mode i.ea.mode short in
+          let clear : bit m 12 ≡ false = b.long ∙ ap not short in
+          let mode = mode_added above m low (omega arith) lm b.low (λ _. em) ll (λ t. absurd (cc)) in
+          memory_of i (memory_sum r.opcode c i.ea.base m low) v f ia (fields low (omega (arith, em)))
+          (mode ∙ b.mode) (λ t. absurd (cc)) (λ _. short_field r.opcode c i.ea.base m low em ll)
+      | inr long ↦
+          let low = i.ea.scale * 128 + i.ea.index in
+          let ll : low < 1024 = omega arith in
+          let set : bit m 12 ≡ true = b.long ∙ ap not long in
+          let mode = mode_added above m low (omega arith) lm b.low (λ t. absurd (cc)) (omega arith) (λ _. ll) in
+          memory_of i (memory_sum r.opcode c i.ea.base m low) v f ia (fields low (omega (arith, b.low)))
+          (mode ∙ b.mode) (λ _. long_fields r.opcode c i.ea.base m i.ea.index i.ea.scale b.low in_range.index (omega arith)) (λ t. absurd (cc))
     ]
 
 -- ---- every format

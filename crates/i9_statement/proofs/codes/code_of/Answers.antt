@@ -1,8 +1,6 @@
-use Rattle.std.proofs.Common.{ℕ, ◌<◌, ◌^◌, Option, Some, None, IfSome, rules}
-use Rattle.std.specs.Int.Bits.{bit_or}
+use Rattle.std.proofs.Common.{◌<◌, ◌^◌, rules}
 use Rattle.std.proofs.lemmas.Nat.{or_lt}
 use Rattle.std.proofs.lemmas.Option.{IfSome_then}
-use Rattle.i9_statement.specs.Codes.{IsCode}
 use Rattle.i9_statement.proofs.Marked.{marked}
 use Rattle.i9_statement.proofs.codes.code_of.Goals as goal
 

@@ -1,8 +1,8 @@
-use Rattle.std.proofs.Common.{◌≡◌, false, rules, SFits, w32, to_z, of_z}
+use Rattle.std.proofs.Common.{◌≡◌, rules, SFits, w32, to_z, of_z}
 use Rattle.std.proofs.lemmas.Int.{to_z-of_z}
 use Rattle.std.proofs.lemmas.Result.{IfOk-weaker}
 use Rattle.i9_isa.specs.Table.{row_of}
-use Rattle.i9_statement.specs.Instructions.{operand_field, address_field, target_field, first_use, last_use, operand_fields}
+use Rattle.i9_statement.specs.Instructions.{operand_field, last_use, operand_fields}
 use Rattle.i9_statement.specs.Pieces.{Added}
 use Rattle.i9_statement.proofs.Pieces.{added_both}
 use Rattle.i9_statement.proofs.statement_text.add_operands.Goals as goal

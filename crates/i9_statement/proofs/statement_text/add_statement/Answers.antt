@@ -1,4 +1,3 @@
-use Rattle.std.proofs.Common.{◌≡◌, ◌++◌}
 use Rattle.std.proofs.lemmas.Result.{on_ok_weaker}
 use Rattle.i9_statement.specs.Statements.{statement_text}
 use Rattle.i9_statement.proofs.Pieces.{statement_joined}

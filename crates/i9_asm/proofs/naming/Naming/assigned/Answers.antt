@@ -1,5 +1,6 @@
-use Rattle.std.proofs.Common.{◌≡◌, ℕ, Bool, true, false, ◌&&◌, refl, sym, ap, ◌∙◌}
+use Rattle.std.proofs.Common.{◌≡◌, ℕ, true, false, ◌&&◌, refl, sym, ap, ◌∙◌}
 use Rattle.std.specs.Prelude.{is_some}
+use Rattle.std.proofs.lemmas.Bool.{and_right}
 use Rattle.std.proofs.lemmas.Result.{IfOk-weaker}
 use Rattle.i9_statement.specs.Known.{definitions, enter}
 use Rattle.i9_statement.specs.declared.fault.Noted.{Noted}
@@ -11,10 +12,6 @@ use Rattle.i9_asm.specs.Reading.{naming_place}
 use Rattle.i9_asm.proofs.NumberedNames.{set_entered, set_kept}
 use Rattle.i9_asm.proofs.naming.Naming.assigned.Goals as goal
 use Rattle.i9_asm.proofs.naming.Naming.assigned.Goals.{else-is_name-via-then-is_name+else-is_some, else-is_name-via-else-is_name}
-
-and_right : (a b : Bool) → b ≡ false → (a && b) ≡ false
-and_right true b h = h
-and_right false b h = refl
 
 pub returns-then-is_some : goal.returns-then-is_some
 returns-then-is_some c =
