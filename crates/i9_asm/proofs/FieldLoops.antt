@@ -31,11 +31,9 @@ abbrev pub sized : ℕ → ℕ → List (List ℕ) → ℕ
 sized k width fs = cond (list_all has_form fs) (k + width * length fs) 0
 
 pub sized-on : (k width : ℕ) (f : List ℕ) (fs : List (List ℕ)) → has_form f ≡ true → sized k width (f ∷ fs) ≡ sized (k + width) width fs
-sized-on k width f fs h = rw h (by_all (list_all has_form fs))
-  where
-    by_all : (b : Bool) → cond b (k + width * length (f ∷ fs)) 0 ≡ cond b (k + width + width * length fs) 0
-    by_all true = omega arith
-    by_all false = refl
+sized-on k width f fs h =
+    let more : k + width * length (f ∷ fs) ≡ k + width + width * length fs = omega arith in
+    rw (h, more) refl
 
 pub sized-off : (k width : ℕ) (f : List ℕ) (fs : List (List ℕ)) → has_form f ≡ false → sized k width (f ∷ fs) ≡ 0
 sized-off k width f fs h = rw h refl

@@ -32,11 +32,11 @@ use Rattle.i9_asm.specs.Source.{start_source, segments_of, Gives, gives_nothing,
 use Rattle.i9_asm.specs.Listing.{text_by, text_of, printed_words, printed_bytes, word_at, whole_size, is_single, line_size, whole_text, said_text, noted_words, first_line, Lists, lists_none, lists_line, org_line, ListsAll, lists_all, lists_run}
 use Rattle.i9_hex.specs.Runs.{IsLow, IsRun, bytes_in}
 use Rattle.i9_asm.specs.Laws.{IsAssembly}
-use Rattle.i9_statement.proofs.Cutting.{all_by}
+use Rattle.i9_statement.proofs.Cutting.{all_by, all_append}
 use Rattle.i9_text.proofs.WrittenLines.{is_plain_byte, is_plain, ascii-plain, plain-append, plain-word_text, plain-byte_text, IsPlain as IsPlainLine, lines_of-written}
 use Rattle.i9_hex.specs.Writing.{with_line_feed}
 use Rattle.i9_statement.proofs.ReadValues.{value_of-hex, value_of-hex_byte}
-use Rattle.i9_statement.proofs.Classes.{hex_field, hex_byte_field}
+use Rattle.i9_statement.proofs.Classes.{IsField, hex_field, hex_byte_field}
 use Rattle.i9_statement.proofs.ReadFields.{pad}
 use Rattle.i9_statement.proofs.ReadStatements.{statement_of-text}
 use Rattle.i9_statement.proofs.StatementBytes.{is_statement_byte, statement_bytes, operand_statement}
@@ -51,40 +51,51 @@ plain_statement_byte b h = grind (arith, nat_tests)
 statement_plain : (w : List ℕ) → list_all is_statement_byte w ≡ true → is_plain w ≡ true
 statement_plain w h = all_by is_statement_byte is_plain_byte plain_statement_byte w h
 
--- an item that gives bytes and no more
-record IsPlain (names : Names) (p : Place) (item : Item) (bs : List ℕ) : Type 0 where
+-- a line that says an item which gives bytes and no more
+record LineSays (names : Names) (p : Place) (line bs : List ℕ) : Type 0 where
+  item : Item
+  says : Says line item
+  clean : is_plain line ≡ true
   gives : Gives names p item bs
   sound : item_fault names p item ≡ None
   size : size_of p item ≡ length bs
   stays : moved_to p item ≡ None
   known : assigned p item ≡ p.known
 
-plain_assembles : (names : Names) (s : Source) (line bs : List ℕ) (item : Item) → Says line item → is_plain line ≡ true → IsPlain names s.place item bs → HasRoom s (length bs) → Assembles names s line (past_bytes s bs)
+said_assembles : (names : Names) (s : Source) (line bs : List ℕ) → LineSays names s.place line bs → HasRoom s (length bs) → Assembles names s line (past_bytes s bs)
 unfolding line_fault
-plain_assembles names s line bs item says clean plain room =
-    let ascii : list_all is_ascii line ≡ true = ascii-plain line clean in
+said_assembles names s line bs said room =
+    let ascii : list_all is_ascii line ≡ true = ascii-plain line said.clean in
     let inside : ltb (2 ^ 32) (s.place.location + length bs) ≡ false = le-ltb _ _ room.inside in
     let few : ltb most_bytes (s.total + length bs) ≡ false = le-ltb _ _ room.few in
     let next : (s.place.location + length bs) % location_count ≡ s.place.location + length bs = omega (arith, room.inside) in
     record {
       bytes = bs;
-      sound = rw (ascii, says.label, says.item, plain.sound, plain.size, inside, few) refl;
-      gives = rw (says.label, says.item) plain.gives;
-      after = rw (says.label, says.item, ascii, plain.stays, plain.size, plain.known, next) refl;
+      sound = rw (ascii, said.says.label, said.says.item, said.sound, said.size, inside, few) refl;
+      gives = rw (said.says.label, said.says.item) said.gives;
+      after = rw (said.says.label, said.says.item, ascii, said.stays, said.size, said.known, next) refl;
     }
 
 -- ---- the lines of a run
 
 -- a number of so many bytes
-plain_data : (names : Names) (p : Place) (width n : ℕ) (f bs : List ℕ) → ((ns : Names) → value_of ns f ≡ Some (Number n)) → fits_width width n ≡ true → low_bytes width n ≡ bs → length bs ≡ width
-    → IsPlain names p (Data width (f ∷ [])) bs
-plain_data names p width n f bs read fits is size = record {
+data_line : (names : Names) (p : Place) (line : List ℕ) (width n : ℕ) (f bs : List ℕ) → Says line (Data width (f ∷ [])) → is_plain line ≡ true
+    → ((ns : Names) → value_of ns f ≡ Some (Number n)) → fits_width width n ≡ true → low_bytes width n ≡ bs → length bs ≡ width → LineSays names p line bs
+data_line names p line width n f bs says clean read fits is size = record {
+  item = Data width (f ∷ []);
+  says = says;
+  clean = clean;
   gives = subst (Gives names p (Data width (f ∷ []))) (rw (read names) (rw fits (append-nil (low_bytes width n) ∙ is))) (gives_data width (f ∷ []));
   sound = rw (read names) (rw fits refl);
   size = rw (read no_names) (omega (arith, size));
   stays = refl;
   known = refl;
 }
+
+-- a directive with one operand, and a tail
+directive_plain : (d f : List ℕ) (t : Tail) → list_all is_statement_byte d ≡ true → IsField f → is_plain (tail_text t) ≡ true → is_plain ((d ++ f) ++ tail_text t) ≡ true
+directive_plain d f t bytes field clean =
+    plain-append (d ++ f) (tail_text t) (statement_plain (d ++ f) (all_append is_statement_byte d f bytes (operand_statement f field.bytes))) clean
 
 -- so many bytes have the words of an instruction
 taken_length : (i : Inst) (w0 w1 : ℕ) → 4 * words_of i ≡ length (flat_map (to_le_bytes w32) (taken w0 w1 i))
@@ -121,35 +132,19 @@ word_small xs h = omega (arith, h 0, h 1, h 2, h 3)
 word_at-small : (k : ℕ) (bs : List ℕ) → IsLow bs → word_at k bs < 2 ^ 32
 word_at-small k bs low = word_small (take 4 (drop k bs)) (low_at (take 4 (drop k bs)) (low_take 4 (drop k bs) (low_drop k bs low)))
 
--- a line that says an item which gives bytes and no more
-record LineSays (names : Names) (p : Place) (line bs : List ℕ) : Type 0 where
-  item : Item
-  says : Says line item
-  clean : is_plain line ≡ true
-  plain : IsPlain names p item bs
-
 -- a byte
 byte_line : (names : Names) (p : Place) (b : ℕ) (t : Tail) → b < 256 → is_plain (tail_text t) ≡ true → LineSays names p ((codes ".byte " ++ hex_byte_text b) ++ tail_text t) (b ∷ [])
 byte_line names p b t h clean =
     let f = hex_byte_text b in
+    let field = hex_byte_field b h in
     let low : b % 256 ≡ b = omega arith in
-    record {
-      item = Data 1 (f ∷ []);
-      says = says_byte f t (hex_byte_field b h);
-      clean = plain-append (codes ".byte " ++ f) (tail_text t) (statement_plain (codes ".byte " ++ f) (operand_statement f (hex_byte_field b h).bytes)) clean;
-      plain = plain_data names p 1 b f (b ∷ []) (λ ns. value_of-hex_byte ns b h) (rw (lt-ltb b 256 h) refl) (rw low refl) refl;
-    }
+    data_line names p _ 1 b f (b ∷ []) (says_byte f t field) (directive_plain (codes ".byte ") f t refl field clean) (λ ns. value_of-hex_byte ns b h) (rw (lt-ltb b 256 h) refl) (rw low refl) refl
 
 -- a word
 word_line : (names : Names) (p : Place) (w : ℕ) (t : Tail) → w < 2 ^ 32 → is_plain (tail_text t) ≡ true → LineSays names p ((codes ".word " ++ hex_text w) ++ tail_text t) (to_le_bytes w32 w)
 word_line names p w t h clean =
     let f = hex_text w in
-    record {
-      item = Data 4 (f ∷ []);
-      says = says_word f t (hex_field w);
-      clean = plain-append (codes ".word " ++ f) (tail_text t) (statement_plain (codes ".word " ++ f) (operand_statement f (hex_field w).bytes)) clean;
-      plain = plain_data names p 4 w f (to_le_bytes w32 w) (λ ns. value_of-hex ns w h) (rw (lt-ltb w (2 ^ 32) h) refl) refl refl;
-    }
+    data_line names p _ 4 w f (to_le_bytes w32 w) (says_word f t (hex_field w)) (directive_plain (codes ".word ") f t refl (hex_field w) clean) (λ ns. value_of-hex ns w h) (rw (lt-ltb w (2 ^ 32) h) refl) refl refl
 
 -- an instruction
 instruction_line : (names : Names) (p : Place) (i : Inst) (w0 w1 : ℕ) (t : Tail) → p.location < 2 ^ 32 → w0 < 2 ^ 32 → w1 < 2 ^ 32 → decoded w0 w1 ≡ Ok i → is_plain (tail_text t) ≡ true
@@ -167,13 +162,11 @@ instruction_line names p i w0 w1 t low h0 h1 is clean =
       item = Instruction text;
       says = says_statement p.location i bits t small v;
       clean = plain-append statement (tail_text t) (statement_plain statement (statement_bytes p.location i bits small v)) clean;
-      plain = record {
-        gives = gives_instruction text (taken w0 w1 i) (subst (λ a. Stands names a text (taken w0 w1 i)) here (statement_stands names p.location w0 w1 i q low h0 h1 is));
-        sound = ap (λ n. n.fault) (read names);
-        size = ap statement_size (read no_names) ∙ taken_length i w0 w1;
-        stays = refl;
-        known = refl;
-      };
+      gives = gives_instruction text (taken w0 w1 i) (subst (λ a. Stands names a text (taken w0 w1 i)) here (statement_stands names p.location w0 w1 i q low h0 h1 is));
+      sound = ap (λ n. n.fault) (read names);
+      size = ap statement_size (read no_names) ∙ taken_length i w0 w1;
+      stays = refl;
+      known = refl;
     }
 
 -- two words that are there
@@ -245,7 +238,7 @@ line_assembles names s b bs low room few =
     let n = line_size a xs in
     let said = line_says names s.place b bs (comment_of a xs) low room.inside (comment_plain a xs) in
     let len : length (take n xs) ≡ n = length-take-le n xs few in
-    plain_assembles names s (first_line a xs) (take n xs) said.item said.says said.clean said.plain (record { inside = omega (arith, room.inside); few = omega (arith, room.few) })
+    said_assembles names s (first_line a xs) (take n xs) said (record { inside = omega (arith, room.inside); few = omega (arith, room.few) })
 
 pub line_size-le : (a : ℕ) (b : ℕ) (bs : List ℕ) → line_size a (b ∷ bs) ≤ length (b ∷ bs)
 line_size-le a b bs = elim (cases_Bool (is_single a (b ∷ bs))) [
@@ -377,7 +370,7 @@ blank_assembles : (names : Names) (s : Source) → HasRoom s 0 → Assembles nam
 unfolding item_of labelled code_len
 blank_assembles names s room =
     subst (λ t. Assembles names s [] t) (past_nothing s)
-    (plain_assembles names s [] [] Empty (record { item = refl; label = refl }) refl (record { gives = gives_nothing; sound = refl; size = refl; stays = refl; known = refl }) room)
+    (said_assembles names s [] [] (record { item = Empty; says = record { item = refl; label = refl }; clean = refl; gives = gives_nothing; sound = refl; size = refl; stays = refl; known = refl }) room)
 
 -- a listing with a line feed behind each line is a source without fault, and its segments are the runs
 pub text_is_assembly : (runs : List Part) (lines : List (List ℕ)) → ListsAll runs lines → AllByRecursion IsRun runs → bytes_in runs ≤ most_bytes → IsAssembly (lines_of (flat_map with_line_feed lines)) runs
@@ -401,4 +394,4 @@ text_of-adds names ip w0 w1 low h0 h1 s at room =
     let r = decoded w0 w1 in
     let said : LineSays names s.place (text_by s.place.location w0 r ++ tail_text NoTail) (printed_bytes w0 w1) = adds_by names w0 w1 r s (omega (arith, at)) h0 h1 refl in
     subst (λ line. Assembles names s line (past_bytes s (printed_bytes w0 w1))) (append-nil (text_by s.place.location w0 r) ∙ ap (λ a. text_by a w0 r) at)
-    (plain_assembles names s _ (printed_bytes w0 w1) said.item said.says said.clean said.plain room)
+    (said_assembles names s _ (printed_bytes w0 w1) said room)

@@ -1,5 +1,5 @@
 -- The words of a statement: there is one list of them, and a printed statement stands for those that it was printed of.
-use Rattle.std.proofs.Common.{◌≡◌, ℕ, zero, suc, ◌^◌, ◌<◌, Bool, false, ltb, List, [], ◌∷◌, ◌++◌, Option, Some, Ok, refl, sym, ap, subst, ◌∙◌, arith, inl, inr, ◌⊎◌, min}
+use Rattle.std.proofs.Common.{◌≡◌, ℕ, zero, suc, ◌^◌, ◌<◌, Bool, false, ltb, List, [], ◌∷◌, ◌++◌, Option, Some, Ok, refl, sym, ap, subst, ◌∙◌, arith, inl, inr, ◌⊎◌}
 use Rattle.std.specs.Int.{bit_at}
 use Rattle.std.specs.Int.Bits.{bit_and}
 use Rattle.std.proofs.lemmas.List.{append-nil}
@@ -32,10 +32,7 @@ use Rattle.i9_statement.proofs.ReadStatements.{statement_of-text}
 
 -- the bits that a mask picks, picked again
 pub and_again : (w s : ℕ) → bit_and (bit_and w s) s ≡ bit_and w s
-and_again w s = same_from_bits (bit_and (bit_and w s) s) (bit_and w s) (λ k. bit_at_and (bit_and w s) s k ∙ ap (λ n. min n (bit_at s k)) (bit_at_and w s k) ∙ min_again (bit_at w k) (bit_at s k) ∙ sym (bit_at_and w s k))
-  where
-    min_again : (a b : ℕ) → min (min a b) b ≡ min a b
-    min_again a b = omega arith
+and_again w s = same_from_bits (bit_and (bit_and w s) s) (bit_and w s) (λ k. omega (arith, bit_at_and (bit_and w s) s k, bit_at_and w s k))
 
 pub bit_cases : (n : ℕ) → n < 2 → (n ≡ 0) ⊎ (n ≡ 1)
 bit_cases zero h = inl refl
@@ -44,10 +41,7 @@ bit_cases (suc (suc n)) h = absurd (omega arith)
 
 picked : (s v w k : ℕ) → bit_at s k ≡ 1 → bit_and v s ≡ bit_and w s → bit_at v k ≡ bit_at w k
 picked s v w k one same =
-    let e : min (bit_at v k) (bit_at s k) ≡ min (bit_at w k) (bit_at s k) = sym (bit_at_and v s k) ∙ ap (λ n. bit_at n k) same ∙ bit_at_and w s k in
-    let a = bit_at-lt v k in
-    let b = bit_at-lt w k in
-    omega arith
+    omega (arith, bit_at_and v s k, bit_at_and w s k, ap (λ n. bit_at n k) same, bit_at-lt v k, bit_at-lt w k)
 
 -- there is only one
 pub code_unique : (i : Inst) (bits v w w1 : ℕ) → IsCode i bits v w1 → IsCode i bits w w1 → v ≡ w
