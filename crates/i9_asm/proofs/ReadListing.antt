@@ -33,7 +33,7 @@ use Rattle.i9_asm.specs.Listing.{text_by, text_of, printed_words, printed_bytes,
 use Rattle.i9_hex.specs.Runs.{IsLow, IsRun, bytes_in}
 use Rattle.i9_asm.specs.Laws.{IsAssembly}
 use Rattle.i9_statement.proofs.Cutting.{all_by, all_append}
-use Rattle.i9_text.proofs.WrittenLines.{is_plain_byte, is_plain, ascii-plain, plain-append, plain-word_text, plain-byte_text, IsPlain as IsPlainLine, lines_of-written}
+use Rattle.i9_text.proofs.WrittenLines.{is_plain_byte, is_plain, ascii-plain, plain-append, plain-word_text, plain-byte_text, IsPlain, lines_of-written}
 use Rattle.i9_hex.specs.Writing.{with_line_feed}
 use Rattle.i9_statement.proofs.ReadValues.{value_of-hex, value_of-hex_byte}
 use Rattle.i9_statement.proofs.Classes.{IsField, hex_field, hex_byte_field}
@@ -92,7 +92,7 @@ data_line names p line width n f bs says clean read fits is size = record {
   known = refl;
 }
 
--- a directive with one operand, and a tail
+-- a line with a directive is plain, where its tail is
 directive_plain : (d f : List ℕ) (t : Tail) → list_all is_statement_byte d ≡ true → IsField f → is_plain (tail_text t) ≡ true → is_plain ((d ++ f) ++ tail_text t) ≡ true
 directive_plain d f t bytes field clean =
     plain-append (d ++ f) (tail_text t) (statement_plain (d ++ f) (all_append is_statement_byte d f bytes (operand_statement f field.bytes))) clean
@@ -138,13 +138,15 @@ byte_line names p b t h clean =
     let f = hex_byte_text b in
     let field = hex_byte_field b h in
     let low : b % 256 ≡ b = omega arith in
-    data_line names p _ 1 b f (b ∷ []) (says_byte f t field) (directive_plain (codes ".byte ") f t refl field clean) (λ ns. value_of-hex_byte ns b h) (rw (lt-ltb b 256 h) refl) (rw low refl) refl
+    let plain = directive_plain (codes ".byte ") f t refl field clean in
+    data_line names p _ 1 b f (b ∷ []) (says_byte f t field) plain (λ ns. value_of-hex_byte ns b h) (rw (lt-ltb b 256 h) refl) (rw low refl) refl
 
 -- a word
 word_line : (names : Names) (p : Place) (w : ℕ) (t : Tail) → w < 2 ^ 32 → is_plain (tail_text t) ≡ true → LineSays names p ((codes ".word " ++ hex_text w) ++ tail_text t) (to_le_bytes w32 w)
 word_line names p w t h clean =
     let f = hex_text w in
-    data_line names p _ 4 w f (to_le_bytes w32 w) (says_word f t (hex_field w)) (directive_plain (codes ".word ") f t refl (hex_field w) clean) (λ ns. value_of-hex ns w h) (rw (lt-ltb w (2 ^ 32) h) refl) refl refl
+    let plain = directive_plain (codes ".word ") f t refl (hex_field w) clean in
+    data_line names p _ 4 w f (to_le_bytes w32 w) (says_word f t (hex_field w)) plain (λ ns. value_of-hex ns w h) (rw (lt-ltb w (2 ^ 32) h) refl) refl refl
 
 -- an instruction
 instruction_line : (names : Names) (p : Place) (i : Inst) (w0 w1 : ℕ) (t : Tail) → p.location < 2 ^ 32 → w0 < 2 ^ 32 → w1 < 2 ^ 32 → decoded w0 w1 ≡ Ok i → is_plain (tail_text t) ≡ true
@@ -345,7 +347,7 @@ listing_is_assembly runs lines listed h few =
 
 -- ---- the text of a listing
 
-run_plain : (a : ℕ) (bs : List ℕ) (lines : List (List ℕ)) → Lists a bs lines → IsLow bs → a + length bs ≤ 2 ^ 32 → AllByRecursion IsPlainLine lines
+run_plain : (a : ℕ) (bs : List ℕ) (lines : List (List ℕ)) → Lists a bs lines → IsLow bs → a + length bs ≤ 2 ^ 32 → AllByRecursion IsPlain lines
 run_plain _ _ _ (lists_none a) low room = tt
 run_plain _ _ _ (lists_line a b bs lines rest) low room =
     let xs = b ∷ bs in
@@ -356,11 +358,11 @@ run_plain _ _ _ (lists_line a b bs lines rest) low room =
       run_plain (a + n) (drop n xs) lines rest (low_drop n xs low) (omega (arith, length-drop n xs)),
     )
 
-all_lines : (xs ys : List (List ℕ)) → AllByRecursion IsPlainLine xs → AllByRecursion IsPlainLine ys → AllByRecursion IsPlainLine (xs ++ ys)
+all_lines : (xs ys : List (List ℕ)) → AllByRecursion IsPlain xs → AllByRecursion IsPlain ys → AllByRecursion IsPlain (xs ++ ys)
 all_lines [] ys h g = g
 all_lines (x ∷ xs) ys h g = (h.0, all_lines xs ys h.1 g)
 
-listing_plain : (runs : List Part) (lines : List (List ℕ)) → ListsAll runs lines → AllByRecursion IsRun runs → AllByRecursion IsPlainLine lines
+listing_plain : (runs : List Part) (lines : List (List ℕ)) → ListsAll runs lines → AllByRecursion IsRun runs → AllByRecursion IsPlain lines
 listing_plain _ _ lists_all h = tt
 listing_plain _ _ (lists_run a bs runs lines more run rest) h =
     (record { test = org_plain a }, all_lines lines more (run_plain a bs lines run h.0.low h.0.inside) (listing_plain runs more rest h.1))

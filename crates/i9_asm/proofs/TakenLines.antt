@@ -3,7 +3,7 @@ use Rattle.std.proofs.Common.{◌≡◌, ℕ, ◌+◌, ◌^◌, Bool, true, fals
 use Rattle.std.specs.Prelude.{is_some, if◌then◌else◌}
 use Rattle.std.specs.Option.{option_map}
 use Rattle.std.specs.List.{list_all}
-use Rattle.std.proofs.lemmas.Bool.{ltb-false, not-false}
+use Rattle.std.proofs.lemmas.Bool.{ltb-false, not-false, true_from_ne_false}
 use Rattle.i9_statement.specs.declared.fault.Fault.{Fault}
 use Rattle.i9_statement.specs.declared.fault.Fault.TheVariants.{Form, NameTwice, Range, TooMany}
 use Rattle.i9_statement.specs.Noted.{kind_of, least}
@@ -80,11 +80,7 @@ no_fault_if false f h = refl
 
 label_by : (o : Option (List ℕ)) (known : Names) → label_fault o known ≡ None → is_label o ≡ true
 label_by None known h = refl
-label_by (Some name) known h = by_name (is_name name) h
-  where
-    by_name : (b : Bool) → ◌≡◌ {A = Option Fault} (if b then (if is_some (known name) then Some NameTwice else None) else Some Form) None → b ≡ true
-    by_name true h = refl
-    by_name false h = absurd cc
+label_by (Some name) known h = true_from_ne_false (is_name name) (λ e. cc (rw e at h))
 
 -- a line without fault up to its label does what it says
 pub effect_is_item : (p : Place) (line : List ℕ) → front_fault p line ≡ None → effect_of line ≡ item_of line

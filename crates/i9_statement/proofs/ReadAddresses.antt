@@ -96,10 +96,10 @@ index_of-text r k hr hk =
 -- ---- the whole
 
 -- an address whose parts are read
-parts_behind : (forced : Bool) (names : Names) (f b i : List ℕ) (front : Front) (at : Base) (by : Index) → list_all is_name_byte f ≡ true → stops opens (b ++ i) ≡ true → front_of names f ≡ front
+parts_behind : (forced : Bool) (names : Names) (f b i : List ℕ) {front : Front} {at : Base} {by : Index} → list_all is_name_byte f ≡ true → stops opens (b ++ i) ≡ true → front_of names f ≡ front
     → base_of (b ++ i) ≡ Some (at, i) → index_of i ≡ Some by → address_behind forced names (f ++ (b ++ i)) ≡ address_by (mode_of forced front at by) front at by
 unfolding address_behind
-parts_behind forced names f b i front at by bytes stop ef eb ei =
+parts_behind forced names f b i {front} {at} {by} bytes stop ef eb ei =
     let free = free_of_opens f bytes in
     ap (λ x. with_base forced (front_of names x) (base_of (from opens (f ++ (b ++ i))))) (before-cut opens f (b ++ i) free stop)
     ∙ ap (λ x. with_base forced (front_of names f) (base_of x)) (from-cut opens f (b ++ i) free stop)
@@ -178,44 +178,44 @@ read_by : (names : Names) (m : Mode) (b i s d : ℕ) → AddressParts (ea m b i 
 unfolding address_text address_of base_of index_of closed
 read_by names Offset b i s d p w =
     not_forced names (decimal d) ([] ++ []) (decimal_some d w.disp) (decimal_bytes d w.disp)
-    ∙ parts_behind false names (decimal d) [] [] (Valued (Number d)) base.Nothing index.Nothing (decimal_bytes d w.disp) refl (front_of-decimal names d w.disp) refl refl
+    ∙ parts_behind false names (decimal d) [] [] (decimal_bytes d w.disp) refl (front_of-decimal names d w.disp) refl refl
     ∙ rw (zero_of b p.base, zero_of i p.index, zero_of s p.scale, p.disp) refl
 read_by names BaseOffset b i s zero p w =
-    parts_behind false names [] (base_text BaseOffset b) [] Absent (base.Register b) index.Nothing refl refl refl (base_of-text b [] w.base) refl
+    parts_behind false names [] (base_text BaseOffset b) [] refl refl refl (base_of-text b [] w.base) refl
     ∙ rw (zero_of i p.index, zero_of s p.scale, p.base) refl
 read_by names BaseOffset b i s (suc d) p w =
     let n = suc d in
     ap (λ q. address_of names (cond q [] (decimal n) ++ (base_text BaseOffset b ++ []))) (eqb-suc-zero d)
     ∙ not_forced names (decimal n) (base_text BaseOffset b ++ []) (decimal_some n w.disp) (decimal_bytes n w.disp)
-    ∙ parts_behind false names (decimal n) (base_text BaseOffset b) [] (Valued (Number n)) (base.Register b) index.Nothing (decimal_bytes n w.disp) refl (front_of-decimal names n w.disp) (base_of-text b [] w.base) refl
+    ∙ parts_behind false names (decimal n) (base_text BaseOffset b) [] (decimal_bytes n w.disp) refl (front_of-decimal names n w.disp) (base_of-text b [] w.base) refl
     ∙ rw (zero_of i p.index, zero_of s p.scale, p.disp, p.base) refl
 read_by names Mode.Base b i s d p w =
-    parts_behind true names [] (base_text Mode.Base b) [] Absent (base.Register b) index.Nothing refl refl refl (base_of-text b [] w.base) refl
+    parts_behind true names [] (base_text Mode.Base b) [] refl refl refl (base_of-text b [] w.base) refl
     ∙ rw (zero_of i p.index, zero_of s p.scale, zero_of d p.disp, p.base) refl
 read_by names Mode.Ip b i s d p w =
     perhaps_forced false names d (codes "(ip)" ++ [])
-    ∙ parts_behind false names (hex_text d) (codes "(ip)") [] (Valued (Number d)) base.Ip index.Nothing (hex_bytes d) refl (front_of-hex names d w.disp) refl refl
+    ∙ parts_behind false names (hex_text d) (codes "(ip)") [] (hex_bytes d) refl (front_of-hex names d w.disp) refl refl
     ∙ rw (zero_of b p.base, zero_of i p.index, zero_of s p.scale) refl
 read_by names BaseIndex b i s d p w =
-    parts_behind false names [] (base_text BaseIndex b) (index_text BaseIndex i s) Absent (base.Register b) (index.Scaled i s) refl refl refl (base_of-text b (index_text BaseIndex i s) w.base) (index_of-text i s w.index w.scale)
+    parts_behind false names [] (base_text BaseIndex b) (index_text BaseIndex i s) refl refl refl (base_of-text b (index_text BaseIndex i s) w.base) (index_of-text i s w.index w.scale)
     ∙ rw (zero_of d p.disp, p.base, p.index) refl
 read_by names Disp b i s d p w =
     perhaps_forced (ltb d 4096) names d ([] ++ [])
-    ∙ parts_behind (ltb d 4096) names (hex_text d) [] [] (Valued (Number d)) base.Nothing index.Nothing (hex_bytes d) refl (front_of-hex names d w.disp) refl refl
+    ∙ parts_behind (ltb d 4096) names (hex_text d) [] [] (hex_bytes d) refl (front_of-hex names d w.disp) refl refl
     ∙ ap (λ m. address_by m (Valued (Number d)) base.Nothing index.Nothing) (mode_disp (ltb d 4096) d refl)
     ∙ rw (zero_of b p.base, zero_of i p.index, zero_of s p.scale) refl
 read_by names BaseDisp b i s d p w =
     perhaps_forced (ltb d 4096) names d (base_text BaseDisp b ++ [])
-    ∙ parts_behind (ltb d 4096) names (hex_text d) (base_text BaseDisp b) [] (Valued (Number d)) (base.Register b) index.Nothing (hex_bytes d) refl (front_of-hex names d w.disp) (base_of-text b [] w.base) refl
+    ∙ parts_behind (ltb d 4096) names (hex_text d) (base_text BaseDisp b) [] (hex_bytes d) refl (front_of-hex names d w.disp) (base_of-text b [] w.base) refl
     ∙ ap (λ m. address_by m (Valued (Number d)) (base.Register b) index.Nothing) (mode_base_disp (ltb d 4096) d b refl)
     ∙ rw (zero_of i p.index, zero_of s p.scale, p.base) refl
 read_by names IndexDisp b i s d p w =
     perhaps_forced false names d ([] ++ index_text IndexDisp i s)
-    ∙ parts_behind false names (hex_text d) [] (index_text IndexDisp i s) (Valued (Number d)) base.Nothing (index.Scaled i s) (hex_bytes d) refl (front_of-hex names d w.disp) refl (index_of-text i s w.index w.scale)
+    ∙ parts_behind false names (hex_text d) [] (index_text IndexDisp i s) (hex_bytes d) refl (front_of-hex names d w.disp) refl (index_of-text i s w.index w.scale)
     ∙ rw (zero_of b p.base, p.index) refl
 read_by names BaseIndexDisp b i s d p w =
     perhaps_forced false names d (base_text BaseIndexDisp b ++ index_text BaseIndexDisp i s)
-    ∙ parts_behind false names (hex_text d) (base_text BaseIndexDisp b) (index_text BaseIndexDisp i s) (Valued (Number d)) (base.Register b) (index.Scaled i s) (hex_bytes d) refl (front_of-hex names d w.disp)
+    ∙ parts_behind false names (hex_text d) (base_text BaseIndexDisp b) (index_text BaseIndexDisp i s) (hex_bytes d) refl (front_of-hex names d w.disp)
     (base_of-text b (index_text BaseIndexDisp i s) w.base) (index_of-text i s w.index w.scale)
     ∙ rw (p.base, p.index) refl
 

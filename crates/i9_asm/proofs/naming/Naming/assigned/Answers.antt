@@ -22,7 +22,8 @@ returns-then-is_some c =
     let value : c.value_of-value.result ≡ value_of p.known f = c.value_of-value.ensures ∙ ap (λ known. value_of known f) (known-all _) in
     let good : is_name name ≡ true = sym c.is_name.ensures ∙ c.if-is_name.true in
     let some : is_some (value_of p.known f) ≡ true = ap is_some (sym value) ∙ sym c.is_some.ensures ∙ c.if-is_some.true in
-    IfOk-weaker c.define.result _ (λ more. definitions more ≡ item_entered p c.args.step (item_as c.args.said.now) table) (λ more h. h ∙ ap (λ (n : Noted ℕ). enter name (record { value = n.value; step = c.args.step }) table) (c.settled-value.ensures ∙ ap settled value)
+    IfOk-weaker c.define.result _ (λ more. definitions more ≡ item_entered p c.args.step (item_as c.args.said.now) table)
+    (λ more h. h ∙ ap (λ (n : Noted ℕ). enter name (record { value = n.value; step = c.args.step }) table) (c.settled-value.ensures ∙ ap settled value)
     ∙ sym (set_entered p c.args.step name f table good some) ∙ ap (λ said. item_entered p c.args.step (item_as said) table) (sym c.in-Set.is)) c.define.ensures
 
 pub returns-else-is_name : goal.returns-else-is_name
