@@ -99,14 +99,16 @@ both_once i b v w x y two cv cw =
     rw (e, f) refl
 
 pub stands_once : (names : Names) (ip : ℕ) (s : List ℕ) (us vs : List ℕ) → Stands names ip s us → Stands names ip s vs → us ≡ vs
-stands_once names ip s _ _ (stands_one i b v r one p) (stands_one j c w q other m) =
-    ap (λ x. x ∷ []) (code_unique j c v w 0 (same_code i j b c v 0 (read_once (statement_of ip names s) i j b c r q) (p 0)) (m 0))
-stands_once names ip s _ _ (stands_two i b v x r two p) (stands_two j c w y q other m) =
-    both_once j c v w x y other (same_code i j b c v x (read_once (statement_of ip names s) i j b c r q) p) m
-stands_once names ip s _ _ (stands_one i b v r one p) (stands_two j c w y q two m) =
-    absurd (cc (sym one ∙ ap (λ (t : Statement). words_of t.inst) (read_once (statement_of ip names s) i j b c r q) ∙ two))
-stands_once names ip s _ _ (stands_two i b v x r two p) (stands_one j c w q one m) =
-    absurd (cc (sym two ∙ ap (λ (t : Statement). words_of t.inst) (read_once (statement_of ip names s) i j b c r q) ∙ one))
+stands_once names ip s _ _ (stands_one i b v read one code) (stands_one j c w again other codes) =
+    let same = read_once (statement_of ip names s) i j b c read again in
+    ap (λ first. first ∷ []) (code_unique j c v w 0 (same_code i j b c v 0 same (code 0)) (codes 0))
+stands_once names ip s _ _ (stands_two i b v x read two code) (stands_two j c w y again other codes) =
+    let same = read_once (statement_of ip names s) i j b c read again in
+    both_once j c v w x y other (same_code i j b c v x same code) codes
+stands_once names ip s _ _ (stands_one i b v read one code) (stands_two j c w y again two codes) =
+    absurd (cc (sym one ∙ ap (λ (t : Statement). words_of t.inst) (read_once (statement_of ip names s) i j b c read again) ∙ two))
+stands_once names ip s _ _ (stands_two i b v x read two code) (stands_one j c w again one codes) =
+    absurd (cc (sym two ∙ ap (λ (t : Statement). words_of t.inst) (read_once (statement_of ip names s) i j b c read again) ∙ one))
 
 -- ---- a printed statement stands for its words
 
