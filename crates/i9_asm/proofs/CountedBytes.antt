@@ -1,27 +1,23 @@
 -- A line without fault gives as many bytes as it counts.
-use Rattle.std.proofs.Common.{◌≡◌, ℕ, zero, suc, ◌+◌, ◌*◌, ◌%◌, ◌^◌, ◌≤◌, Bool, true, false, cond, ltb, eqb, List, [], ◌∷◌, length, length-append, Option, Some, None, refl, sym, ap, ◌∙◌, arith, lit≤}
+use Rattle.std.proofs.Common.{◌≡◌, ℕ, zero, suc, ◌+◌, ◌*◌, ◌%◌, ◌^◌, ◌≤◌, Bool, true, false, cond, eqb, List, [], ◌∷◌, length, length-append, Option, Some, None, refl, sym, ap, ◌∙◌, arith, lit≤}
 use Rattle.i9_asm.proofs.NumberedNames.{label_stays}
-use Rattle.std.specs.Prelude.{is_some, codes}
+use Rattle.std.specs.Prelude.{is_some}
 use Rattle.std.specs.List.{list_all, flat_map}
-use Rattle.std.specs.Str.{bytes_eq}
 use Rattle.std.specs.Int.{w32, to_le_bytes}
-use Rattle.std.proofs.lemmas.Bool.{ltb-false}
 use Rattle.std.proofs.lemmas.List.{length-take-le}
 use Rattle.i9_isa.specs.Words.{words_of}
 use Rattle.i9_text.specs.Text.{is_blank}
-use Rattle.i9_statement.specs.declared.fault.Fault.{Fault}
-use Rattle.i9_statement.specs.declared.fault.Fault.TheVariants as fault
 use Rattle.i9_statement.specs.declared.values.Value.{Value}
 use Rattle.i9_statement.specs.Cut.{before, from}
 use Rattle.i9_statement.specs.Values.{Names, value_of}
 use Rattle.i9_statement.specs.Fields.{fields_of}
 use Rattle.i9_statement.specs.Statements.{statement_of}
 use Rattle.i9_statement.specs.Codes.{Stands, stands_one, stands_two}
-use Rattle.i9_asm.specs.Lines.{Item, Bad, Org, Space, Align, Set, Data, Ascii, Instruction, dot, one_value, two_values, some_values, directive_of, item_by, item_of, label_of, code_of}
+use Rattle.i9_asm.specs.Lines.{Item, Org, Space, Align, Set, Data, Instruction, dot, one_value, two_values, some_values, directive_of, item_by, item_of, label_of, code_of}
 use Rattle.i9_asm.specs.Places.{Place, no_names, address_at, location_count, next_location, past_line, past_item, size_of, string_size, moved_to, effect_of}
-use Rattle.i9_asm.specs.Source.{zeros, low_bytes, data_value, data_fault, fault_if, item_fault, front_fault, room_fault, rest_fault, line_fault, labelled_source, most_bytes, Source, Gives, gives_nothing, gives_instruction, gives_data, gives_characters, gives_zeros, gives_move, gives_alignment, gives_assignment}
+use Rattle.i9_asm.specs.Source.{zeros, low_bytes, data_value, data_fault, item_fault, line_fault, Source, Gives, gives_instruction, gives_data, gives_characters, gives_zeros}
 use Rattle.i9_asm.specs.Laws.{item_place}
-use Rattle.i9_asm.proofs.TakenLines.{least_left, least_right, effect_is_item}
+use Rattle.i9_asm.proofs.TakenLines.{least_left, least_right, effect_is_item, line_sound}
 use Rattle.i9_asm.proofs.LaterNames.{Later, later_same, later_named, later_value, statement_counts}
 
 -- ---- the widths of data
@@ -39,35 +35,26 @@ narrow_data width [] h = tt
 narrow_data width (f ∷ fs) h = h
 
 narrow_one : (item : List ℕ → Item) (fs : List (List ℕ)) → ((f : List ℕ) → IsNarrow (item f)) → IsNarrow (one_value item fs)
-narrow_one item [] h = tt
 narrow_one item (f ∷ []) h = h f
-narrow_one item (f ∷ g ∷ fs) h = tt
+narrow_one item _ h = tt
 
 narrow_two : (fs : List (List ℕ)) → IsNarrow (two_values Set fs)
-narrow_two [] = tt
-narrow_two (f ∷ []) = tt
 narrow_two (f ∷ g ∷ []) = tt
-narrow_two (f ∷ g ∷ k ∷ fs) = tt
+narrow_two _ = tt
 
 narrow_directive : (name rest : List ℕ) → IsNarrow (directive_of name rest)
 narrow_directive name rest =
     let fs = fields_of rest in
-    let is = λ (word : List ℕ). bytes_eq name word in
-    let ascii = cond (is (codes ".ascii")) (Ascii rest) (Bad fault.UnknownMnemonic) in
-    let set = cond (is (codes ".set")) (two_values Set fs) ascii in
-    let align = cond (is (codes ".align")) (one_value Align fs) set in
-    let space = cond (is (codes ".space")) (one_value Space fs) align in
-    let org = cond (is (codes ".org")) (one_value Org fs) space in
-    let byte = cond (is (codes ".byte")) (some_values 1 fs) org in
-    let short = cond (is (codes ".short")) (some_values 2 fs) byte in
-    narrow_if (is (codes ".word")) (some_values 4 fs) short (narrow_data 4 fs (lit≤ tt))
-    (narrow_if (is (codes ".short")) (some_values 2 fs) byte (narrow_data 2 fs (lit≤ tt))
-    (narrow_if (is (codes ".byte")) (some_values 1 fs) org (narrow_data 1 fs (lit≤ tt))
-    (narrow_if (is (codes ".org")) (one_value Org fs) space (narrow_one Org fs (λ f. tt))
-    (narrow_if (is (codes ".space")) (one_value Space fs) align (narrow_one Space fs (λ f. tt))
-    (narrow_if (is (codes ".align")) (one_value Align fs) set (narrow_one Align fs (λ f. tt))
-    (narrow_if (is (codes ".set")) (two_values Set fs) ascii (narrow_two fs)
-    (narrow_if (is (codes ".ascii")) (Ascii rest) (Bad fault.UnknownMnemonic) tt tt)))))))
+    search (
+      narrow_if,
+      narrow_data 4 fs (lit≤ tt),
+      narrow_data 2 fs (lit≤ tt),
+      narrow_data 1 fs (lit≤ tt),
+      narrow_one Org fs (λ f. tt),
+      narrow_one Space fs (λ f. tt),
+      narrow_one Align fs (λ f. tt),
+      narrow_two fs,
+    ) depth 10
 
 narrow_by : (s : List ℕ) → IsNarrow (item_by s)
 narrow_by [] = tt
@@ -123,65 +110,17 @@ data_counts width names p fs h sound =
     length-values width (λ f. (data_value width (value_of names f)).value) fs h ∙ rw (values_form width names fs sound) refl
 
 pub item_counts : (names : Names) (p : Place) (item : Item) (bs : List ℕ) → IsNarrow item → Gives names p item bs → item_fault names p item ≡ None → length bs ≡ size_of p item
-item_counts names p _ _ narrow gives_nothing h = refl
 item_counts names p _ _ narrow (gives_instruction s ws x) h =
     stands_length names (address_at p) s ws x ∙ sym (statement_counts (address_at p) names s (stands_sound names (address_at p) s ws x))
 item_counts names p _ _ narrow (gives_data width fs) h = data_counts width names p fs narrow h
 item_counts names p _ _ narrow (gives_characters s cs e) h = sym (ap string_size e)
 item_counts names p _ _ narrow (gives_zeros f) h = length-zeros (size_of p (Space f))
-item_counts names p _ _ narrow (gives_move f) h = refl
-item_counts names p _ _ narrow (gives_alignment f) h = refl
-item_counts names p _ _ narrow (gives_assignment name f) h = refl
+item_counts names p _ _ narrow _ h = refl
 
 -- ---- lines
 
--- what is behind the label is without fault, where the line is
-rest_sound : (names : Names) (s : Source) (line : List ℕ) → line_fault names s line ≡ None → rest_fault names (labelled_source (label_of line) s) (item_of line) ≡ None
-unfolding line_fault
-rest_sound names s line h =
-    let rest = rest_fault names (labelled_source (label_of line) s) (item_of line) in
-    least_right (front_fault s.place line) rest (least_left (front_fault s.place line) rest h) h
-
-front_sound : (names : Names) (s : Source) (line : List ℕ) → line_fault names s line ≡ None → front_fault s.place line ≡ None
-unfolding line_fault
-front_sound names s line h = least_left (front_fault s.place line) (rest_fault names (labelled_source (label_of line) s) (item_of line)) h
-
 pub line_counts : (names : Names) (s : Source) (line bs : List ℕ) → line_fault names s line ≡ None → Gives names (item_place s line) (item_of line) bs → length bs ≡ size_of (item_place s line) (item_of line)
-line_counts names s line bs h gives =
-    let u = labelled_source (label_of line) s in
-    let sound = least_left (item_fault names u.place (item_of line)) (room_fault u (size_of u.place (item_of line))) (rest_sound names s line h) in
-    item_counts names (item_place s line) (item_of line) bs (narrow_item line) gives sound
-
-no_fault_if : (q : Bool) (f : Fault) → fault_if q f ≡ None → q ≡ false
-no_fault_if true f h = absurd (cc h)
-no_fault_if false f h = refl
-
--- a line without fault has room
-line_room : (names : Names) (s : Source) (line : List ℕ) → line_fault names s line ≡ None → room_fault (labelled_source (label_of line) s) (size_of (item_place s line) (item_of line)) ≡ None
-line_room names s line h =
-    let u = labelled_source (label_of line) s in
-    let room = room_fault u (size_of u.place (item_of line)) in
-    let rest = rest_sound names s line h in
-    let item = item_fault names u.place (item_of line) in
-    least_right item room (least_left item room rest) rest
-
--- up to the last address
-line_fits : (names : Names) (s : Source) (line : List ℕ) → line_fault names s line ≡ None → (item_place s line).location + size_of (item_place s line) (item_of line) ≤ 2 ^ 32
-line_fits names s line h =
-    let p = item_place s line in
-    let size = size_of p (item_of line) in
-    let range = least_left (fault_if (ltb (2 ^ 32) (p.location + size)) fault.Range) (fault_if (ltb most_bytes (s.total + size)) fault.TooMany) (line_room names s line h) in
-    ltb-false _ _ (no_fault_if (ltb (2 ^ 32) (p.location + size)) fault.Range range)
-
--- and among the bytes of the source
-pub line_few : (names : Names) (s : Source) (line : List ℕ) → line_fault names s line ≡ None → s.total + size_of (item_place s line) (item_of line) ≤ most_bytes
-line_few names s line h =
-    let p = item_place s line in
-    let size = size_of p (item_of line) in
-    let range = fault_if (ltb (2 ^ 32) (p.location + size)) fault.Range in
-    let many = fault_if (ltb most_bytes (s.total + size)) fault.TooMany in
-    let room = line_room names s line h in
-    ltb-false _ _ (no_fault_if (ltb most_bytes (s.total + size)) fault.TooMany (least_right range many (least_left range many room) room))
+line_counts names s line bs h gives = item_counts names (item_place s line) (item_of line) bs (narrow_item line) gives (line_sound names s line h).item
 
 -- and the first pass moves on by its bytes
 pub line_moves : (names : Names) (s : Source) (line bs : List ℕ) → line_fault names s line ≡ None → Gives names (item_place s line) (item_of line) bs
@@ -189,10 +128,11 @@ pub line_moves : (names : Names) (s : Source) (line bs : List ℕ) → line_faul
 line_moves names s line bs h gives stays =
     let p = item_place s line in
     let item = item_of line in
-    let effect : effect_of line ≡ item = effect_is_item s.place line (front_sound names s line h) in
+    let sound = line_sound names s line h in
+    let effect : effect_of line ≡ item = effect_is_item s.place line sound.front in
     let here : p.location ≡ s.place.location = label_stays (label_of line) s.place in
     let counts : length bs ≡ size_of p item = line_counts names s line bs h gives in
-    let fits : p.location + size_of p item ≤ 2 ^ 32 = line_fits names s line h in
+    let fits : p.location + size_of p item ≤ 2 ^ 32 = sound.room.inside in
     let next : (p.location + size_of p item) % location_count ≡ p.location + size_of p item = omega arith in
     ap (λ (i : Item). (past_item p i).location) effect
     ∙ ap (λ (o : Option ℕ). next_location o (p.location + size_of p item) % location_count) stays

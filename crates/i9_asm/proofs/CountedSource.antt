@@ -1,6 +1,6 @@
 -- The segments of a source without fault have as many pairs as its lines count, and so at most 4,194,304.
 use Rattle.std.proofs.Common.{◌≡◌, ℕ, ◌+◌, ◌≤◌, List, [], ◌∷◌, ◌++◌, length, Option, Some, None, refl, sym, subst, ◌∙◌, arith, lit≤, length-append}
-use Rattle.i9_asm.proofs.TakenLines.{begun_total}
+use Rattle.i9_asm.proofs.TakenLines.{begun_total, line_sound}
 use Rattle.i9_model.specs.Image.{Part, pairs_of}
 use Rattle.i9_hex.proofs.PairCounts.{length-with_part}
 use Rattle.i9_text.specs.FirstFault.{SaysAll}
@@ -9,7 +9,7 @@ use Rattle.i9_asm.specs.Lines.{label_of, item_of}
 use Rattle.i9_asm.specs.Places.{Place, past_line, all_names, size_of, moved_to}
 use Rattle.i9_asm.specs.Source.{Source, start_source, segments_of, begun, grown, labelled_source, most_bytes, Assembles}
 use Rattle.i9_asm.specs.Laws.{IsAssembly}
-use Rattle.i9_asm.proofs.CountedBytes.{line_counts, line_few}
+use Rattle.i9_asm.proofs.CountedBytes.{line_counts}
 
 -- how many pairs the segments of a source have
 abbrev pair_count : Source → ℕ
@@ -41,7 +41,7 @@ counted_line names s t line h assembles =
     let size = size_of u.place item in
     let start = begun (moved_to u.place item) u in
     let counts = line_counts names s line bs assembles.sound assembles.gives in
-    let few = line_few names s line assembles.sound in
+    let few = (line_sound names s line assembles.sound).room.few in
     let kept = count-begun (moved_to u.place item) u in
     let total = begun_total (moved_to u.place item) u in
     let pairs = count-grown start next size bs in

@@ -1,10 +1,10 @@
 -- One turn of a loop over the values of a directive.
-use Rattle.std.proofs.Common.{◌≡◌, ℕ, ◌+◌, ◌*◌, Bool, true, false, cond, ltb, List, [], ◌∷◌, ◌++◌, length, map, Option, Some, None, Bor, refl, sym, ap, ◌∙◌, append_assoc, arith, inl, inr, ◌≤◌, lit≤, zero-add}
+use Rattle.std.proofs.Common.{◌≡◌, ℕ, ◌+◌, ◌*◌, Bool, true, false, cond, List, [], ◌∷◌, ◌++◌, length, map, Option, Some, None, Bor, refl, sym, ap, ◌∙◌, append_assoc, arith, ◌≤◌, lit≤, zero-add}
 use Rattle.std.specs.Prelude.{is_some}
 use Rattle.std.specs.List.{list_all, slice_split, flat_map}
-use Rattle.std.proofs.lemmas.Bool.{ltb-true, ltb-false, lt-ltb, le-ltb, cases_Bool}
+use Rattle.std.proofs.lemmas.Bool.Decides.{nat_tests}
 use Rattle.i9_statement.specs.declared.fault.Fault.{Fault}
-use Rattle.i9_statement.specs.Noted.{kind_of, least}
+use Rattle.i9_statement.specs.Noted.{least}
 use Rattle.i9_statement.specs.Values.{Names, value_of}
 use Rattle.i9_statement.specs.Fields.{is_comma, field_of, fields_left}
 use Rattle.i9_asm.specs.declared.lines.Width.{Width}
@@ -31,11 +31,9 @@ abbrev pub sized : ℕ → ℕ → List (List ℕ) → ℕ
 sized k width fs = cond (list_all has_form fs) (k + width * length fs) 0
 
 pub sized-on : (k width : ℕ) (f : List ℕ) (fs : List (List ℕ)) → has_form f ≡ true → sized k width (f ∷ fs) ≡ sized (k + width) width fs
-sized-on k width f fs h = rw h (by_all (list_all has_form fs))
-  where
-    by_all : (b : Bool) → cond b (k + width * length (f ∷ fs)) 0 ≡ cond b (k + width + width * length fs) 0
-    by_all true = omega arith
-    by_all false = refl
+sized-on k width f fs h =
+    let more : k + width * length (f ∷ fs) ≡ k + width + width * length fs = omega arith in
+    rw (h, more) refl
 
 pub sized-off : (k width : ℕ) (f : List ℕ) (fs : List (List ℕ)) → has_form f ≡ false → sized k width (f ∷ fs) ≡ 0
 sized-off k width f fs h = rw h refl
@@ -53,24 +51,17 @@ bytes_of-small Word = lit≤ tt
 
 -- ---- faults
 
-pub least_assoc : (a b c : Option Fault) → least (least a b) c ≡ least a (least b c)
+least_some : (a b c : Fault) → least (least (Some a) (Some b)) (Some c) ≡ least (Some a) (least (Some b) (Some c))
+least_some a b c = grind (arith, nat_tests)
+
+least_last : (a b : Fault) → least (least (Some a) (Some b)) None ≡ least (Some a) (Some b)
+least_last a b = grind (arith, nat_tests)
+
+least_assoc : (a b c : Option Fault) → least (least a b) c ≡ least a (least b c)
 least_assoc None b c = refl
 least_assoc (Some a) None c = refl
-least_assoc (Some a) (Some b) None = by_first (ltb (kind_of b) (kind_of a))
-  where
-    by_first : (q : Bool) → least (cond q (Some b) (Some a)) None ≡ cond q (Some b) (Some a)
-    by_first true = refl
-    by_first false = refl
-least_assoc (Some a) (Some b) (Some c) = elim (cases_Bool (ltb (kind_of b) (kind_of a))) [
-  | inl ba ↦ elim (cases_Bool (ltb (kind_of c) (kind_of b))) [
-    | inl cb ↦ let ca : ltb (kind_of c) (kind_of a) ≡ true = lt-ltb _ _ (omega (arith, ltb-true _ _ ba, ltb-true _ _ cb)) in rw (ba, cb, ca) refl
-    | inr bc ↦ rw (ba, bc, ba) refl
-  ]
-  | inr ab ↦ elim (cases_Bool (ltb (kind_of c) (kind_of b))) [
-    | inl cb ↦ rw (ab, cb) refl
-    | inr bc ↦ let ac : ltb (kind_of c) (kind_of a) ≡ false = le-ltb _ _ (omega (arith, ltb-false _ _ ab, ltb-false _ _ bc)) in rw (ab, bc, ac, ab) refl
-  ]
-]
+least_assoc (Some a) (Some b) None = least_last a b
+least_assoc (Some a) (Some b) (Some c) = least_some a b c
 
 -- a fault so far, and one value more
 pub data_fault-on : (width : ℕ) (names : Names) (fault : Option Fault) (f : List ℕ) (fs : List (List ℕ))

@@ -1,5 +1,5 @@
 -- Bytes of items, as the code appends them.
-use Rattle.std.proofs.Common.{◌≡◌, ℕ, zero, suc, ◌+◌, List, [], ◌∷◌, ◌++◌, Option, Some, None, Result, Ok, Err, OnOk, refl, sym, ap, subst, ◌∙◌, add-one, append_assoc, inl, inr}
+use Rattle.std.proofs.Common.{◌≡◌, ℕ, zero, suc, ◌+◌, List, [], ◌∷◌, ◌++◌, Option, Some, None, refl, sym, ap, subst, ◌∙◌, add-one, append_assoc, inl, inr}
 use Rattle.std.specs.Prelude.{is_some, IsSome, if◌then◌else◌}
 use Rattle.i9_isa.specs.declared.inst.Inst.{Inst}
 use Rattle.i9_statement.proofs.StatementWords.{one_or_two}
@@ -29,11 +29,6 @@ zeros-suc (suc n) = ap (λ zs. 0 ∷ zs) (zeros-suc n)
 pub zeros-more : (n : ℕ) → zeros n ++ 0 ∷ [] ≡ zeros (n + 1)
 unfolding zeros
 zeros-more n = rw add-one (zeros-suc n)
-
--- a fact that holds after a call went well, from another
-pub on_ok : {X E P Q : Type 0} (r : Result X E) → OnOk r P → (P → Q) → OnOk r Q
-on_ok (Ok x) h f = f h
-on_ok (Err e) h f = tt
 
 -- ---- words
 

@@ -1,8 +1,7 @@
 -- A statement counts the same bytes before names have values: a name that has none yet changes no form and no mode.
-use Rattle.std.proofs.Common.{◌≡◌, ℕ, ◌+◌, ◌*◌, ◌%◌, ◌^◌, Bool, true, false, cond, eqb, ltb, List, [], ◌∷◌, Option, Some, None, refl, ap, subst, ◌∙◌, inl, inr}
+use Rattle.std.proofs.Common.{◌≡◌, ℕ, ◌+◌, ◌*◌, ◌%◌, ◌^◌, Bool, true, false, eqb, ltb, List, [], ◌∷◌, Option, Some, None, refl, ap, ◌∙◌, inl, inr}
 use Rattle.std.specs.Prelude.{ℤ}
 use Rattle.std.specs.Option.{option_map}
-use Rattle.std.specs.Int.Bits.{bit_and}
 use Rattle.std.proofs.lemmas.Bool.{cases_Bool}
 use Rattle.i9_isa.specs.declared.op.Op.{Op}
 use Rattle.i9_isa.specs.declared.inst.Operand.{Operand}
@@ -12,7 +11,7 @@ use Rattle.i9_isa.specs.declared.inst.Inst.{Inst}
 use Rattle.i9_isa.specs.declared.format.Format.{Format}
 use Rattle.i9_isa.specs.declared.format.Format.TheVariants as format
 use Rattle.i9_isa.specs.declared.format.Use.{Use}
-use Rattle.i9_isa.specs.declared.format.Use.TheVariants.{Unused, Source, Left, Right, Destination, Load, Store, Change}
+use Rattle.i9_isa.specs.declared.format.Use.TheVariants.{Unused}
 use Rattle.i9_isa.specs.Operands.{no_address}
 use Rattle.i9_isa.specs.Table.{row_of}
 use Rattle.i9_isa.specs.Words.{words_of, words_of_mode}
@@ -54,8 +53,18 @@ form_least (Some a) (Some b) x y = elim (cases_Bool (ltb (kind_of b) (kind_of a)
   | inr more ↦ rw more x
 ]
 
-least_late : (a b c d : Option Fault) → (c ≡ None → is_form_fault a ≡ false) → (d ≡ None → is_form_fault b ≡ false) → least c d ≡ None → is_form_fault (least a b) ≡ false
-least_late a b c d f g h = let none = least_left c d h in form_least a b (f none) (g (least_right c d none h))
+-- where a fault is none with the values of names, without them it is no fault of form
+record Late (early final : Option Fault) : Type 0 where
+  late : final ≡ None → is_form_fault early ≡ false
+
+late_same : (a : Option Fault) → Late a a
+late_same a = record { late = λ h. ap is_form_fault h }
+
+late_unknown : Late (Some UnknownName) None
+late_unknown = record { late = λ h. refl }
+
+both : {a b c d : Option Fault} → Late a c → Late b d → Late (least a b) (least c d)
+both {a} {b} {c} {d} x y = record { late = λ h. let none = least_left c d h in form_least a b (x.late none) (y.late (least_right c d none h)) }
 
 -- ---- values
 
@@ -90,33 +99,24 @@ later_value names s = elim (cases_Bool (has_name_start s)) [
 -- a part of the operands without the values of names, and with them
 record PartLater (X : Type 0) (m n : Taken X) : Type 0 where
   rest : m.1 ≡ n.1
-  late : n.0.fault ≡ None → is_form_fault m.0.fault ≡ false
+  late : Late m.0.fault n.0.fault
 
-operand_late : (u : Use) (r : Option Operand) (a b : Option Value) → Later a b → (operand_as u r b).fault ≡ None → is_form_fault (operand_as u r a).fault ≡ false
-operand_late u r _ _ (later_same o) h = ap is_form_fault h
-operand_late u (Some o) _ _ (later_named n) h = ap is_form_fault h
-operand_late u None _ _ (later_named n) h = elim (cases_Bool (takes_literals u)) [
-  | inl good ↦ rw good refl
-  | inr bad ↦ let e = rw bad at h in absurd cc
+operand_late : (u : Use) (r : Option Operand) (a b : Option Value) → Later a b → Late (operand_as u r a).fault (operand_as u r b).fault
+operand_late u r _ _ (later_same o) = late_same (operand_as u r o).fault
+operand_late u (Some o) _ _ (later_named n) = late_same (operand_as u (Some o) None).fault
+operand_late u None _ _ (later_named n) = elim (cases_Bool (takes_literals u)) [
+  | inl good ↦ rw good (record { late = λ h. refl })
+  | inr bad ↦ rw bad (late_same _)
 ]
 
-operand_later : (u : Use) (names : Names) (f : List ℕ) (fs : Fields) → PartLater Operand (operand_of u no_names f, fs) (operand_of u names f, fs)
-unfolding operand_of
-operand_later u names f fs = record { rest = refl; late = operand_late u (register_of f) (value_of no_names f) (value_of names f) (later_value names f) }
-
 operand_part : (u : Use) (names : Names) (fs gs : Fields) → fs ≡ gs → PartLater Operand (take_operand u no_names fs) (take_operand u names gs)
-operand_part u names fs gs same = subst (λ (x : Fields). PartLater Operand (take_operand u no_names fs) (take_operand u names x)) same (by_use u fs)
+unfolding operand_of
+operand_part u names fs gs same = rw (← same) (by_use u fs)
   where
     by_use : (u : Use) (fs : Fields) → PartLater Operand (take_operand u no_names fs) (take_operand u names fs)
-    by_use Unused fs = record { rest = refl; late = λ h. refl }
-    by_use (Source n) (f ∷ fs) = operand_later (Source n) names f fs
-    by_use Left (f ∷ fs) = operand_later Left names f fs
-    by_use Right (f ∷ fs) = operand_later Right names f fs
-    by_use (Destination n) (f ∷ fs) = operand_later (Destination n) names f fs
-    by_use (Load n) (f ∷ fs) = operand_later (Load n) names f fs
-    by_use (Store n) (f ∷ fs) = operand_later (Store n) names f fs
-    by_use Change (f ∷ fs) = operand_later Change names f fs
-    by_use _ [] = record { rest = refl; late = λ h. absurd (cc h) }
+    by_use Unused fs = record { rest = refl; late = late_same None }
+    by_use u (f ∷ fs) = record { rest = refl; late = operand_late u (register_of f) (value_of no_names f) (value_of names f) (later_value names f) }
+    by_use _ [] = record { rest = refl; late = late_same (Some Form) }
 
 -- ---- addresses
 
@@ -134,34 +134,23 @@ front_later names (b ∷ s) = by_value (value_of no_names (b ∷ s)) (value_of n
 
 record EaLater (m n : Noted Ea) : Type 0 where
   mode : m.value.mode ≡ n.value.mode
-  late : n.fault ≡ None → is_form_fault m.fault ≡ false
+  late : Late m.fault n.fault
 
 ea_same : (m : Noted Ea) → EaLater m m
-ea_same m = record { mode = refl; late = λ h. ap is_form_fault h }
+ea_same m = record { mode = refl; late = late_same m.fault }
 
 -- the mode does not depend on what a name is worth
 same_mode : (forced : Bool) (n : ℕ) (b : Base) (i : Index) → mode_of forced (Valued Unknown) b i ≡ mode_of forced (Valued (Named n)) b i
 same_mode true n base.Nothing index.Nothing = refl
-same_mode true n base.Nothing (index.Scaled r k) = refl
-same_mode true n base.Ip index.Nothing = refl
-same_mode true n base.Ip (index.Scaled r k) = refl
 same_mode true n (base.Register x) index.Nothing = refl
-same_mode true n (base.Register x) (index.Scaled r k) = refl
 same_mode false n base.Nothing index.Nothing = refl
-same_mode false n base.Nothing (index.Scaled r k) = refl
 same_mode false n base.Ip index.Nothing = refl
-same_mode false n base.Ip (index.Scaled r k) = refl
 same_mode false n (base.Register x) index.Nothing = refl
-same_mode false n (base.Register x) (index.Scaled r k) = refl
-
-disp_late : (a b : Option Fault) → least a (least b None) ≡ None → is_form_fault (least a (least b (Some UnknownName))) ≡ false
-disp_late None None h = refl
-disp_late None (Some b) h = absurd (cc h)
-disp_late (Some a) b h = absurd (cc (least_left (Some a) (least b None) h))
+same_mode _ n _ _ = refl
 
 address_named : (o : Option Mode) (n : ℕ) (b : Base) (i : Index) → EaLater (address_by o (Valued Unknown) b i) (address_by o (Valued (Named n)) b i)
 address_named None n b i = ea_same (wrong Form no_address)
-address_named (Some m) n b i = record { mode = refl; late = disp_late (base_part b).fault (index_part i).fault }
+address_named (Some m) n b i = record { mode = refl; late = both (late_same (base_part b).fault) (both (late_same (index_part i).fault) late_unknown) }
 
 ea_behind : (forced : Bool) (f g : Front) (b : Option (Base × List ℕ)) → FrontLater f g → EaLater (with_base forced f b) (with_base forced g b)
 ea_behind forced _ _ b (front_same f) = ea_same (with_base forced f b)
@@ -170,9 +159,7 @@ ea_behind forced _ _ (Some b) (front_named n) = by_index (index_of b.1)
   where
     by_index : (o : Option Index) → EaLater (with_index forced (Valued Unknown) b.0 o) (with_index forced (Valued (Named n)) b.0 o)
     by_index None = ea_same (wrong Form no_address)
-    by_index (Some i) =
-        subst (λ (o : Option Mode). EaLater (address_by (mode_of forced (Valued Unknown) b.0 i) (Valued Unknown) b.0 i) (address_by o (Valued (Named n)) b.0 i))
-        (same_mode forced n b.0 i) (address_named (mode_of forced (Valued Unknown) b.0 i) n b.0 i)
+    by_index (Some i) = rw (← same_mode forced n b.0 i) (address_named (mode_of forced (Valued Unknown) b.0 i) n b.0 i)
 
 behind_later : (forced : Bool) (names : Names) (s : List ℕ) → EaLater (address_behind forced no_names s) (address_behind forced names s)
 unfolding address_behind
@@ -191,81 +178,50 @@ record AddressLater (m n : Taken Ea) : Type 0 where
   ea : EaLater m.0 n.0
 
 address_part : (f : Format) (names : Names) (fs gs : Fields) → fs ≡ gs → AddressLater (take_address f no_names fs) (take_address f names gs)
-address_part f names fs gs same = subst (λ (x : Fields). AddressLater (take_address f no_names fs) (take_address f names x)) same (by_format f fs)
+address_part f names fs gs same = rw (← same) (by_format f fs)
   where
     by_format : (f : Format) (fs : Fields) → AddressLater (take_address f no_names fs) (take_address f names fs)
-    by_format format.Reg fs = record { rest = refl; ea = ea_same (fine no_address) }
-    by_format format.Cobr fs = record { rest = refl; ea = ea_same (fine no_address) }
-    by_format format.Ctrl fs = record { rest = refl; ea = ea_same (fine no_address) }
     by_format format.Mem [] = record { rest = refl; ea = ea_same (wrong Form no_address) }
     by_format format.Mem (f ∷ fs) = record { rest = refl; ea = address_later names f }
+    by_format _ fs = record { rest = refl; ea = ea_same (fine no_address) }
 
 -- ---- targets
 
-target_late : (ip : ℕ) (f : Format) (a b : Option Value) → Later a b → (target_by ip f b).fault ≡ None → is_form_fault (target_by ip f a).fault ≡ false
-target_late ip f _ _ (later_same o) h = ap is_form_fault h
-target_late ip f _ _ (later_named n) h = refl
-
-target_later : (ip : ℕ) (f : Format) (names : Names) (t : List ℕ) (fs : Fields) → PartLater ℤ (target_of ip f no_names t, fs) (target_of ip f names t, fs)
-unfolding target_of
-target_later ip f names t fs = record { rest = refl; late = target_late ip f (value_of no_names t) (value_of names t) (later_value names t) }
+target_late : (ip : ℕ) (f : Format) (a b : Option Value) → Later a b → Late (target_by ip f a).fault (target_by ip f b).fault
+target_late ip f _ _ (later_same o) = late_same (target_by ip f o).fault
+target_late ip f _ _ (later_named n) = record { late = λ h. refl }
 
 target_part : (uses : Bool) (ip : ℕ) (f : Format) (names : Names) (fs gs : Fields) → fs ≡ gs → PartLater ℤ (take_target uses ip f no_names fs) (take_target uses ip f names gs)
-target_part uses ip f names fs gs same = subst (λ (x : Fields). PartLater ℤ (take_target uses ip f no_names fs) (take_target uses ip f names x)) same (by_uses uses fs)
+unfolding target_of
+target_part uses ip f names fs gs same = rw (← same) (by_uses uses fs)
   where
     by_uses : (uses : Bool) (fs : Fields) → PartLater ℤ (take_target uses ip f no_names fs) (take_target uses ip f names fs)
-    by_uses false fs = record { rest = refl; late = λ h. refl }
-    by_uses true [] = record { rest = refl; late = λ h. absurd (cc h) }
-    by_uses true (t ∷ fs) = target_later ip f names t fs
+    by_uses false fs = record { rest = refl; late = late_same None }
+    by_uses true [] = record { rest = refl; late = late_same (Some Form) }
+    by_uses true (t ∷ fs) = record { rest = refl; late = target_late ip f (value_of no_names t) (value_of names t) (later_value names t) }
 
 -- ---- instructions
 
 record InstLater (m n : Noted Inst) : Type 0 where
   op : m.value.op ≡ n.value.op
   mode : m.value.ea.mode ≡ n.value.ea.mode
-  late : n.fault ≡ None → is_form_fault m.fault ≡ false
+  late : Late m.fault n.fault
 
--- a fault without the values of names, and with them
-record FaultLater : Type 0 where
-  early : Option Fault
-  final : Option Fault
-  late : final ≡ None → is_form_fault early ≡ false
-
-faults : (early final : Option Fault) → (final ≡ None → is_form_fault early ≡ false) → FaultLater
-faults early final late = record { early = early; final = final; late = late }
-
-both : FaultLater → FaultLater → FaultLater
-both x y = record { early = least x.early y.early; final = least x.final y.final; late = least_late x.early y.early x.final y.final x.late y.late }
-
-left_later : (fs gs : Fields) → fs ≡ gs → left_over gs ≡ None → is_form_fault (left_over fs) ≡ false
-left_later fs gs same h = ap (λ (x : Fields). is_form_fault (left_over x)) same ∙ ap is_form_fault h
+left_later : (fs gs : Fields) → fs ≡ gs → Late (left_over fs) (left_over gs)
+left_later fs gs same = rw (← same) (late_same (left_over fs))
 
 instruction_later : (ip : ℕ) (op : Op) (hint : Bool) (names : Names) (fs : Fields) → InstLater (instruction_of ip op hint no_names fs) (instruction_of ip op hint names fs)
-unfolding instruction_of faults both
+unfolding instruction_of
 instruction_later ip op hint names fs =
     let r = row_of op in
-    let a = take_operand r.a no_names fs in
-    let a' = take_operand r.a names fs in
-    let b = take_operand r.b no_names a.1 in
-    let b' = take_operand r.b names a'.1 in
-    let first = take_operand (first_use r) no_names b.1 in
-    let first' = take_operand (first_use r) names b'.1 in
-    let ea = take_address r.format no_names first.1 in
-    let ea' = take_address r.format names first'.1 in
-    let disp = take_target r.disp ip r.format no_names ea.1 in
-    let disp' = take_target r.disp ip r.format names ea'.1 in
-    let last = take_operand (last_use r) no_names disp.1 in
-    let last' = take_operand (last_use r) names disp'.1 in
-    let pa = operand_part r.a names fs fs refl in
-    let pb = operand_part r.b names a.1 a'.1 pa.rest in
-    let pfirst = operand_part (first_use r) names b.1 b'.1 pb.rest in
-    let pea = address_part r.format names first.1 first'.1 pfirst.rest in
-    let pdisp = target_part r.disp ip r.format names ea.1 ea'.1 pea.rest in
-    let plast = operand_part (last_use r) names disp.1 disp'.1 pdisp.rest in
-    let left = faults (left_over last.1) (left_over last'.1) (left_later last.1 last'.1 plast.rest) in
-    let whole = both (faults a.0.fault a'.0.fault pa.late) (both (faults b.0.fault b'.0.fault pb.late) (both (faults first.0.fault first'.0.fault pfirst.late)
-    (both (faults ea.0.fault ea'.0.fault pea.ea.late) (both (faults disp.0.fault disp'.0.fault pdisp.late) (both (faults last.0.fault last'.0.fault plast.late) left))))) in
-    record { op = refl; mode = pea.ea.mode; late = whole.late }
+    let a = operand_part r.a names fs fs refl in
+    let b = operand_part r.b names _ _ a.rest in
+    let first = operand_part (first_use r) names _ _ b.rest in
+    let ea = address_part r.format names _ _ first.rest in
+    let disp = target_part r.disp ip r.format names _ _ ea.rest in
+    let last = operand_part (last_use r) names _ _ disp.rest in
+    let left = left_later _ _ last.rest in
+    record { op = refl; mode = ea.ea.mode; late = both a.late (both b.late (both first.late (both ea.ea.late (both disp.late (both last.late left))))) }
 
 -- ---- statements
 
@@ -274,9 +230,9 @@ same_ignored i j op mode =
     ap (λ (o : Op). ignored_in (fields_of (row_of o).format (row_of o) i.ea.mode)) op
     ∙ ap (λ (m : Mode). ignored_in (fields_of (row_of j.op).format (row_of j.op) m)) mode
 
-spare_fault : (i j : Inst) (o : Option ℕ) → ignored_bits i ≡ ignored_bits j → (spare_noted i o).fault ≡ (spare_noted j o).fault
-spare_fault i j None same = refl
-spare_fault i j (Some bits) same = ap (λ (s : ℕ). (cond (eqb (bit_and bits s) bits) (fine bits) (wrong Form 0)).fault) same
+spare_fault : (i j : Inst) (o : Option ℕ) → ignored_bits i ≡ ignored_bits j → Late (spare_noted i o).fault (spare_noted j o).fault
+spare_fault i j None same = late_same (Some Form)
+spare_fault i j (Some bits) same = rw same (late_same _)
 
 sound_size : (n : Noted Statement) → is_form_fault n.fault ≡ false → statement_size n ≡ 4 * words_of n.value.inst
 sound_size n h = rw h refl
@@ -294,6 +250,6 @@ statement_counts ip names s h = by_name (named_by (before is_blank s)) (from is_
         let m = instruction_of ip n.0 n.1 no_names fs in
         let k = instruction_of ip n.0 n.1 names fs in
         let i = instruction_later ip n.0 n.1 names fs in
-        let e = spare_fault m.value k.value bits (same_ignored m.value k.value i.op i.mode) in
-        let late = least_late m.fault (spare_noted m.value bits).fault k.fault (spare_noted k.value bits).fault i.late (λ x. ap is_form_fault (e ∙ x)) h in
+        let spare = spare_fault m.value k.value bits (same_ignored m.value k.value i.op i.mode) in
+        let late = (both i.late spare).late h in
         sound_size (statement_by ip no_names (Some n) rest) late ∙ ap (λ (x : Mode). 4 * words_of_mode x) i.mode

@@ -1,25 +1,23 @@
 -- The table of all names has those that are known before each line, and behind its label.
-use Rattle.std.proofs.Common.{◌≡◌, ℕ, ◌+◌, ◌*◌, ◌<◌, ◌≤◌, Bool, true, false, cond, ◌&&◌, List, [], ◌∷◌, Option, Some, None, Result, Ok, Err, IfOk, refl, sym, ap, ◌∙◌, inl, inr, arith}
+use Rattle.std.proofs.Common.{◌≡◌, ℕ, ◌+◌, ◌*◌, ◌<◌, ◌≤◌, Bool, true, false, cond, ◌&&◌, List, [], ◌∷◌, Option, Some, None, refl, sym, ap, ◌∙◌, inl, inr, arith}
 use Rattle.std.specs.Prelude.{is_some}
 use Rattle.std.specs.Option.{option_map, option_and_then}
 use Rattle.std.specs.Map.{update}
 use Rattle.std.specs.Str.{bytes_eq}
 use Rattle.std.proofs.Math.Path.{fun_ext}
 use Rattle.std.proofs.lemmas.Bool.{cases_Bool, lt-ltb, le-ltb}
+use Rattle.std.proofs.lemmas.Option.{same_Some}
 use Rattle.std.proofs.lemmas.Slice.Eq.{bytes_eq-Decides}
 use Rattle.i9_statement.specs.declared.known.Definition.{Definition}
 use Rattle.i9_statement.specs.Known.{enter, values_of, value_before, values_before}
 use Rattle.i9_statement.specs.Values.{is_name, value_of, settled}
-use Rattle.i9_asm.specs.Lines.{Item, Empty, Bad, Org, Space, Align, Set, Data, Ascii, Instruction, label_of}
+use Rattle.i9_asm.specs.Lines.{Item, Set, label_of}
 use Rattle.i9_asm.specs.Places.{Place, define, address_at, past_label, past_line, past_lines, effect_of, assigned}
 use Rattle.i9_asm.specs.Numbered.{Definitions, no_definitions, label_entered, item_entered, line_entered, lines_entered}
 
-pub same_some : (table : Definitions) (name : List ℕ) → is_some (table name) ≡ is_some (values_of table name)
-same_some table name = by_option (table name)
-  where
-    by_option : (o : Option Definition) → is_some o ≡ is_some (option_map (λ d. d.value) o)
-    by_option None = refl
-    by_option (Some d) = refl
+same_some : (o : Option Definition) → is_some o ≡ is_some (option_map (λ d. d.value) o)
+same_some None = refl
+same_some (Some d) = refl
 
 -- ---- values
 
@@ -31,8 +29,8 @@ updated table name q d = elim (cases_Bool (bytes_eq name q)) [
 
 entered_values : (name : List ℕ) (d : Definition) (table : Definitions) → values_of (enter name d table) ≡ define name d.value (values_of table)
 entered_values name d table = elim (cases_Bool (is_some (table name))) [
-  | inl old ↦ let known : is_some (values_of table name) ≡ true = sym (same_some table name) ∙ old in rw (old, known) refl
-  | inr new ↦ let unknown : is_some (values_of table name) ≡ false = sym (same_some table name) ∙ new in rw (new, unknown) (fun_ext (λ q. updated table name q d))
+  | inl old ↦ let known : is_some (values_of table name) ≡ true = sym (same_some (table name)) ∙ old in rw (old, known) refl
+  | inr new ↦ let unknown : is_some (values_of table name) ≡ false = sym (same_some (table name)) ∙ new in rw (new, unknown) (fun_ext (λ q. updated table name q d))
 ]
 
 -- ---- definitions at later steps
@@ -41,19 +39,12 @@ entered_values name d table = elim (cases_Bool (is_some (table name))) [
 abbrev pub IsEarly : ℕ → Definitions → Type 0
 IsEarly step table = (q : List ℕ) (d : Definition) → table q ≡ Some d → d.step < step
 
--- a definition that was made before a step, and one that was not
-before_step : (step : ℕ) (d : Definition) → d.step < step → value_before step d ≡ Some d.value
-before_step step d h = rw (lt-ltb d.step step h) refl
-
-from_step : (step : ℕ) (d : Definition) → step ≤ d.step → value_before step d ≡ None
-from_step step d h = rw (le-ltb d.step step h) refl
-
 early_values : (step : ℕ) (table : Definitions) → IsEarly step table → values_before step table ≡ values_of table
 early_values step table early = fun_ext (λ q. by_option q (table q) refl)
   where
     by_option : (q : List ℕ) (o : Option Definition) → table q ≡ o → option_and_then (value_before step) o ≡ option_map (λ d. d.value) o
     by_option q None e = refl
-    by_option q (Some d) e = before_step step d (early q d e)
+    by_option q (Some d) e = rw (lt-ltb d.step step (early q d e)) refl
 
 later_early : (step later : ℕ) (table : Definitions) → step ≤ later → IsEarly step table → IsEarly later table
 later_early step later table h early = λ q d e. omega (arith, h, early q d e)
@@ -63,25 +54,19 @@ data IsEntered (step : ℕ) (table : Definitions) : Definitions → Type 0 where
   entered_none : IsEntered step table table
   entered_one : (name : List ℕ) (d : Definition) → d.step ≡ step → IsEntered step table (enter name d table)
 
-some_is : (d e : Definition) → ◌≡◌ {A = Option Definition} (Some d) (Some e) → d ≡ e
-some_is d e h = cc
-
 entered_early : (step : ℕ) (table more : Definitions) → IsEntered step table more → IsEarly step table → IsEarly (step + 1) more
 entered_early step table _ entered_none early = later_early step (step + 1) table (omega arith) early
 entered_early step table _ (entered_one name d at) early = λ q e is. elim (cases_Bool (is_some (table name))) [
   | inl old ↦ later_early step (step + 1) table (omega arith) early q e (rw old at is)
   | inr new ↦ elim (cases_Bool (bytes_eq name q)) [
-    | inl same ↦ let h : d ≡ e = some_is d e (rw (new, same) at is) in let s = ap (λ (x : Definition). x.step) h in omega (arith, s, at)
+    | inl same ↦ let h : d ≡ e = same_Some d e (rw (new, same) at is) in let s = ap (λ (x : Definition). x.step) h in omega (arith, s, at)
     | inr other ↦ later_early step (step + 1) table (omega arith) early q e (rw (new, other) at is)
   ]
 ]
 
-unknown : (table : Definitions) (name : List ℕ) → is_some (table name) ≡ false → table name ≡ None
-unknown table name h = by_option (table name) h
-  where
-    by_option : (o : Option Definition) → is_some o ≡ false → o ≡ None
-    by_option None h = refl
-    by_option (Some d) h = absurd (cc h)
+pub not_some : {A : Type 0} (o : Option A) → is_some o ≡ false → o ≡ None
+not_some None h = refl
+not_some (Some x) h = absurd (cc h)
 
 entered_stable : (step j : ℕ) (table more : Definitions) → j ≤ step → IsEntered step table more → values_before j more ≡ values_before j table
 entered_stable step j table _ h entered_none = refl
@@ -89,36 +74,27 @@ entered_stable step j table _ h (entered_one name d at) = elim (cases_Bool (is_s
   | inl old ↦ rw old refl
   | inr new ↦ rw new (fun_ext (λ q. elim (cases_Bool (bytes_eq name q)) [
     | inl same ↦
-        let not : table q ≡ None = ap table (sym ((bytes_eq-Decides name q).0 same)) ∙ unknown table name new in
-        rw (same, not) (from_step j d (omega (arith, h, at)))
+        let not : table q ≡ None = ap table (sym ((bytes_eq-Decides name q).0 same)) ∙ not_some (table name) new in
+        rw (same, not) (rw (le-ltb d.step j (omega (arith, h, at))) refl)
     | inr other ↦ rw other refl
   ]))
 ]
 
 -- ---- a line
 
+entered_if : (b : Bool) (name : List ℕ) (d : Definition) (table : Definitions) → IsEntered d.step table (cond b (enter name d table) table)
+entered_if true name d table = entered_one name d refl
+entered_if false name d table = entered_none
+
 label_is : (label : Option (List ℕ)) (address step : ℕ) (table : Definitions) → IsEntered step table (label_entered label address step table)
 label_is None address step table = entered_none
-label_is (Some name) address step table = by_name (is_name name)
-  where
-    by_name : (b : Bool) → IsEntered step table (cond b (enter name (record { value = address; step = step }) table) table)
-    by_name true = entered_one name (record { value = address; step = step }) refl
-    by_name false = entered_none
+label_is (Some name) address step table = entered_if (is_name name) name (record { value = address; step = step }) table
 
 item_is : (p : Place) (step : ℕ) (item : Item) (table : Definitions) → IsEntered step table (item_entered p step item table)
-item_is p step Empty table = entered_none
-item_is p step (Bad f) table = entered_none
-item_is p step (Org f) table = entered_none
-item_is p step (Space f) table = entered_none
-item_is p step (Align f) table = entered_none
-item_is p step (Set name f) table = by_form (is_name name && is_some (value_of p.known f))
-  where
-    by_form : (b : Bool) → IsEntered step table (cond b (enter name (record { value = (settled (value_of p.known f)).value; step = step }) table) table)
-    by_form true = entered_one name (record { value = (settled (value_of p.known f)).value; step = step }) refl
-    by_form false = entered_none
-item_is p step (Data width fs) table = entered_none
-item_is p step (Ascii s) table = entered_none
-item_is p step (Instruction s) table = entered_none
+item_is p step (Set name f) table =
+    let v = value_of p.known f in
+    entered_if (is_name name && is_some v) name (record { value = (settled v).value; step = step }) table
+item_is p step _ table = entered_none
 
 label_values : (label : Option (List ℕ)) (p : Place) (step : ℕ) (table : Definitions) → values_of table ≡ p.known → values_of (label_entered label (address_at p) step table) ≡ (past_label label p).known
 label_values None p step table known = known
@@ -128,18 +104,11 @@ label_values (Some name) p step table known = elim (cases_Bool (is_name name)) [
 ]
 
 item_values : (p : Place) (step : ℕ) (item : Item) (table : Definitions) → values_of table ≡ p.known → values_of (item_entered p step item table) ≡ assigned p item
-item_values p step Empty table known = known
-item_values p step (Bad f) table known = known
-item_values p step (Org f) table known = known
-item_values p step (Space f) table known = known
-item_values p step (Align f) table known = known
 item_values p step (Set name f) table known = elim (cases_Bool (is_name name && is_some (value_of p.known f))) [
   | inl good ↦ rw good (entered_values name (record { value = (settled (value_of p.known f)).value; step = step }) table ∙ ap (define name (settled (value_of p.known f)).value) known)
   | inr bad ↦ rw bad known
 ]
-item_values p step (Data width fs) table known = known
-item_values p step (Ascii s) table known = known
-item_values p step (Instruction s) table known = known
+item_values p step _ table known = known
 
 pub line_values : (p : Place) (step : ℕ) (line : List ℕ) (table : Definitions) → values_of table ≡ p.known → values_of (line_entered p step line table) ≡ (past_line p line).known
 line_values p step line table known =
@@ -183,11 +152,6 @@ told_all all step p [] h = h
 told_all all step p (line ∷ lines) h = told_all all (step + 2) (past_line p line) lines h.2
 
 -- ---- the first pass
-
--- a fact of what a call gives, where it gives something, from another
-pub each : {X E : Type 0} (r : Result X E) (P Q : X → Type 0) → IfOk r P → ((x : X) → P x → Q x) → IfOk r Q
-each (Ok x) P Q h f = f x h
-each (Err e) P Q h f = tt
 
 pub place_same : (p q : Place) → p.location ≡ q.location → p.known ≡ q.known → p ≡ q
 place_same p q a b = rw (a, b) refl

@@ -1,5 +1,5 @@
 -- A line without fault leads to one source.
-use Rattle.std.proofs.Common.{◌≡◌, ℕ, List, [], Option, Some, None, Result, Ok, Err, IfOk, IfErr, refl, sym, ap, ◌∙◌}
+use Rattle.std.proofs.Common.{◌≡◌, ℕ, List, None, Result, Ok, Err, IfOk, IfErr, refl, sym, ap, ◌∙◌}
 use Rattle.std.specs.List.{flat_map}
 use Rattle.std.specs.Option.{option_map}
 use Rattle.std.specs.Int.{w32, to_le_bytes}
@@ -7,61 +7,27 @@ use Rattle.i9_model.specs.Image.{Part}
 use Rattle.i9_text.specs.FirstFault.{SaysAll, IsRefused}
 use Rattle.i9_text.proofs.FirstFaultOnce.{all_once, refused_once, never_both}
 use Rattle.i9_statement.specs.Noted.{kind_of}
-use Rattle.i9_statement.specs.Values.{Names, value_of}
-use Rattle.i9_statement.specs.Codes.{Stands}
+use Rattle.i9_statement.specs.Values.{Names}
 use Rattle.i9_statement.proofs.StatementWords.{stands_once}
-use Rattle.i9_asm.specs.Lines.{Item, Empty, Org, Space, Align, Set, Data, Ascii, Instruction, item_of, label_of}
-use Rattle.i9_asm.specs.Lines as items
-use Rattle.i9_asm.specs.Strings.{string_of}
-use Rattle.i9_asm.specs.Places.{Place, address_at, past_label, past_line, size_of, all_names}
-use Rattle.i9_asm.specs.Source.{zeros, low_bytes, data_value, Gives, gives_nothing, gives_instruction, gives_data, gives_characters, gives_zeros, gives_move, gives_alignment, gives_assignment, Source, fault_of, labelled_source, past_source, Assembles, start_source, segments_of}
+use Rattle.i9_asm.specs.Lines.{Item, item_of, label_of}
+use Rattle.i9_asm.specs.Places.{Place, address_at, past_label, past_line, all_names}
+use Rattle.i9_asm.specs.Source.{Gives, gives_nothing, gives_instruction, gives_data, gives_characters, gives_zeros, gives_move, gives_alignment, gives_assignment, Source, fault_of, labelled_source, past_source, Assembles, start_source, segments_of}
 use Rattle.i9_asm.specs.Laws.{IsAssembly, IsRefusedSource}
 use Rattle.i9_asm.specs.declared.error.AsmError.{AsmError}
 use Rattle.i9_asm.specs.declared.error.AsmError.TheVariants.{Bad, Memory}
 use Rattle.i9_asm.specs.Reading.{fault_place, Answers, IfBad}
 
--- ---- bytes
-
--- the bytes of an item, by the item
-GivenBy : Names → Place → Item → List ℕ → Type 0
-GivenBy names p Empty bs = bs ≡ []
-GivenBy names p (items.Bad k) bs = ⊥
-GivenBy names p (Org f) bs = bs ≡ []
-GivenBy names p (Space f) bs = bs ≡ zeros (size_of p (Space f))
-GivenBy names p (Align f) bs = bs ≡ []
-GivenBy names p (Set name f) bs = bs ≡ []
-GivenBy names p (Data width fs) bs = bs ≡ flat_map (λ f. low_bytes width (data_value width (value_of names f)).value) fs
-GivenBy names p (Ascii s) bs = string_of s ≡ Some bs
-GivenBy names p (Instruction s) bs = (ws : List ℕ) × Stands names (address_at p) s ws × (bs ≡ flat_map (to_le_bytes w32) ws)
-
-given_by : (names : Names) (p : Place) (item : Item) (bs : List ℕ) → Gives names p item bs → GivenBy names p item bs
-unfolding GivenBy
-given_by names p _ _ gives_nothing = refl
-given_by names p _ _ (gives_instruction s ws x) = (ws, x, refl)
-given_by names p _ _ (gives_data width fs) = refl
-given_by names p _ _ (gives_characters s cs e) = e
-given_by names p _ _ (gives_zeros f) = refl
-given_by names p _ _ (gives_move f) = refl
-given_by names p _ _ (gives_alignment f) = refl
-given_by names p _ _ (gives_assignment name f) = refl
-
-given_once : (names : Names) (p : Place) (item : Item) (bs cs : List ℕ) → GivenBy names p item bs → GivenBy names p item cs → bs ≡ cs
-unfolding GivenBy
-given_once names p Empty bs cs x y = x ∙ sym y
-given_once names p (items.Bad k) bs cs x y = absurd x
-given_once names p (Org f) bs cs x y = x ∙ sym y
-given_once names p (Space f) bs cs x y = x ∙ sym y
-given_once names p (Align f) bs cs x y = x ∙ sym y
-given_once names p (Set name f) bs cs x y = x ∙ sym y
-given_once names p (Data width fs) bs cs x y = x ∙ sym y
-given_once names p (Ascii s) bs cs x y = let e = sym x ∙ y in some_same bs cs e
-  where
-    some_same : (a b : List ℕ) → ◌≡◌ {A = Option (List ℕ)} (Some a) (Some b) → a ≡ b
-    some_same a b e = cc
-given_once names p (Instruction s) bs cs x y = x.2 ∙ ap (flat_map (to_le_bytes w32)) (stands_once names (address_at p) s x.0 y.0 x.1 y.1) ∙ sym y.2
-
+-- an item gives one list of bytes
 pub gives_once : (names : Names) (p : Place) (item : Item) (bs cs : List ℕ) → Gives names p item bs → Gives names p item cs → bs ≡ cs
-gives_once names p item bs cs x y = given_once names p item bs cs (given_by names p item bs x) (given_by names p item cs y)
+gives_once names p _ _ _ gives_nothing gives_nothing = refl
+gives_once names p _ _ _ (gives_instruction s ws x) (gives_instruction _ vs y) =
+    ap (flat_map (to_le_bytes w32)) (stands_once names (address_at p) s ws vs x y)
+gives_once names p _ _ _ (gives_data width fs) (gives_data _ _) = refl
+gives_once names p _ _ _ (gives_characters s bs x) (gives_characters _ cs y) = cc
+gives_once names p _ _ _ (gives_zeros f) (gives_zeros _) = refl
+gives_once names p _ _ _ (gives_move f) (gives_move _) = refl
+gives_once names p _ _ _ (gives_alignment f) (gives_alignment _) = refl
+gives_once names p _ _ _ (gives_assignment name f) (gives_assignment _ _) = refl
 
 pub assembles_once : (names : Names) (s : Source) (line : List ℕ) (t u : Source) → Assembles names s line t → Assembles names s line u → t ≡ u
 assembles_once names s line t u x y =

@@ -17,7 +17,7 @@ use Rattle.i9_statement.specs.Mnemonics.{mnemonic, mnemonic_text}
 use Rattle.i9_statement.specs.Fields.{fields_of, join_fields}
 use Rattle.i9_statement.specs.Instructions.{Fields, operand_fields}
 use Rattle.i9_statement.specs.Statements.{open_brace, close_brace, fields_text, spare_text, statement_text}
-use Rattle.i9_asm.specs.Lines.{code_len, without_comment, ends_head, labelled_by, labelled, Org, Data, Instruction, one_value, some_values, directive_of, item_by, item_of, label_of, Says}
+use Rattle.i9_asm.specs.Lines.{code_len, without_comment, ends_head, labelled_by, labelled, Org, Data, Instruction, one_value, some_values, directive_of, item_by, item_of, Says, code_of, Item}
 use Rattle.i9_statement.proofs.Cutting.{is_free, stops, before-cut, from-cut, free_by, all_append}
 use Rattle.i9_statement.proofs.ReadInstructions.{mnemonic_bytes}
 use Rattle.i9_statement.proofs.Classes.{apart_by, IsField}
@@ -121,27 +121,18 @@ spaced_rest [] true false t = refl
 spaced_rest [] false q t = refl
 spaced_rest (f ∷ fs) x q t = refl
 
--- an item behind its first word, in a line with a tail
-item_of-parts : (p : ℕ → Bool) (w t : List ℕ) (tail : Tail) → p 32 ≡ false → p 9 ≡ false → starts_item p w ≡ true → is_free ends_head w ≡ true → stops is_space (t ++ pad (leaves tail)) ≡ true
-    → list_all is_statement_byte (w ++ t) ≡ true → item_of ((w ++ t) ++ tail_text tail) ≡ item_by (w ++ (t ++ pad (leaves tail)))
-unfolding item_of
-item_of-parts p w t tail sp tb first head stop bytes =
+-- where its code begins with a word of the item, a line has no label, and the tail is cut off
+code_of-parts : (p : ℕ → Bool) (w t : List ℕ) (tail : Tail) → p 32 ≡ false → p 9 ≡ false → starts_item p w ≡ true → is_free ends_head w ≡ true → stops is_space (t ++ pad (leaves tail)) ≡ true
+    → list_all is_statement_byte (w ++ t) ≡ true → code_of ((w ++ t) ++ tail_text tail) ≡ record { label = None; rest = w ++ (t ++ pad (leaves tail)) }
+code_of-parts p w t tail sp tb first head stop bytes =
     let q = pad (leaves tail) in
-    ap (λ s. item_by (labelled (from is_in_word s)).rest) (without_comment-tail (w ++ t) tail bytes ∙ append_assoc w t q)
-    ∙ ap (λ s. item_by (labelled s).rest) (from_start p sp tb (w ++ (t ++ q)) (starts_append p w (t ++ q) first))
-    ∙ ap (λ l. item_by l.rest) (labelled-none w (t ++ q) head stop)
-
-label_of-parts : (p : ℕ → Bool) (w t : List ℕ) (tail : Tail) → p 32 ≡ false → p 9 ≡ false → starts_item p w ≡ true → is_free ends_head w ≡ true → stops is_space (t ++ pad (leaves tail)) ≡ true
-    → list_all is_statement_byte (w ++ t) ≡ true → label_of ((w ++ t) ++ tail_text tail) ≡ None
-label_of-parts p w t tail sp tb first head stop bytes =
-    let q = pad (leaves tail) in
-    ap (λ s. (labelled (from is_in_word s)).label) (without_comment-tail (w ++ t) tail bytes ∙ append_assoc w t q)
-    ∙ ap (λ s. (labelled s).label) (from_start p sp tb (w ++ (t ++ q)) (starts_append p w (t ++ q) first))
-    ∙ ap (λ l. l.label) (labelled-none w (t ++ q) head stop)
+    ap (λ s. labelled (from is_in_word s)) (without_comment-tail (w ++ t) tail bytes ∙ append_assoc w t q)
+    ∙ ap labelled (from_start p sp tb (w ++ (t ++ q)) (starts_append p w (t ++ q) first))
+    ∙ labelled-none w (t ++ q) head stop
 
 -- the statement of a valid instruction
 pub says_statement : (ip : ℕ) (i : Inst) (bits : ℕ) (tail : Tail) → bits < 2 ^ 32 → IsValid i → Says (statement_text ip i bits ++ tail_text tail) (Instruction (statement_text ip i bits ++ pad (leaves tail)))
-unfolding statement_text
+unfolding statement_text item_of
 says_statement ip i bits tail small v =
     let m = mnemonic_text i.op i.hint in
     let t = fields_text (operand_fields ip i) ++ spare_text bits in
@@ -149,10 +140,10 @@ says_statement ip i bits tail small v =
     let first = starts_append begins_name (mnemonic i.op) (cond i.hint (codes ".f") []) (letter_first i.op) in
     let head = all_append (λ b. not (ends_head b)) (mnemonic i.op) (cond i.hint (codes ".f") []) (head_free (mnemonic i.op) (mnemonic_bytes i.op)) (suffix_head i.hint) in
     let stop = spaced_rest (operand_fields ip i) (eqb bits 0) (leaves tail) (open_brace ∷ (digits 16 true bits ++ close_brace ∷ [])) in
-    let bytes = statement_bytes ip i bits small v in
+    let code = code_of-parts begins_name m t tail refl refl first head stop (statement_bytes ip i bits small v) in
     record {
-      item = item_of-parts begins_name m t tail refl refl first head stop bytes ∙ item_by-letter (m ++ (t ++ q)) (starts_append begins_name m (t ++ q) first) ∙ ap Instruction (sym (append_assoc m t q));
-      label = label_of-parts begins_name m t tail refl refl first head stop bytes;
+      item = ap (λ l. item_by l.rest) code ∙ item_by-letter (m ++ (t ++ q)) (starts_append begins_name m (t ++ q) first) ∙ ap Instruction (sym (append_assoc m t q));
+      label = ap (λ l. l.label) code;
     }
 
 -- ---- directives with one operand
@@ -177,35 +168,29 @@ blank_head (b ∷ w) h =
     let e = or_parts (is_blank b) (is_byte 58 b) (not-true (ends_head b) parts.0) in
     rw e.0 (blank_head w parts.1)
 
--- what a directive with this operand says
-pub says_directive : (d f : List ℕ) (tail : Tail) → IsDirective d → IsField f → Says ((d ++ 32 ∷ f) ++ tail_text tail) (directive_of d (32 ∷ f ++ pad (leaves tail)))
-says_directive d f tail h field =
-    let q = pad (leaves tail) in
-    let bytes = all_append is_statement_byte d (32 ∷ f) h.bytes (operand_statement f field.bytes) in
+-- what a directive with this operand says, where its name says so of any operands
+says_directive : (d f : List ℕ) (tail : Tail) (item : Fields → Item) → IsDirective d → ((rest : List ℕ) → directive_of d rest ≡ item (fields_of rest)) → IsField f
+    → Says ((d ++ 32 ∷ f) ++ tail_text tail) (item (f ∷ []))
+unfolding item_of join_fields
+says_directive d f tail item h is field =
+    let t = 32 ∷ f ++ pad (leaves tail) in
+    let code = code_of-parts is_dot d (32 ∷ f) tail refl refl h.dot h.head refl (all_append is_statement_byte d (32 ∷ f) h.bytes (operand_statement f field.bytes)) in
     let free = blank_head d h.head in
     record {
-      item = item_of-parts is_dot d (32 ∷ f) tail refl refl h.dot h.head refl bytes
-          ∙ item_by-dot (d ++ (32 ∷ f ++ q)) (starts_append is_dot d (32 ∷ f ++ q) h.dot)
-          ∙ ap (λ s. directive_of s (from is_blank (d ++ (32 ∷ f ++ q)))) (before-cut is_blank d (32 ∷ f ++ q) free refl)
-          ∙ ap (directive_of d) (from-cut is_blank d (32 ∷ f ++ q) free refl);
-      label = label_of-parts is_dot d (32 ∷ f) tail refl refl h.dot h.head refl bytes;
+      item = ap (λ l. item_by l.rest) code
+          ∙ item_by-dot (d ++ t) (starts_append is_dot d t h.dot)
+          ∙ ap (λ s. directive_of s (from is_blank (d ++ t))) (before-cut is_blank d t free refl)
+          ∙ ap (directive_of d) (from-cut is_blank d t free refl)
+          ∙ is t
+          ∙ ap item (fields_of-text (f ∷ []) (leaves tail) (field, tt));
+      label = ap (λ l. l.label) code;
     }
 
-one_field : (f : List ℕ) (q : Bool) → IsField f → fields_of (32 ∷ f ++ pad q) ≡ f ∷ []
-unfolding join_fields
-one_field f q h = fields_of-text (f ∷ []) q (h, tt)
-
 pub says_word : (f : List ℕ) (tail : Tail) → IsField f → Says ((codes ".word" ++ 32 ∷ f) ++ tail_text tail) (Data 4 (f ∷ []))
-says_word f tail h =
-    let s = says_directive (codes ".word") f tail (record { dot = refl; head = refl; bytes = refl }) h in
-    record { item = s.item ∙ ap (some_values 4) (one_field f (leaves tail) h); label = s.label }
+says_word f tail h = says_directive (codes ".word") f tail (some_values 4) (record { dot = refl; head = refl; bytes = refl }) (λ rest. refl) h
 
 pub says_byte : (f : List ℕ) (tail : Tail) → IsField f → Says ((codes ".byte" ++ 32 ∷ f) ++ tail_text tail) (Data 1 (f ∷ []))
-says_byte f tail h =
-    let s = says_directive (codes ".byte") f tail (record { dot = refl; head = refl; bytes = refl }) h in
-    record { item = s.item ∙ ap (some_values 1) (one_field f (leaves tail) h); label = s.label }
+says_byte f tail h = says_directive (codes ".byte") f tail (some_values 1) (record { dot = refl; head = refl; bytes = refl }) (λ rest. refl) h
 
 pub says_org : (f : List ℕ) (tail : Tail) → IsField f → Says ((codes ".org" ++ 32 ∷ f) ++ tail_text tail) (Org f)
-says_org f tail h =
-    let s = says_directive (codes ".org") f tail (record { dot = refl; head = refl; bytes = refl }) h in
-    record { item = s.item ∙ ap (one_value Org) (one_field f (leaves tail) h); label = s.label }
+says_org f tail h = says_directive (codes ".org") f tail (one_value Org) (record { dot = refl; head = refl; bytes = refl }) (λ rest. refl) h

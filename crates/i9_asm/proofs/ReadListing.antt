@@ -1,6 +1,6 @@
 -- The lines of a listing assemble to the bytes that they were made of.
-use Rattle.std.proofs.Common.{◌≡◌, ℕ, zero, suc, ◌+◌, ◌*◌, ◌%◌, ◌^◌, ◌<◌, ◌≤◌, Bool, true, false, cond, eqb, ltb, ◌&&◌, List, [], ◌∷◌, ◌++◌, length, take, drop, get_or, Some, None, Result, Ok, Err, refl, sym, ap, subst, ◌∙◌, arith, append_assoc, add-zero, inl, inr}
-use Rattle.std.specs.Prelude.{codes, is_some, slice_index}
+use Rattle.std.proofs.Common.{◌≡◌, ℕ, zero, suc, ◌+◌, ◌*◌, ◌%◌, ◌^◌, ◌<◌, ◌≤◌, Bool, true, false, cond, eqb, ltb, List, [], ◌∷◌, ◌++◌, length, take, drop, get_or, Some, None, Result, Ok, Err, refl, sym, ap, subst, ◌∙◌, arith, append_assoc, add-zero, inl, inr}
+use Rattle.std.specs.Prelude.{codes}
 use Rattle.std.specs.List.{list_all, flat_map, AllByRecursion}
 use Rattle.std.specs.Int.{w32, to_le_bytes, from_le_bytes}
 use Rattle.std.specs.Int.Bits.{bit_and}
@@ -9,6 +9,7 @@ use Rattle.std.proofs.Math.Seq.{take-add}
 use Rattle.std.proofs.lemmas.List.{append-nil, length-take-le, length-drop, length-append, take-append-drop}
 use Rattle.i9_text.specs.FirstFault.{SaysAll}
 use Rattle.i9_text.proofs.FirstFaultOnce.{SaysAll-append}
+use Rattle.std.proofs.lemmas.Bool.Decides.{nat_tests}
 use Rattle.std.proofs.lemmas.Nat.{and_le_l, le_bytes_4}
 use Rattle.i9_isa.specs.declared.inst.Inst.{Inst}
 use Rattle.i9_isa.specs.declared.inst.BadWord.{BadWord}
@@ -18,8 +19,8 @@ use Rattle.i9_decode.specs.Ignored.{ignored_bits}
 use Rattle.i9_decode.proofs.ValidWords.{encodes_valid}
 use Rattle.i9_text.specs.Text.{space, lines_of}
 use Rattle.i9_text.specs.Written.{word_text, byte_text}
-use Rattle.i9_statement.specs.Noted.{least}
-use Rattle.i9_statement.specs.Values.{Names, settled}
+use Rattle.i9_statement.specs.declared.values.Value.TheVariants.{Number}
+use Rattle.i9_statement.specs.Values.{Names, value_of, settled}
 use Rattle.i9_statement.specs.NumberText.{hex_text, hex_byte_text}
 use Rattle.i9_model.specs.Image.{Part}
 use Rattle.i9_hex.specs.Put.{with_part}
@@ -27,67 +28,74 @@ use Rattle.i9_statement.specs.Statements.{statement_of, statement_text}
 use Rattle.i9_asm.specs.Lines.{Item, Empty, Org, Data, Instruction, Says, item_of, labelled, code_len}
 use Rattle.i9_statement.specs.Codes.{Stands, taken}
 use Rattle.i9_asm.specs.Places.{is_ascii, all_names, no_names, if_fine, Place, address_at, location_count, statement_size, size_of, moved_to, assigned}
-use Rattle.i9_asm.specs.Source.{start_source, segments_of, Gives, gives_nothing, gives_instruction, gives_data, gives_move, item_fault, Source, most_bytes, line_fault, Assembles, data_value, fits_width, low_bytes, past_bytes, HasRoom, AddsBytes}
+use Rattle.i9_asm.specs.Source.{start_source, segments_of, Gives, gives_nothing, gives_instruction, gives_data, gives_move, item_fault, Source, most_bytes, line_fault, Assembles, fits_width, low_bytes, past_bytes, HasRoom, AddsBytes}
 use Rattle.i9_asm.specs.Listing.{text_by, text_of, printed_words, printed_bytes, word_at, whole_size, is_single, line_size, whole_text, said_text, noted_words, first_line, Lists, lists_none, lists_line, org_line, ListsAll, lists_all, lists_run}
 use Rattle.i9_hex.specs.Runs.{IsLow, IsRun, bytes_in}
 use Rattle.i9_asm.specs.Laws.{IsAssembly}
-use Rattle.i9_statement.proofs.Cutting.{all_by}
-use Rattle.i9_text.proofs.WrittenLines.{is_plain_byte, is_plain, ascii-plain, plain-append, plain-word_text, plain-byte_text, IsPlain as IsPlainLine, lines_of-written}
+use Rattle.i9_statement.proofs.Cutting.{all_by, all_append}
+use Rattle.i9_text.proofs.WrittenLines.{is_plain_byte, is_plain, ascii-plain, plain-append, plain-word_text, plain-byte_text, IsPlain, lines_of-written}
 use Rattle.i9_hex.specs.Writing.{with_line_feed}
 use Rattle.i9_statement.proofs.ReadValues.{value_of-hex, value_of-hex_byte}
-use Rattle.i9_statement.proofs.Classes.{apart_by, hex_field, hex_byte_field}
+use Rattle.i9_statement.proofs.Classes.{IsField, hex_field, hex_byte_field}
 use Rattle.i9_statement.proofs.ReadFields.{pad}
 use Rattle.i9_statement.proofs.ReadStatements.{statement_of-text}
-use Rattle.i9_statement.proofs.StatementBytes.{is_statement_byte, low_statement, statement_bytes, operand_statement}
+use Rattle.i9_statement.proofs.StatementBytes.{is_statement_byte, statement_bytes, operand_statement}
 use Rattle.i9_statement.proofs.StatementWords.{and_again, one_or_two, statement_stands}
 use Rattle.i9_asm.proofs.ReadLines.{Tail, NoTail, Comment, tail_text, leaves, says_statement, says_word, says_byte, says_org}
 
 -- ---- one line
 
--- the bytes of a printed statement are plain
-plain_by : (b : ℕ) → ltb b 128 ≡ true → eqb b 10 ≡ false → eqb b 13 ≡ false → is_plain_byte b ≡ true
-plain_by b ascii feed return = rw (ascii, feed, return) refl
+plain_statement_byte : (b : ℕ) → is_statement_byte b ≡ true → is_plain_byte b ≡ true
+plain_statement_byte b h = grind (arith, nat_tests)
 
 statement_plain : (w : List ℕ) → list_all is_statement_byte w ≡ true → is_plain w ≡ true
-statement_plain w h =
-    all_by is_statement_byte is_plain_byte (λ b in_q. plain_by b (lt-ltb b 128 (low_statement b in_q)) (apart_by is_statement_byte 10 b refl in_q) (apart_by is_statement_byte 13 b refl in_q)) w h
+statement_plain w h = all_by is_statement_byte is_plain_byte plain_statement_byte w h
 
--- an item that gives bytes and no more
-record IsPlain (names : Names) (p : Place) (item : Item) (bs : List ℕ) : Type 0 where
+-- a line that says an item which gives bytes and no more
+record LineSays (names : Names) (p : Place) (line bs : List ℕ) : Type 0 where
+  item : Item
+  says : Says line item
+  clean : is_plain line ≡ true
   gives : Gives names p item bs
   sound : item_fault names p item ≡ None
   size : size_of p item ≡ length bs
   stays : moved_to p item ≡ None
   known : assigned p item ≡ p.known
 
-plain_assembles : (names : Names) (s : Source) (line bs : List ℕ) (item : Item) → Says line item → is_plain line ≡ true → IsPlain names s.place item bs → HasRoom s (length bs) → Assembles names s line (past_bytes s bs)
+said_assembles : (names : Names) (s : Source) (line bs : List ℕ) → LineSays names s.place line bs → HasRoom s (length bs) → Assembles names s line (past_bytes s bs)
 unfolding line_fault
-plain_assembles names s line bs item says clean plain room =
-    let ascii : list_all is_ascii line ≡ true = ascii-plain line clean in
+said_assembles names s line bs said room =
+    let ascii : list_all is_ascii line ≡ true = ascii-plain line said.clean in
     let inside : ltb (2 ^ 32) (s.place.location + length bs) ≡ false = le-ltb _ _ room.inside in
     let few : ltb most_bytes (s.total + length bs) ≡ false = le-ltb _ _ room.few in
     let next : (s.place.location + length bs) % location_count ≡ s.place.location + length bs = omega (arith, room.inside) in
     record {
       bytes = bs;
-      sound = rw (ascii, says.label, says.item, plain.sound, plain.size, inside, few) refl;
-      gives = rw (says.label, says.item) plain.gives;
-      after = rw (says.label, says.item, ascii, plain.stays, plain.size, plain.known, next) refl;
+      sound = rw (ascii, said.says.label, said.says.item, said.sound, said.size, inside, few) refl;
+      gives = rw (said.says.label, said.says.item) said.gives;
+      after = rw (said.says.label, said.says.item, ascii, said.stays, said.size, said.known, next) refl;
     }
 
 -- ---- the lines of a run
 
--- `.word` with a number
-plain_word : (names : Names) (p : Place) (w : ℕ) → w < 2 ^ 32 → IsPlain names p (Data 4 (hex_text w ∷ [])) (to_le_bytes w32 w)
-plain_word names p w h =
-    let v = value_of-hex names w h in
-    let fits : fits_width 4 w ≡ true = rw (lt-ltb w (2 ^ 32) h) refl in
-    record {
-      gives = subst (λ bs. Gives names p (Data 4 (hex_text w ∷ [])) bs) (ap (λ o. flat_map (λ n. low_bytes 4 n) ((data_value 4 o).value ∷ [])) v ∙ rw fits refl) (gives_data 4 (hex_text w ∷ []));
-      sound = ap (λ o. least (data_value 4 o).fault None) v ∙ rw fits refl;
-      size = ap (λ o. cond (is_some o && true) 4 0) (value_of-hex no_names w h);
-      stays = refl;
-      known = refl;
-    }
+-- a number of so many bytes
+data_line : (names : Names) (p : Place) (line : List ℕ) (width n : ℕ) (f bs : List ℕ) → Says line (Data width (f ∷ [])) → is_plain line ≡ true
+    → ((ns : Names) → value_of ns f ≡ Some (Number n)) → fits_width width n ≡ true → low_bytes width n ≡ bs → length bs ≡ width → LineSays names p line bs
+data_line names p line width n f bs says clean read fits is size = record {
+  item = Data width (f ∷ []);
+  says = says;
+  clean = clean;
+  gives = subst (Gives names p (Data width (f ∷ []))) (rw (read names) (rw fits (append-nil (low_bytes width n) ∙ is))) (gives_data width (f ∷ []));
+  sound = rw (read names) (rw fits refl);
+  size = rw (read no_names) (omega (arith, size));
+  stays = refl;
+  known = refl;
+}
+
+-- a line with a directive is plain, where its tail is
+directive_plain : (d f : List ℕ) (t : Tail) → list_all is_statement_byte d ≡ true → IsField f → is_plain (tail_text t) ≡ true → is_plain ((d ++ f) ++ tail_text t) ≡ true
+directive_plain d f t bytes field clean =
+    plain-append (d ++ f) (tail_text t) (statement_plain (d ++ f) (all_append is_statement_byte d f bytes (operand_statement f field.bytes))) clean
 
 -- so many bytes have the words of an instruction
 taken_length : (i : Inst) (w0 w1 : ℕ) → 4 * words_of i ≡ length (flat_map (to_le_bytes w32) (taken w0 w1 i))
@@ -96,29 +104,7 @@ taken_length i w0 w1 = elim (one_or_two i.ea.mode) [
   | inr two ↦ rw two refl
 ]
 
--- an instruction
-plain_instruction : (names : Names) (p : Place) (i : Inst) (w0 w1 : ℕ) (q : Bool) → p.location < 2 ^ 32 → w0 < 2 ^ 32 → w1 < 2 ^ 32 → decoded w0 w1 ≡ Ok i
-    → IsPlain names p (Instruction (statement_text p.location i (bit_and w0 (ignored_bits i)) ++ pad q)) (flat_map (to_le_bytes w32) (taken w0 w1 i))
-plain_instruction names p i w0 w1 q low h0 h1 is =
-    let bits = bit_and w0 (ignored_bits i) in
-    let v = encodes_valid w0 w1 i h1 (decoded_encodes w0 w1 i is) in
-    let small : bits < 2 ^ 32 = omega (arith, and_le_l w0 (ignored_bits i)) in
-    let text = statement_text p.location i bits ++ pad q in
-    let here : p.location ≡ address_at p = omega arith in
-    let read = λ (ns : Names). ap (λ a. statement_of a ns text) (sym here) ∙ statement_of-text p.location ns i bits q low small v (and_again w0 (ignored_bits i)) in
-    record {
-      gives = gives_instruction text (taken w0 w1 i) (subst (λ a. Stands names a text (taken w0 w1 i)) here (statement_stands names p.location w0 w1 i q low h0 h1 is));
-      sound = ap (λ n. n.fault) (read names);
-      size = ap statement_size (read no_names) ∙ taken_length i w0 w1;
-      stays = refl;
-      known = refl;
-    }
-
 -- ---- bytes of a run
-
--- four bytes as a word and back
-word_bytes : (bs : List ℕ) → length bs ≡ 4 → ((i : ℕ) → get_or bs i 0 < 256) → to_le_bytes w32 (from_le_bytes w32 bs) ≡ bs
-word_bytes bs len low = le_bytes_4 bs (from_le_bytes w32 bs) len low refl
 
 low_at : (bs : List ℕ) → IsLow bs → (i : ℕ) → get_or bs i 0 < 256
 low_at [] h i = omega arith
@@ -138,56 +124,29 @@ low_drop (suc n) (b ∷ bs) h = low_drop n bs h.1
 -- the word at a place that is there
 word_at-bytes : (k : ℕ) (bs : List ℕ) → k + 4 ≤ length bs → IsLow bs → to_le_bytes w32 (word_at k bs) ≡ take 4 (drop k bs)
 word_at-bytes k bs room low =
-    word_bytes (take 4 (drop k bs)) (length-take-le 4 (drop k bs) (omega (arith, length-drop k bs))) (low_at (take 4 (drop k bs)) (low_take 4 (drop k bs) (low_drop k bs low)))
+    le_bytes_4 (take 4 (drop k bs)) (word_at k bs) (length-take-le 4 (drop k bs) (omega (arith, length-drop k bs))) (low_at (take 4 (drop k bs)) (low_take 4 (drop k bs) (low_drop k bs low))) refl
 
 word_small : (xs : List ℕ) → ((i : ℕ) → get_or xs i 0 < 256) → from_le_bytes w32 xs < 2 ^ 32
-word_small xs h =
-    let h0 : slice_index xs 0 < 256 = h 0 in
-    let h1 : slice_index xs 1 < 256 = h 1 in
-    let h2 : slice_index xs 2 < 256 = h 2 in
-    let h3 : slice_index xs 3 < 256 = h 3 in
-    omega arith
+word_small xs h = omega (arith, h 0, h 1, h 2, h 3)
 
 word_at-small : (k : ℕ) (bs : List ℕ) → IsLow bs → word_at k bs < 2 ^ 32
 word_at-small k bs low = word_small (take 4 (drop k bs)) (low_at (take 4 (drop k bs)) (low_take 4 (drop k bs) (low_drop k bs low)))
-
--- a line that says an item which gives bytes and no more
-record LineSays (names : Names) (p : Place) (line bs : List ℕ) : Type 0 where
-  item : Item
-  says : Says line item
-  clean : is_plain line ≡ true
-  plain : IsPlain names p item bs
 
 -- a byte
 byte_line : (names : Names) (p : Place) (b : ℕ) (t : Tail) → b < 256 → is_plain (tail_text t) ≡ true → LineSays names p ((codes ".byte " ++ hex_byte_text b) ++ tail_text t) (b ∷ [])
 byte_line names p b t h clean =
     let f = hex_byte_text b in
-    let v = value_of-hex_byte names b h in
-    let fits : fits_width 1 b ≡ true = rw (lt-ltb b 256 h) refl in
+    let field = hex_byte_field b h in
     let low : b % 256 ≡ b = omega arith in
-    record {
-      item = Data 1 (f ∷ []);
-      says = says_byte f t (hex_byte_field b h);
-      clean = plain-append (codes ".byte " ++ f) (tail_text t) (statement_plain (codes ".byte " ++ f) (operand_statement f (hex_byte_field b h).bytes)) clean;
-      plain = record {
-        gives = subst (λ bs. Gives names p (Data 1 (f ∷ [])) bs) (ap (λ o. flat_map (λ n. low_bytes 1 n) ((data_value 1 o).value ∷ [])) v ∙ rw (fits, low) refl) (gives_data 1 (f ∷ []));
-        sound = ap (λ o. least (data_value 1 o).fault None) v ∙ rw fits refl;
-        size = ap (λ o. cond (is_some o && true) 1 0) (value_of-hex_byte no_names b h);
-        stays = refl;
-        known = refl;
-      };
-    }
+    let plain = directive_plain (codes ".byte ") f t refl field clean in
+    data_line names p _ 1 b f (b ∷ []) (says_byte f t field) plain (λ ns. value_of-hex_byte ns b h) (rw (lt-ltb b 256 h) refl) (rw low refl) refl
 
 -- a word
 word_line : (names : Names) (p : Place) (w : ℕ) (t : Tail) → w < 2 ^ 32 → is_plain (tail_text t) ≡ true → LineSays names p ((codes ".word " ++ hex_text w) ++ tail_text t) (to_le_bytes w32 w)
 word_line names p w t h clean =
     let f = hex_text w in
-    record {
-      item = Data 4 (f ∷ []);
-      says = says_word f t (hex_field w);
-      clean = plain-append (codes ".word " ++ f) (tail_text t) (statement_plain (codes ".word " ++ f) (operand_statement f (hex_field w).bytes)) clean;
-      plain = plain_word names p w h;
-    }
+    let plain = directive_plain (codes ".word ") f t refl (hex_field w) clean in
+    data_line names p _ 4 w f (to_le_bytes w32 w) (says_word f t (hex_field w)) plain (λ ns. value_of-hex ns w h) (rw (lt-ltb w (2 ^ 32) h) refl) refl refl
 
 -- an instruction
 instruction_line : (names : Names) (p : Place) (i : Inst) (w0 w1 : ℕ) (t : Tail) → p.location < 2 ^ 32 → w0 < 2 ^ 32 → w1 < 2 ^ 32 → decoded w0 w1 ≡ Ok i → is_plain (tail_text t) ≡ true
@@ -196,11 +155,20 @@ instruction_line names p i w0 w1 t low h0 h1 is clean =
     let bits = bit_and w0 (ignored_bits i) in
     let v = encodes_valid w0 w1 i h1 (decoded_encodes w0 w1 i is) in
     let small : bits < 2 ^ 32 = omega (arith, and_le_l w0 (ignored_bits i)) in
+    let q = leaves t in
+    let statement = statement_text p.location i bits in
+    let text = statement ++ pad q in
+    let here : p.location ≡ address_at p = omega arith in
+    let read = λ (ns : Names). ap (λ a. statement_of a ns text) (sym here) ∙ statement_of-text p.location ns i bits q low small v (and_again w0 (ignored_bits i)) in
     record {
-      item = Instruction (statement_text p.location i bits ++ pad (leaves t));
+      item = Instruction text;
       says = says_statement p.location i bits t small v;
-      clean = plain-append (statement_text p.location i bits) (tail_text t) (statement_plain (statement_text p.location i bits) (statement_bytes p.location i bits small v)) clean;
-      plain = plain_instruction names p i w0 w1 (leaves t) low h0 h1 is;
+      clean = plain-append statement (tail_text t) (statement_plain statement (statement_bytes p.location i bits small v)) clean;
+      gives = gives_instruction text (taken w0 w1 i) (subst (λ a. Stands names a text (taken w0 w1 i)) here (statement_stands names p.location w0 w1 i q low h0 h1 is));
+      sound = ap (λ n. n.fault) (read names);
+      size = ap statement_size (read no_names) ∙ taken_length i w0 w1;
+      stays = refl;
+      known = refl;
     }
 
 -- two words that are there
@@ -272,7 +240,7 @@ line_assembles names s b bs low room few =
     let n = line_size a xs in
     let said = line_says names s.place b bs (comment_of a xs) low room.inside (comment_plain a xs) in
     let len : length (take n xs) ≡ n = length-take-le n xs few in
-    plain_assembles names s (first_line a xs) (take n xs) said.item said.says said.clean said.plain (record { inside = omega (arith, room.inside); few = omega (arith, room.few) })
+    said_assembles names s (first_line a xs) (take n xs) said (record { inside = omega (arith, room.inside); few = omega (arith, room.few) })
 
 pub line_size-le : (a : ℕ) (b : ℕ) (bs : List ℕ) → line_size a (b ∷ bs) ≤ length (b ∷ bs)
 line_size-le a b bs = elim (cases_Bool (is_single a (b ∷ bs))) [
@@ -379,7 +347,7 @@ listing_is_assembly runs lines listed h few =
 
 -- ---- the text of a listing
 
-run_plain : (a : ℕ) (bs : List ℕ) (lines : List (List ℕ)) → Lists a bs lines → IsLow bs → a + length bs ≤ 2 ^ 32 → AllByRecursion IsPlainLine lines
+run_plain : (a : ℕ) (bs : List ℕ) (lines : List (List ℕ)) → Lists a bs lines → IsLow bs → a + length bs ≤ 2 ^ 32 → AllByRecursion IsPlain lines
 run_plain _ _ _ (lists_none a) low room = tt
 run_plain _ _ _ (lists_line a b bs lines rest) low room =
     let xs = b ∷ bs in
@@ -390,11 +358,11 @@ run_plain _ _ _ (lists_line a b bs lines rest) low room =
       run_plain (a + n) (drop n xs) lines rest (low_drop n xs low) (omega (arith, length-drop n xs)),
     )
 
-all_lines : (xs ys : List (List ℕ)) → AllByRecursion IsPlainLine xs → AllByRecursion IsPlainLine ys → AllByRecursion IsPlainLine (xs ++ ys)
+all_lines : (xs ys : List (List ℕ)) → AllByRecursion IsPlain xs → AllByRecursion IsPlain ys → AllByRecursion IsPlain (xs ++ ys)
 all_lines [] ys h g = g
 all_lines (x ∷ xs) ys h g = (h.0, all_lines xs ys h.1 g)
 
-listing_plain : (runs : List Part) (lines : List (List ℕ)) → ListsAll runs lines → AllByRecursion IsRun runs → AllByRecursion IsPlainLine lines
+listing_plain : (runs : List Part) (lines : List (List ℕ)) → ListsAll runs lines → AllByRecursion IsRun runs → AllByRecursion IsPlain lines
 listing_plain _ _ lists_all h = tt
 listing_plain _ _ (lists_run a bs runs lines more run rest) h =
     (record { test = org_plain a }, all_lines lines more (run_plain a bs lines run h.0.low h.0.inside) (listing_plain runs more rest h.1))
@@ -404,7 +372,7 @@ blank_assembles : (names : Names) (s : Source) → HasRoom s 0 → Assembles nam
 unfolding item_of labelled code_len
 blank_assembles names s room =
     subst (λ t. Assembles names s [] t) (past_nothing s)
-    (plain_assembles names s [] [] Empty (record { item = refl; label = refl }) refl (record { gives = gives_nothing; sound = refl; size = refl; stays = refl; known = refl }) room)
+    (said_assembles names s [] [] (record { item = Empty; says = record { item = refl; label = refl }; clean = refl; gives = gives_nothing; sound = refl; size = refl; stays = refl; known = refl }) room)
 
 -- a listing with a line feed behind each line is a source without fault, and its segments are the runs
 pub text_is_assembly : (runs : List Part) (lines : List (List ℕ)) → ListsAll runs lines → AllByRecursion IsRun runs → bytes_in runs ≤ most_bytes → IsAssembly (lines_of (flat_map with_line_feed lines)) runs
@@ -428,4 +396,4 @@ text_of-adds names ip w0 w1 low h0 h1 s at room =
     let r = decoded w0 w1 in
     let said : LineSays names s.place (text_by s.place.location w0 r ++ tail_text NoTail) (printed_bytes w0 w1) = adds_by names w0 w1 r s (omega (arith, at)) h0 h1 refl in
     subst (λ line. Assembles names s line (past_bytes s (printed_bytes w0 w1))) (append-nil (text_by s.place.location w0 r) ∙ ap (λ a. text_by a w0 r) at)
-    (plain_assembles names s _ (printed_bytes w0 w1) said.item said.says said.clean said.plain room)
+    (said_assembles names s _ (printed_bytes w0 w1) said room)

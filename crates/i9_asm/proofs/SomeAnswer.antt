@@ -13,9 +13,9 @@ use Rattle.i9_asm.specs.Lines.{Item, Empty, Org, Space, Align, Set, Data, Ascii,
 use Rattle.i9_asm.specs.Lines as items
 use Rattle.i9_asm.specs.Strings.{string_of}
 use Rattle.i9_asm.specs.Places.{Place, address_at, past_line, size_of, all_names}
-use Rattle.i9_asm.specs.Source.{zeros, low_bytes, data_value, item_fault, front_fault, room_fault, rest_fault, line_fault, fault_of, labelled_source, past_source, start_source, segments_of, Source, Assembles, Gives, gives_nothing, gives_instruction, gives_data, gives_characters, gives_zeros, gives_move, gives_alignment, gives_assignment}
-use Rattle.i9_asm.specs.Laws.{IsAssembly, IsRefusedSource}
-use Rattle.i9_asm.proofs.TakenLines.{least_left, least_right}
+use Rattle.i9_asm.specs.Source.{zeros, low_bytes, data_value, item_fault, line_fault, fault_of, labelled_source, past_source, start_source, segments_of, Source, Assembles, Gives, gives_nothing, gives_instruction, gives_data, gives_characters, gives_zeros, gives_move, gives_alignment, gives_assignment}
+use Rattle.i9_asm.specs.Laws.{IsAssembly, IsRefusedSource, item_place}
+use Rattle.i9_asm.proofs.TakenLines.{line_sound}
 
 -- ---- a line
 
@@ -40,14 +40,9 @@ some_bytes names p (Instruction s) h =
 
 -- a line without fault leads to a source
 some_source : (names : Names) (s : Source) (line : List ℕ) → line_fault names s line ≡ None → (t : Source) × Assembles names s line t
-unfolding line_fault
 some_source names s line h =
-    let l = labelled_source (label_of line) s in
-    let front = front_fault s.place line in
-    let rest = least_right front (rest_fault names l (item_of line)) (least_left front (rest_fault names l (item_of line)) h) h in
-    let item = least_left (item_fault names l.place (item_of line)) (room_fault l (size_of l.place (item_of line))) rest in
-    let given = some_bytes names l.place (item_of line) item in
-    (past_source l (past_line s.place line) (item_of line) given.0, record { bytes = given.0; sound = h; gives = given.1; after = refl })
+    let given = some_bytes names (item_place s line) (item_of line) (line_sound names s line h).item in
+    (past_source (labelled_source (label_of line) s) (past_line s.place line) (item_of line) given.0, record { bytes = given.0; sound = h; gives = given.1; after = refl })
 
 -- ---- a source
 

@@ -1,10 +1,11 @@
 -- What a line does, from what its parts do.
-use Rattle.std.proofs.Common.{◌≡◌, ℕ, ◌+◌, Bool, true, false, not, List, Option, Some, None, Result, Ok, Err, refl, sym, ap, subst, ◌∙◌}
+use Rattle.std.proofs.Common.{◌≡◌, ℕ, ◌+◌, ◌^◌, Bool, true, false, not, ltb, List, Option, Some, None, Result, Ok, Err, refl, sym, ap, subst, ◌∙◌}
 use Rattle.std.specs.Prelude.{is_some, if◌then◌else◌}
 use Rattle.std.specs.Option.{option_map}
 use Rattle.std.specs.List.{list_all}
+use Rattle.std.proofs.lemmas.Bool.{ltb-false, not-false, true_from_ne_false}
 use Rattle.i9_statement.specs.declared.fault.Fault.{Fault}
-use Rattle.i9_statement.specs.declared.fault.Fault.TheVariants.{Form, NameTwice}
+use Rattle.i9_statement.specs.declared.fault.Fault.TheVariants.{Form, NameTwice, Range, TooMany}
 use Rattle.i9_statement.specs.Noted.{kind_of, least}
 use Rattle.i9_statement.specs.Values.{Names, is_name}
 use Rattle.i9_asm.specs.declared.source.Source as code
@@ -13,9 +14,9 @@ use Rattle.i9_asm.specs.declared.source.LineError.{LineError}
 use Rattle.i9_asm.specs.declared.source.LineError.TheVariants as lines
 use Rattle.i9_asm.specs.Lines.{Item, item_of, label_of}
 use Rattle.i9_asm.specs.Places.{Place, no_names, is_ascii, is_label, moved_to, size_of, past_item, effect_of}
-use Rattle.i9_asm.specs.Source.{Source, item_fault, fault_if, label_fault, front_fault, room_fault, rest_fault, line_fault, labelled_source, begun, past_source}
+use Rattle.i9_asm.specs.Source.{Source, item_fault, fault_if, label_fault, front_fault, room_fault, rest_fault, line_fault, labelled_source, begun, past_source, most_bytes, HasRoom}
 use Rattle.i9_asm.specs.Reading.{source_at, GrowsBy, Grows, Continues, Takes, Faults, error_at, fault_place, IfBad}
-use Rattle.i9_asm.specs.Laws.{IsRefusedSource}
+use Rattle.i9_asm.specs.Laws.{IsRefusedSource, item_place}
 
 -- ---- an item
 
@@ -73,25 +74,46 @@ least_left (Some a) (Some b) h = by_first _ h
 pub least_right : (a b : Option Fault) → a ≡ None → least a b ≡ None → b ≡ None
 least_right a b e h = rw e at h
 
-ascii_by : (b : Bool) → fault_if (not b) Form ≡ None → b ≡ true
-ascii_by true h = refl
-ascii_by false h = absurd cc
+no_fault_if : (q : Bool) (f : Fault) → fault_if q f ≡ None → q ≡ false
+no_fault_if true f h = absurd cc
+no_fault_if false f h = refl
 
 label_by : (o : Option (List ℕ)) (known : Names) → label_fault o known ≡ None → is_label o ≡ true
 label_by None known h = refl
-label_by (Some name) known h = by_name (is_name name) h
-  where
-    by_name : (b : Bool) → ◌≡◌ {A = Option Fault} (if b then (if is_some (known name) then Some NameTwice else None) else Some Form) None → b ≡ true
-    by_name true h = refl
-    by_name false h = absurd cc
+label_by (Some name) known h = true_from_ne_false (is_name name) (λ e. cc (rw e at h))
 
 -- a line without fault up to its label does what it says
 pub effect_is_item : (p : Place) (line : List ℕ) → front_fault p line ≡ None → effect_of line ≡ item_of line
 effect_is_item p line h =
     let form = least_left (fault_if (not (list_all is_ascii line)) Form) (label_fault (label_of line) p.known) h in
-    let ascii = ascii_by (list_all is_ascii line) form in
+    let ascii = not-false (list_all is_ascii line) (no_fault_if (not (list_all is_ascii line)) Form form) in
     let label = label_by (label_of line) p.known (least_right (fault_if (not (list_all is_ascii line)) Form) (label_fault (label_of line) p.known) form h) in
     rw (ascii, label) refl
+
+-- a line without fault has none in its parts, and has room for its bytes
+pub record IsSound (names : Names) (s : Source) (line : List ℕ) : Type 0 where
+  pub front : front_fault s.place line ≡ None
+  pub item : item_fault names (item_place s line) (item_of line) ≡ None
+  pub room : HasRoom (labelled_source (label_of line) s) (size_of (item_place s line) (item_of line))
+
+pub line_sound : (names : Names) (s : Source) (line : List ℕ) → line_fault names s line ≡ None → IsSound names s line
+unfolding line_fault
+line_sound names s line h =
+    let u = labelled_source (label_of line) s in
+    let size = size_of u.place (item_of line) in
+    let front = least_left (front_fault s.place line) (rest_fault names u (item_of line)) h in
+    let rest = least_right (front_fault s.place line) (rest_fault names u (item_of line)) front h in
+    let item = least_left (item_fault names u.place (item_of line)) (room_fault u size) rest in
+    let room = least_right (item_fault names u.place (item_of line)) (room_fault u size) item rest in
+    let past = ltb (2 ^ 32) (u.place.location + size) in
+    let many = ltb most_bytes (u.total + size) in
+    let range = least_left (fault_if past Range) (fault_if many TooMany) room in
+    let total = least_right (fault_if past Range) (fault_if many TooMany) range room in
+    record {
+      front = front;
+      item = item;
+      room = record { inside = ltb-false _ _ (no_fault_if past Range range); few = ltb-false _ _ (no_fault_if many TooMany total) };
+    }
 
 pub takes_line : (names : Names) (s u : Source) (line : List ℕ) (front : Option Fault) (item : Item) (r : Result code.Source LineError) → u ≡ labelled_source (label_of line) s → item ≡ item_of line → front ≡ front_fault s.place line
     → Continues names u item (least front (rest_fault names u item)) r → Takes names s line r
@@ -105,7 +127,7 @@ takes_line names s u line front item r source said label h =
     takes (Err e) h = h
     takes (Ok t) h =
         let l = labelled_source (label_of line) s in
-        let front : front_fault s.place line ≡ None = least_left (front_fault s.place line) (rest_fault names l (item_of line)) h.0 in
+        let front = (line_sound names s line h.0).front in
         record {
           bytes = h.1.bytes;
           sound = h.0;

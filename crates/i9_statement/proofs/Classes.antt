@@ -1,8 +1,7 @@
 -- The bytes of which printed operands are made.
-use Rattle.std.proofs.Common.{◌≡◌, ℕ, ◌+◌, ◌^◌, ◌<◌, ◌≤◌, Bool, true, false, cond, eqb, ◌||◌, List, [], ◌∷◌, ◌++◌, refl, ap, arith, inl, inr}
+use Rattle.std.proofs.Common.{◌≡◌, ℕ, ◌+◌, ◌^◌, ◌<◌, Bool, true, false, cond, eqb, ◌||◌, List, [], ◌∷◌, ◌++◌, refl, arith}
 use Rattle.std.specs.Prelude.{ℤ, get_or}
 use Rattle.std.specs.List.{list_all, AllByRecursion}
-use Rattle.std.proofs.lemmas.Bool.{eqb-true, cases_Bool}
 use Rattle.i9_isa.specs.declared.inst.Operand.{Operand}
 use Rattle.i9_isa.specs.declared.inst.Operand.TheVariants.{Reg, Lit, Sfr}
 use Rattle.i9_isa.specs.declared.inst.Mode.{Mode}
@@ -12,7 +11,7 @@ use Rattle.i9_isa.specs.declared.inst.Inst.{Inst}
 use Rattle.i9_isa.specs.declared.format.Format.{Format}
 use Rattle.i9_isa.specs.declared.format.Format.TheVariants as format
 use Rattle.i9_isa.specs.declared.format.Use.{Use}
-use Rattle.i9_isa.specs.declared.format.Use.TheVariants.{Unused, Source, Left, Right, Destination, Load, Store, Change}
+use Rattle.i9_isa.specs.declared.format.Use.TheVariants.{Unused}
 use Rattle.i9_isa.specs.Operands.{takes, is_address}
 use Rattle.i9_isa.specs.Valid.{IsValid, FitsAddress}
 use Rattle.i9_isa.specs.Table.{row_of}
@@ -26,23 +25,14 @@ use Rattle.i9_statement.specs.NumberText.{hex_text, hex_byte_text}
 use Rattle.i9_statement.specs.Printed.{HasText, needs_bang, operand_text, front_text, base_text, index_text, bang_text, address_text, target, target_text}
 use Rattle.i9_statement.specs.Instructions.{Fields, comes_first, first_use, last_use, operand_field, address_field, target_field, operand_fields}
 use Rattle.i9_statement.proofs.Cutting.{is_free, free_by, all_by, all_append}
+pub use Rattle.i9_statement.proofs.Cutting.{apart_by, free_in}
 use Rattle.i9_statement.proofs.ReadValues.{has_byte, has_byte-some, register_bytes, register_some, decimal_bytes, decimal_some, hex_bytes, hex_byte_bytes}
 use Rattle.i9_statement.proofs.ReadOperands.{taken_in_range}
-use Rattle.i9_statement.proofs.ReadAddresses.{scale_name_bytes, Parts, parts, ea}
+use Rattle.i9_statement.proofs.ReadAddresses.{scale_name_bytes, ea, Within, within}
 
 -- a letter, a digit, `_`, or a sign of an address
 abbrev pub is_operand_byte : ℕ → Bool
 is_operand_byte b = is_name_byte b || (is_byte 33 b || (is_byte 40 b || (is_byte 41 b || (is_byte 42 b || (is_byte 91 b || is_byte 93 b)))))
-
--- a byte that is not in a class is none of its bytes
-pub apart_by : (q : ℕ → Bool) (x b : ℕ) → q x ≡ false → q b ≡ true → is_byte x b ≡ false
-apart_by q x b other h = elim (cases_Bool (is_byte x b)) [
-  | inl same ↦ let e : b ≡ x = eqb-true b x same in absurd (cc (ap q e))
-  | inr differs ↦ differs
-]
-
-pub free_in : (q : ℕ → Bool) (x : ℕ) (w : List ℕ) → q x ≡ false → list_all q w ≡ true → is_free (is_byte x) w ≡ true
-free_in q x w other h = free_by q (is_byte x) (λ b. apart_by q x b other) w h
 
 pub free_of_blanks : (q : ℕ → Bool) (w : List ℕ) → q 32 ≡ false → q 9 ≡ false → list_all q w ≡ true → is_free is_blank w ≡ true
 free_of_blanks q w space tab h = free_by q is_blank (λ b in_q. rw (apart_by q 32 b space in_q, apart_by q 9 b tab in_q) refl) w h
@@ -134,28 +124,7 @@ address_some Disp b i s d h = has_back (bang_text Disp d) _ refl
 address_some BaseDisp b i s d h = has_back (bang_text BaseDisp d) _ refl
 address_some _ b i s d h = refl
 
--- the parts of any address are in these ranges
-record Within (b i s d : ℕ) : Type 0 where
-  base : b < 32
-  index : i < 32
-  scale : s < 5
-  disp : d < 2 ^ 32
-
-widened : (b i s d lb li ls ld : ℕ) → lb ≤ 32 → li ≤ 32 → ls ≤ 5 → ld ≤ 2 ^ 32 → Parts b i s d lb li ls ld → Within b i s d
-widened b i s d lb li ls ld hb hi hs hd p = record { base = omega arith; index = omega arith; scale = omega arith; disp = omega arith }
-
-within : (m : Mode) (b i s d : ℕ) → is_address (ea m b i s d) ≡ true → Within b i s d
-within Offset b i s d h = widened b i s d _ _ _ _ (omega arith) (omega arith) (omega arith) (omega arith) (parts b i s d 1 1 1 4096 h)
-within BaseOffset b i s d h = widened b i s d _ _ _ _ (omega arith) (omega arith) (omega arith) (omega arith) (parts b i s d 32 1 1 4096 h)
-within Mode.Base b i s d h = widened b i s d _ _ _ _ (omega arith) (omega arith) (omega arith) (omega arith) (parts b i s d 32 1 1 1 h)
-within Mode.Ip b i s d h = widened b i s d _ _ _ _ (omega arith) (omega arith) (omega arith) (omega arith) (parts b i s d 1 1 1 (2 ^ 32) h)
-within BaseIndex b i s d h = widened b i s d _ _ _ _ (omega arith) (omega arith) (omega arith) (omega arith) (parts b i s d 32 32 5 1 h)
-within Disp b i s d h = widened b i s d _ _ _ _ (omega arith) (omega arith) (omega arith) (omega arith) (parts b i s d 1 1 1 (2 ^ 32) h)
-within BaseDisp b i s d h = widened b i s d _ _ _ _ (omega arith) (omega arith) (omega arith) (omega arith) (parts b i s d 32 1 1 (2 ^ 32) h)
-within IndexDisp b i s d h = widened b i s d _ _ _ _ (omega arith) (omega arith) (omega arith) (omega arith) (parts b i s d 1 32 5 (2 ^ 32) h)
-within BaseIndexDisp b i s d h = widened b i s d _ _ _ _ (omega arith) (omega arith) (omega arith) (omega arith) (parts b i s d 32 32 5 (2 ^ 32) h)
-
-address_bytes : (m : Mode) (b i s d : ℕ) → Within b i s d → list_all is_operand_byte (bang_text m d ++ (front_text m d ++ (base_text m b ++ index_text m i s))) ≡ true
+address_bytes : (m : Mode) (b i s d : ℕ) → Within (ea m b i s d) → list_all is_operand_byte (bang_text m d ++ (front_text m d ++ (base_text m b ++ index_text m i s))) ≡ true
 address_bytes m b i s d w =
     all_append is_operand_byte (bang_text m d) _ (bang_bytes (needs_bang m d))
     (all_append is_operand_byte (front_text m d) _ (front_bytes m d w.disp)
@@ -163,39 +132,28 @@ address_bytes m b i s d w =
 
 pub field_of_address : (e : Ea) → is_address e ≡ true → IsField (address_text e)
 unfolding address_text
-field_of_address e h =
-    let w = within e.mode e.base e.index e.scale e.disp h in
-    record { bytes = address_bytes e.mode e.base e.index e.scale e.disp w; some = address_some e.mode e.base e.index e.scale e.disp w.disp }
+field_of_address e h = record {
+  bytes = address_bytes e.mode e.base e.index e.scale e.disp (within e h);
+  some = address_some e.mode e.base e.index e.scale e.disp (within e h).disp;
+}
 
 -- ---- the operands of an instruction
 
 operand_fields-ok : (u : Use) (o : Operand) → takes u o ≡ true → AllByRecursion IsField (operand_field u o)
 operand_fields-ok Unused o h = tt
-operand_fields-ok (Source n) o h = (field_of_operand o (taken_in_range (Source n) o h), tt)
-operand_fields-ok Left o h = (field_of_operand o (taken_in_range Left o h), tt)
-operand_fields-ok Right o h = (field_of_operand o (taken_in_range Right o h), tt)
-operand_fields-ok (Destination n) o h = (field_of_operand o (taken_in_range (Destination n) o h), tt)
-operand_fields-ok (Load n) o h = (field_of_operand o (taken_in_range (Load n) o h), tt)
-operand_fields-ok (Store n) o h = (field_of_operand o (taken_in_range (Store n) o h), tt)
-operand_fields-ok Change o h = (field_of_operand o (taken_in_range Change o h), tt)
+operand_fields-ok u o h = (field_of_operand o (taken_in_range u o h), tt)
 
 address_fields-ok : (f : Format) (e : Ea) → FitsAddress f e → AllByRecursion IsField (address_field f e)
 address_fields-ok format.Mem e h = (field_of_address e h, tt)
-address_fields-ok format.Reg e h = tt
-address_fields-ok format.Cobr e h = tt
-address_fields-ok format.Ctrl e h = tt
+address_fields-ok _ e h = tt
 
 target_fields-ok : (uses : Bool) (ip : ℕ) (z : ℤ) → AllByRecursion IsField (target_field uses ip z)
 target_fields-ok true ip z = (field_of_target ip z, tt)
 target_fields-ok false ip z = tt
 
-use_first-ok : (q : Bool) (u : Use) (o : Operand) → takes u o ≡ true → AllByRecursion IsField (operand_field (cond q u Unused) o)
-use_first-ok true u o h = operand_fields-ok u o h
-use_first-ok false u o h = tt
-
-use_last-ok : (q : Bool) (u : Use) (o : Operand) → takes u o ≡ true → AllByRecursion IsField (operand_field (cond q Unused u) o)
-use_last-ok true u o h = tt
-use_last-ok false u o h = operand_fields-ok u o h
+either_use-ok : (q : Bool) (u v : Use) (o : Operand) → AllByRecursion IsField (operand_field u o) → AllByRecursion IsField (operand_field v o) → AllByRecursion IsField (operand_field (cond q u v) o)
+either_use-ok true u v o x y = x
+either_use-ok false u v o x y = y
 
 fields_append : (fs gs : Fields) → AllByRecursion IsField fs → AllByRecursion IsField gs → AllByRecursion IsField (fs ++ gs)
 fields_append [] gs hf hg = hg
@@ -205,8 +163,9 @@ pub operand_fields-fields : (ip : ℕ) (i : Inst) → IsValid i → AllByRecursi
 unfolding operand_fields
 operand_fields-fields ip i v =
     let r = row_of i.op in
+    let c = operand_fields-ok r.c i.c v.c in
     fields_append (operand_field r.a i.a) _ (operand_fields-ok r.a i.a v.a)
     (fields_append (operand_field r.b i.b) _ (operand_fields-ok r.b i.b v.b)
-    (fields_append (operand_field (first_use r) i.c) _ (use_first-ok (comes_first r.format r.c) r.c i.c v.c)
+    (fields_append (operand_field (first_use r) i.c) _ (either_use-ok (comes_first r.format r.c) r.c Unused i.c c tt)
     (fields_append (address_field r.format i.ea) _ (address_fields-ok r.format i.ea v.ea)
-    (fields_append (target_field r.disp ip i.disp) (operand_field (last_use r) i.c) (target_fields-ok r.disp ip i.disp) (use_last-ok (comes_first r.format r.c) r.c i.c v.c)))))
+    (fields_append (target_field r.disp ip i.disp) (operand_field (last_use r) i.c) (target_fields-ok r.disp ip i.disp) (either_use-ok (comes_first r.format r.c) Unused r.c i.c tt c)))))

@@ -1,7 +1,7 @@
 -- A text that is cut where it was joined gives its parts.
-use Rattle.std.proofs.Common.{◌≡◌, ℕ, Bool, true, false, not, List, [], ◌∷◌, ◌++◌, length, take, drop, Some, refl, ap, ◌∙◌, arith}
+use Rattle.std.proofs.Common.{◌≡◌, ℕ, Bool, true, false, not, List, [], ◌∷◌, ◌++◌, length, take, drop, Some, refl, ap, ◌∙◌, arith, inl, inr}
 use Rattle.std.specs.List.{position_or_len, list_all}
-use Rattle.std.proofs.lemmas.Bool.{and_parts, not-true}
+use Rattle.std.proofs.lemmas.Bool.{and_parts, not-true, eqb-true, cases_Bool}
 use Rattle.std.proofs.lemmas.List.Folds.{list_all-append}
 use Rattle.std.proofs.Math.Seq.{take-append_seam, drop-append_seam}
 use Rattle.i9_statement.specs.Cut.{before, from, is_byte, closed}
@@ -53,3 +53,13 @@ all_by q p within (b ∷ w) h =
 
 pub all_append : (q : ℕ → Bool) (v w : List ℕ) → list_all q v ≡ true → list_all q w ≡ true → list_all q (v ++ w) ≡ true
 all_append q v w hv hw = list_all-append q v w ∙ rw hv hw
+
+-- a byte that is not in a class is none of its bytes
+pub apart_by : (q : ℕ → Bool) (x b : ℕ) → q x ≡ false → q b ≡ true → is_byte x b ≡ false
+apart_by q x b other h = elim (cases_Bool (is_byte x b)) [
+  | inl same ↦ let e : b ≡ x = eqb-true b x same in absurd (cc (ap q e))
+  | inr differs ↦ differs
+]
+
+pub free_in : (q : ℕ → Bool) (x : ℕ) (w : List ℕ) → q x ≡ false → list_all q w ≡ true → is_free (is_byte x) w ≡ true
+free_in q x w other h = free_by q (is_byte x) (λ b. apart_by q x b other) w h

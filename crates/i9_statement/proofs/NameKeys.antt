@@ -1,21 +1,19 @@
 -- Each name has a key of its own, so a table keeps the definitions of names by their keys.
-use Rattle.std.proofs.Common.{◌≡◌, ℕ, zero, suc, ◌<◌, ◌≤◌, Bool, true, false, leb, cond, ◌&&◌, List, [], ◌∷◌, length, take, drop, Option, Some, None, refl, sym, ap, ◌∙◌, inl, inr, arith}
+use Rattle.std.proofs.Common.{◌≡◌, ℕ, zero, suc, ◌<◌, ◌≤◌, Bool, true, false, cond, List, [], ◌∷◌, length, take, drop, Option, Some, None, refl, sym, ap, ◌∙◌, inl, inr, arith}
 use Rattle.std.specs.Prelude.{is_some}
-use Rattle.std.specs.declared.cmp.Ordering.{Ordering}
-use Rattle.std.specs.Ordering.{is_eq, nat_cmp, ordering_then}
-use Rattle.std.specs.Cmp.{tied_then, Equal-is}
+use Rattle.std.specs.Ordering.{is_eq}
 use Rattle.std.specs.List.{list_all}
 use Rattle.std.specs.Map.{update}
 use Rattle.std.specs.Str.{bytes_eq}
 use Rattle.std.proofs.Math.Path.{fun_ext}
-use Rattle.std.proofs.lemmas.Bool.{cases_Bool, and_parts, leb-true}
+use Rattle.std.proofs.lemmas.Bool.{cases_Bool, and_parts}
+use Rattle.std.proofs.lemmas.Bool.Decides.{nat_tests}
 use Rattle.std.proofs.lemmas.List.{take-append-drop}
 use Rattle.std.proofs.lemmas.List.Folds.{list_all-append}
-use Rattle.std.proofs.lemmas.Map.Lookups.{exact_unsigned}
 use Rattle.std.proofs.lemmas.Slice.Eq.{bytes_eq-Decides}
 use Rattle.i9_statement.specs.declared.known.Definition.{Definition}
 use Rattle.i9_statement.specs.Known.{Key, word_of, key_of, key_cmp, enter}
-use Rattle.i9_statement.specs.Values.{is_name, is_name_byte, has_name_start}
+use Rattle.i9_statement.specs.Values.{is_name, is_name_byte}
 use Rattle.i9_statement.proofs.NameBytes.{low_name}
 
 -- ---- words
@@ -58,14 +56,11 @@ joined n s t front back = sym (take-append-drop n s) ∙ rw (front, back) (take-
 
 name_bytes : (s : List ℕ) → is_name s ≡ true → AreNameBytes s
 unfolding is_name
-name_bytes s h =
-    (and_parts (has_name_start s && leb (length s) 63) (list_all is_name_byte s) (and_parts _ _ (and_parts _ _ h).0).0).1
+name_bytes s h = grind (arith, nat_tests)
 
 pub short_name : (s : List ℕ) → is_name s ≡ true → length s ≤ 63
 unfolding is_name
-short_name s h =
-    let front = (and_parts _ _ (and_parts _ _ (and_parts _ _ h).0).0).0 in
-    leb-true (length s) 63 (and_parts (has_name_start s) (leb (length s) 63) front).1
+short_name s h = grind (arith, nat_tests)
 
 -- the mark and the words are those of another key
 abbrev pub SameWords : Key → Key → Type 0
@@ -91,47 +86,11 @@ key_once s t g h e =
 
 -- ---- the order of keys
 
-same_word : (x y : ℕ) → is_eq (nat_cmp x y) ≡ true → x ≡ y
-same_word x y h = exact_unsigned x y ((Equal-is (nat_cmp x y)).0 h)
-
-word_itself : (x : ℕ) → is_eq (nat_cmp x x) ≡ true
-word_itself x = grind arith
-
-both : (a b : Ordering) → is_eq (ordering_then a b) ≡ true → (is_eq a ≡ true) × (is_eq b ≡ true)
-both a b h = and_parts (is_eq a) (is_eq b) (tied_then a b ∙ h)
-
-both_so : (a b : Ordering) → is_eq a ≡ true → is_eq b ≡ true → is_eq (ordering_then a b) ≡ true
-both_so a b g h = sym (tied_then a b) ∙ rw (g, h) refl
-
--- of the mark and the first word, and of the first two and three words with it
-abbrev one_cmp : Key → Key → Ordering
-one_cmp x y = ordering_then (nat_cmp x.0 y.0) (nat_cmp x.1 y.1)
-
-abbrev two_cmp : Key → Key → Ordering
-two_cmp x y = ordering_then (one_cmp x y) (nat_cmp x.2 y.2)
-
-abbrev three_cmp : Key → Key → Ordering
-three_cmp x y = ordering_then (two_cmp x y) (nat_cmp x.3 y.3)
-
 same_words : (x y : Key) → is_eq (key_cmp x y) ≡ true → SameWords x y
-same_words x y h =
-    let four = both (three_cmp x y) (nat_cmp x.4 y.4) h in
-    let three = both (two_cmp x y) (nat_cmp x.3 y.3) four.0 in
-    let two = both (one_cmp x y) (nat_cmp x.2 y.2) three.0 in
-    let one = both (nat_cmp x.0 y.0) (nat_cmp x.1 y.1) two.0 in (
-      same_word x.0 y.0 one.0,
-      same_word x.1 y.1 one.1,
-      same_word x.2 y.2 two.1,
-      same_word x.3 y.3 three.1,
-      same_word x.4 y.4 four.1,
-    )
+same_words x y h = (grind arith, grind arith, grind arith, grind arith, grind arith)
 
 key_itself : (x : Key) → is_eq (key_cmp x x) ≡ true
-key_itself x =
-    let one = both_so (nat_cmp x.0 x.0) (nat_cmp x.1 x.1) (word_itself x.0) (word_itself x.1) in
-    let two = both_so (one_cmp x x) (nat_cmp x.2 x.2) one (word_itself x.2) in
-    let three = both_so (two_cmp x x) (nat_cmp x.3 x.3) two (word_itself x.3) in
-    both_so (three_cmp x x) (nat_cmp x.4 x.4) three (word_itself x.4)
+key_itself x = grind arith
 
 same_key : (x y : Key) → is_eq (key_cmp x y) ≡ true → x ≡ y
 same_key x y h = let e = same_words x y h in rw (e.0, e.1, e.2, e.3, e.4) refl

@@ -1,5 +1,5 @@
 -- Operands that are appended one by one are the operands of the statement.
-use Rattle.std.proofs.Common.{◌≡◌, ℕ, Bool, true, false, List, [], ◌∷◌, ◌++◌, Result, Ok, Err, IfOk, OnOk, refl, sym, ap, ◌∙◌, append_assoc}
+use Rattle.std.proofs.Common.{◌≡◌, ℕ, Bool, true, false, List, [], ◌∷◌, ◌++◌, refl, sym, ap, ◌∙◌, append_assoc}
 use Rattle.std.proofs.lemmas.List.{append-nil}
 use Rattle.i9_text.specs.Text.{space}
 use Rattle.i9_statement.specs.Fields.{comma, join_fields}
@@ -22,8 +22,8 @@ started-append q (f ∷ fs) [] = refl
 started-append q (f ∷ fs) (g ∷ gs) = refl
 
 -- one after the other
-pub added_both : (a b c : List ℕ) (q r s : Bool) (fs gs : Fields) → Added a b q fs r → Added b c r gs s → Added a c q (fs ++ gs) s
-added_both a b c q r s fs gs x y = record {
+pub added_both : {a b c : List ℕ} {q r s : Bool} {fs gs : Fields} → Added a b q fs r → Added b c r gs s → Added a c q (fs ++ gs) s
+added_both {a} {b} {c} {q} {r} {s} {fs} {gs} x y = record {
   text = y.text ∙ ap (λ t. t ++ pieces r gs) x.text ∙ append_assoc a (pieces q fs) (pieces r gs) ∙ ap (λ n. a ++ (pieces q fs ++ pieces n gs)) x.after ∙ ap (λ t. a ++ t) (sym (pieces-append q fs gs));
   after = y.after ∙ ap (λ n. started_by n gs) x.after ∙ sym (started-append q fs gs);
 }
@@ -40,24 +40,6 @@ unfolding pieces join_fields
 pieces-text [] = refl
 pieces-text (f ∷ []) = ap (λ t. space ∷ t) (append-nil f)
 pieces-text (f ∷ g ∷ fs) = ap (λ t. (space ∷ f) ++ t) (pieces-true g fs)
-
--- all operands of a statement
-pub added_all : (t0 t1 t2 t3 t4 t5 t6 : List ℕ) (s0 s1 s2 s3 s4 s5 s6 : Bool) (a b c d e f : Fields) → Added t0 t1 s0 a s1 → Added t1 t2 s1 b s2 → Added t2 t3 s2 c s3 → Added t3 t4 s3 d s4 → Added t4 t5 s4 e s5 → Added t5 t6 s5 f s6
-    → Added t0 t6 s0 (a ++ (b ++ (c ++ (d ++ (e ++ f))))) s6
-added_all t0 t1 t2 t3 t4 t5 t6 s0 s1 s2 s3 s4 s5 s6 a b c d e f x1 x2 x3 x4 x5 x6 =
-    added_both t0 t1 t6 s0 s1 s6 a (b ++ (c ++ (d ++ (e ++ f)))) x1
-    (added_both t1 t2 t6 s1 s2 s6 b (c ++ (d ++ (e ++ f))) x2
-    (added_both t2 t3 t6 s2 s3 s6 c (d ++ (e ++ f)) x3
-    (added_both t3 t4 t6 s3 s4 s6 d (e ++ f) x4
-    (added_both t4 t5 t6 s4 s5 s6 e f x5 x6))))
-
-pub if_ok : {X E : Type 0} (r : Result X E) (P Q : X → Type 0) → IfOk r P → ((x : X) → P x → Q x) → IfOk r Q
-if_ok (Ok x) P Q h f = f x h
-if_ok (Err e) P Q h f = tt
-
-pub on_ok : {X E : Type 0} (r : Result X E) (P Q : Type 0) → OnOk r P → (P → Q) → OnOk r Q
-on_ok (Ok x) P Q h f = f h
-on_ok (Err e) P Q h f = tt
 
 -- a mnemonic, operands and bits
 pub statement_joined : (t0 t1 t2 t3 m s : List ℕ) (fs : Fields) (now : Bool) → t1 ≡ t0 ++ m → Added t1 t2 false fs now → t3 ≡ t2 ++ s → t3 ≡ t0 ++ (m ++ (fields_text fs ++ s))

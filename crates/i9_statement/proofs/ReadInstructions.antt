@@ -14,7 +14,7 @@ use Rattle.i9_isa.specs.declared.inst.Inst.{Inst}
 use Rattle.i9_isa.specs.declared.format.Format.{Format}
 use Rattle.i9_isa.specs.declared.format.Format.TheVariants as format
 use Rattle.i9_isa.specs.declared.format.Use.{Use}
-use Rattle.i9_isa.specs.declared.format.Use.TheVariants.{Unused, Source, Left, Right, Destination, Load, Store, Change}
+use Rattle.i9_isa.specs.declared.format.Use.TheVariants.{Unused}
 use Rattle.i9_isa.specs.Operands.{takes}
 use Rattle.i9_isa.specs.Valid.{is_within, FitsDisp, FitsAddress, IsValid}
 use Rattle.i9_isa.specs.Table.{row_of}
@@ -24,9 +24,9 @@ use Rattle.i9_statement.specs.Values.{Names, is_name_byte}
 use Rattle.i9_statement.specs.Targets.{reach}
 use Rattle.i9_statement.specs.Mnemonics.{mnemonic, op_named, dot, hint_by, with_hint, named_by, mnemonic_text}
 use Rattle.i9_statement.specs.Instructions.{Fields, take_operand, take_address, take_target, comes_first, last_use, chosen, instruction_of, operand_field, address_field, target_field, operand_fields}
-use Rattle.i9_statement.proofs.Cutting.{stops, before-cut, from-cut}
+use Rattle.i9_statement.proofs.Cutting.{stops, before-cut, from-cut, free_in}
 use Rattle.i9_statement.proofs.ReadOperands.{operand_of-text}
-use Rattle.i9_statement.proofs.ReadAddresses.{address_of-text, free_of_byte}
+use Rattle.i9_statement.proofs.ReadAddresses.{address_of-text}
 use Rattle.i9_statement.proofs.ReadTargets.{target_of-text}
 
 -- ---- names
@@ -56,7 +56,7 @@ pub named_by-text : (op : Op) (hint : Bool) → (hint ≡ true → (row_of op).h
 unfolding named_by
 named_by-text op hint h =
     let suffix = cond hint (codes ".f") [] in
-    let free = free_of_byte dot (mnemonic op) refl (mnemonic_bytes op) in
+    let free = free_in is_name_byte dot (mnemonic op) refl (mnemonic_bytes op) in
     ap (λ s. option_and_then (λ o. with_hint o (hint_by (row_of o).hint (from (is_byte dot) (mnemonic op ++ suffix)))) (op_named s)) (before-cut (is_byte dot) (mnemonic op) suffix free (suffix_stops hint))
     ∙ ap (λ s. option_and_then (λ o. with_hint o (hint_by (row_of o).hint s)) (op_named (mnemonic op))) (from-cut (is_byte dot) (mnemonic op) suffix free (suffix_stops hint))
     ∙ ap (option_and_then (λ o. with_hint o (hint_by (row_of o).hint suffix))) (op_named-mnemonic op)
@@ -72,19 +72,11 @@ unused_operand (Sfr s) h = absurd cc
 
 take_operand-field : (u : Use) (names : Names) (o : Operand) (fs : Fields) → takes u o ≡ true → take_operand u names (operand_field u o ++ fs) ≡ (fine o, fs)
 take_operand-field Unused names o fs h = rw (unused_operand o h) refl
-take_operand-field (Source n) names o fs h = rw (operand_of-text (Source n) names o h) refl
-take_operand-field Left names o fs h = rw (operand_of-text Left names o h) refl
-take_operand-field Right names o fs h = rw (operand_of-text Right names o h) refl
-take_operand-field (Destination n) names o fs h = rw (operand_of-text (Destination n) names o h) refl
-take_operand-field (Load n) names o fs h = rw (operand_of-text (Load n) names o h) refl
-take_operand-field (Store n) names o fs h = rw (operand_of-text (Store n) names o h) refl
-take_operand-field Change names o fs h = rw (operand_of-text Change names o h) refl
+take_operand-field u names o fs h = rw (operand_of-text u names o h) refl
 
 take_address-field : (f : Format) (names : Names) (e : Ea) (fs : Fields) → FitsAddress f e → take_address f names (address_field f e ++ fs) ≡ (fine e, fs)
-take_address-field format.Reg names e fs h = rw h refl
-take_address-field format.Cobr names e fs h = rw h refl
-take_address-field format.Ctrl names e fs h = rw h refl
 take_address-field format.Mem names e fs h = rw (address_of-text names e h) refl
+take_address-field _ names e fs h = rw h refl
 
 take_target-field : (uses : Bool) (ip : ℕ) (f : Format) (names : Names) (z : ℤ) (fs : Fields) → ip < 2 ^ 32 → FitsDisp f uses z → (uses ≡ true → is_within (reach f) z ≡ true) → take_target uses ip f names (target_field uses ip z ++ fs) ≡ (fine z, fs)
 take_target-field true ip f names z fs low h near = rw (target_of-text ip f names z low (near refl)) refl
@@ -92,9 +84,7 @@ take_target-field false ip f names z fs low h near = rw (unused_disp f z h) refl
   where
     unused_disp : (f : Format) (z : ℤ) → FitsDisp f false z → z ≡ pos 0
     unused_disp format.Reg z h = h
-    unused_disp format.Cobr z h = h
-    unused_disp format.Ctrl z h = h
-    unused_disp format.Mem z h = h
+    unused_disp _ z h = h
 
 abbrev pub is_branching : Format → Bool
 is_branching format.Cobr = true
@@ -109,9 +99,8 @@ disp_branching _ = refl
 near : (f : Format) (uses : Bool) (z : ℤ) → FitsDisp f uses z → cond uses (is_branching f) true ≡ true → uses ≡ true → is_within (reach f) z ≡ true
 near format.Cobr true z h b e = h
 near format.Ctrl true z h b e = h
-near format.Reg true z h b e = absurd cc
-near format.Mem true z h b e = absurd cc
-near f false z h b e = absurd cc
+near _ true z h b e = absurd cc
+near _ false z h b e = absurd cc
 
 disp_near : (op : Op) (z : ℤ) → FitsDisp (row_of op).format (row_of op).disp z → (row_of op).disp ≡ true → is_within (reach (row_of op).format) z ≡ true
 disp_near op z h = near (row_of op).format (row_of op).disp z h (disp_branching op)

@@ -1,5 +1,5 @@
 -- A printed operand is read again.
-use Rattle.std.proofs.Common.{◌≡◌, ℕ, zero, suc, ◌+◌, ◌<◌, true, false, ltb, eqb, List, [], ◌∷◌, length, Option, Some, None, refl, ap, ◌∙◌, arith}
+use Rattle.std.proofs.Common.{◌≡◌, ℕ, zero, suc, ◌+◌, ◌<◌, true, false, ltb, eqb, List, [], ◌∷◌, length, Some, None, refl, ap, ◌∙◌, arith}
 use Rattle.std.specs.Option.{option_map}
 use Rattle.std.specs.Char.{digit_value}
 use Rattle.std.specs.Str.Parse.{AllDigits}
@@ -53,13 +53,10 @@ register_of-text : (r : ℕ) → r < 32 → register_of (register_text r) ≡ So
 register_of-text r h = ap (option_map register_at) (register_place-text r (omega arith)) ∙ rw (lt-ltb r 32 h) refl
 
 special_of-text : (s : ℕ) → s < 3 → register_of (register_text (32 + s)) ≡ Some (Sfr s)
-special_of-text s h = ap (option_map register_at) (register_place-text (32 + s) (omega arith)) ∙ special_at s h
-  where
-    special_at : (s : ℕ) → s < 3 → ◌≡◌ {A = Option Operand} (Some (register_at (32 + s))) (Some (Sfr s))
-    special_at zero h = refl
-    special_at (suc zero) h = refl
-    special_at (suc (suc zero)) h = refl
-    special_at (suc (suc (suc s))) h = absurd (omega arith)
+special_of-text zero h = ap (option_map register_at) (register_place-text 32 (omega arith))
+special_of-text (suc zero) h = ap (option_map register_at) (register_place-text 33 (omega arith))
+special_of-text (suc (suc zero)) h = ap (option_map register_at) (register_place-text 34 (omega arith))
+special_of-text (suc (suc (suc s))) h = absurd (omega arith)
 
 -- no register's name begins with a digit
 digit_first : (c : ℕ) → digit_value c < 10 → (eqb c 112 ≡ false) × (eqb c 115 ≡ false) × (eqb c 114 ≡ false) × (eqb c 103 ≡ false) × (eqb c 102 ≡ false)

@@ -24,7 +24,6 @@ use Rattle.i9_statement.specs.Instructions.{Fields, instruction_of, operand_fiel
 use Rattle.i9_statement.specs.Statements.{said, open_brace, close_brace, if_nothing_left, spare_in, spare_of, with_spare, statement_by, statement_of, fields_text, statement_text}
 use Rattle.i9_statement.proofs.Cutting.{is_free, stops, before-cut, from-cut, closed-cut, all_append}
 use Rattle.i9_statement.proofs.NameBytes.{name_bytes}
-use Rattle.i9_statement.proofs.ReadAddresses.{free_of_byte}
 use Rattle.i9_statement.proofs.ReadInstructions.{mnemonic_bytes, named_by-text, instruction_of-fields}
 use Rattle.i9_statement.proofs.Classes.{is_operand_byte, free_in, free_of_blanks, IsField, operand_fields-fields}
 use Rattle.i9_statement.proofs.ReadFields.{pad, words_of-pad, fields_of-text}
@@ -59,7 +58,7 @@ spare_of-text bits q small =
     let names = name_bytes ds 16 (lit≤ tt) h.0.1 in
     let blanks = all_append (λ b. not (is_blank b)) ds (close_brace ∷ []) (free_of_blanks is_name_byte ds refl refl names) refl in
     ap spare_in (words_of-pad (open_brace ∷ ds ++ close_brace ∷ []) q refl blanks)
-    ∙ ap (option_and_then if_nothing_left) (closed-cut close_brace ds [] (free_of_byte close_brace ds refl names))
+    ∙ ap (option_and_then if_nothing_left) (closed-cut close_brace ds [] (free_in is_name_byte close_brace ds refl names))
     ∙ number_of-digits 16 8 ds h.0.0 (digits_length bits small) h.0.1
     ∙ ap Some h.1
 

@@ -4,7 +4,7 @@ use Rattle.std.specs.Prelude.{ℤ, pos, negsuc}
 use Rattle.std.proofs.lemmas.Bool.{and_parts, ltb-true, lt-ltb, le-ltb}
 use Rattle.std.proofs.lemmas.Int.{ints}
 use Rattle.i9_isa.specs.declared.format.Format.{Format}
-use Rattle.i9_isa.specs.declared.format.Format.TheVariants.{Reg, Cobr, Ctrl, Mem}
+use Rattle.i9_isa.specs.declared.format.Format.TheVariants.{Reg}
 use Rattle.i9_isa.specs.Valid.{is_within}
 use Rattle.i9_isa.specs.Words.{signed_of}
 use Rattle.i9_statement.specs.Noted.{fine}
@@ -38,9 +38,7 @@ target_below ip (negsuc k) = omega arith
 
 reach_small : (f : Format) → reach f ≤ 2 ^ 31
 reach_small Reg = omega arith
-reach_small Cobr = omega arith
-reach_small Ctrl = omega arith
-reach_small Mem = omega arith
+reach_small _ = omega arith
 
 pub target_of-text : (ip : ℕ) (f : Format) (names : Names) (z : ℤ) → ip < 2 ^ 32 → is_within (reach f) z ≡ true → target_of ip f names (target_text ip z) ≡ fine z
 unfolding target_of target_text

@@ -1,11 +1,11 @@
 -- Printed numbers and registers are read again.
-use Rattle.std.proofs.Common.{◌≡◌, ℕ, ◌^◌, ◌<◌, Bool, true, false, eqb, ◌&&◌, List, [], ◌∷◌, length, Option, Some, None, refl, ap, ◌∙◌, arith, lit≤}
+use Rattle.std.proofs.Common.{◌≡◌, ℕ, ◌^◌, ◌<◌, Bool, true, false, eqb, List, [], ◌∷◌, length, Option, Some, None, refl, ap, ◌∙◌, arith, lit≤}
 use Rattle.std.specs.Option.{option_map}
 use Rattle.std.specs.List.{list_all}
 use Rattle.std.specs.Char.{digit_value}
 use Rattle.std.specs.Fmt.{decimal}
 use Rattle.std.specs.Str.Parse.{AllDigits, digits_value}
-use Rattle.std.proofs.lemmas.Bool.{eqb-true, lt-ltb}
+use Rattle.std.proofs.lemmas.Bool.{eqb-true, lt-ltb, and_right}
 use Rattle.std.proofs.lemmas.Fmt.{decimal_is_IsNumeral}
 use Rattle.i9_text.specs.Text.{are_digits}
 use Rattle.i9_text.specs.Written.{word_text, byte_text}
@@ -31,14 +31,10 @@ decimal_of-digits w some h = rw (lt-ltb _ _ some, digits_test 10 w h) refl
 digit_apart : (c : ℕ) → digit_value c < 10 → (begins_name c ≡ false) × (eqb c 45 ≡ false) × (eqb c 120 ≡ false)
 digit_apart c h = (grind arith, grind arith, grind arith)
 
-and_false : (x : Bool) → (x && false) ≡ false
-and_false true = refl
-and_false false = refl
-
 not_hexadecimal : (w : List ℕ) → AllDigits 10 w → is_hexadecimal w ≡ false
 not_hexadecimal [] h = refl
 not_hexadecimal (a ∷ []) h = refl
-not_hexadecimal (a ∷ b ∷ w) h = rw (digit_apart b h.1.0).2 (and_false (eqb a 48))
+not_hexadecimal (a ∷ b ∷ w) h = and_right (eqb a 48) (eqb b 120) (digit_apart b h.1.0).2
 
 in_range-small : (n : ℕ) → n < 2 ^ 32 → in_range false n ≡ Number n
 in_range-small n h = rw (lt-ltb _ _ h) refl

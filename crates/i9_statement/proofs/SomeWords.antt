@@ -30,7 +30,7 @@ use Rattle.i9_statement.specs.Codes.{IsCode, Stands, stands_one, stands_two}
 use Rattle.i9_statement.proofs.Marked.{marked}
 use Rattle.i9_statement.proofs.StatementWords.{one_or_two}
 use Rattle.i9_statement.proofs.ValidCode.{valid_word}
-use Rattle.i9_statement.proofs.ValidRead.{instruction_valid}
+use Rattle.i9_statement.proofs.ValidRead.{if_some-then, instruction_valid}
 
 -- ---- the prediction
 
@@ -44,15 +44,13 @@ hint_uses false (b ∷ s) hint e h = absurd cc
 
 named_fits : (s : List ℕ) → IfSome (named_by s) Fits
 unfolding named_by Fits
-named_fits s = by_name (op_named (before (is_byte 46) s))
+named_fits s =
+    let suffix = from (is_byte 46) s in
+    if_some-then Fits (λ op. with_hint op (hint_by (row_of op).hint suffix)) (op_named (before (is_byte 46) s)) (λ op. by_hint op (hint_by (row_of op).hint suffix) refl)
   where
     by_hint : (op : Op) (o : Option Bool) → hint_by (row_of op).hint (from (is_byte 46) s) ≡ o → IfSome (with_hint op o) Fits
     by_hint op None e = tt
     by_hint op (Some hint) e = hint_uses (row_of op).hint (from (is_byte 46) s) hint e
-
-    by_name : (o : Option Op) → IfSome (option_and_then (λ op. with_hint op (hint_by (row_of op).hint (from (is_byte 46) s))) o) Fits
-    by_name None = tt
-    by_name (Some op) = by_hint op (hint_by (row_of op).hint (from (is_byte 46) s)) refl
 
 -- ---- the bits in braces
 
@@ -73,15 +71,9 @@ left_small c = elim (cases_Bool (bytes_eq c.1 [])) [
 ]
 
 braced_small : (w : List ℕ) → IfSome (braced w) IsWord
-braced_small w = by_inner (behind open_brace w)
-  where
-    by_closed : (o : Option (List ℕ × List ℕ)) → IfSome (option_and_then if_nothing_left o) IsWord
-    by_closed None = tt
-    by_closed (Some c) = left_small c
-
-    by_inner : (o : Option (List ℕ)) → IfSome (option_and_then (λ s. option_and_then if_nothing_left (closed close_brace s)) o) IsWord
-    by_inner None = tt
-    by_inner (Some s) = by_closed (closed close_brace s)
+braced_small w =
+    if_some-then IsWord (λ s. option_and_then if_nothing_left (closed close_brace s)) (behind open_brace w)
+    (λ s. if_some-then IsWord if_nothing_left (closed close_brace s) left_small)
 
 spare_small : (s : List ℕ) → IfSome (spare_of s) IsWord
 unfolding spare_of

@@ -4,6 +4,7 @@ use Rattle.std.specs.Prelude.{codes}
 use Rattle.std.specs.List.{list_all, AllByRecursion}
 use Rattle.std.specs.Fmt.{digits}
 use Rattle.std.proofs.lemmas.Fmt.{digits_is_IsNumeral}
+use Rattle.std.proofs.lemmas.Bool.Decides.{nat_tests}
 use Rattle.i9_isa.specs.declared.op.Op.{Op}
 use Rattle.i9_isa.specs.declared.inst.Inst.{Inst}
 use Rattle.i9_isa.specs.Valid.{IsValid}
@@ -15,7 +16,7 @@ use Rattle.i9_statement.specs.Fields.{join_fields, comma}
 use Rattle.i9_statement.specs.Instructions.{Fields, operand_fields}
 use Rattle.i9_statement.specs.Statements.{open_brace, close_brace, fields_text, spare_text, statement_text}
 use Rattle.i9_statement.proofs.Cutting.{all_by, all_append}
-use Rattle.i9_statement.proofs.NameBytes.{name_bytes, low_or, low_byte, low_name}
+use Rattle.i9_statement.proofs.NameBytes.{name_bytes}
 use Rattle.i9_statement.proofs.ReadInstructions.{mnemonic_bytes}
 use Rattle.i9_statement.proofs.Classes.{is_operand_byte, IsField, operand_fields-fields}
 use Rattle.i9_statement.proofs.ReadStatements.{wide_digits}
@@ -63,12 +64,5 @@ statement_bytes ip i bits small v =
 
 -- ---- ASCII
 
-low_operand : (n : ℕ) → is_operand_byte n ≡ true → n < 128
-low_operand n h =
-    low_or n _ _ (low_name n) (λ a. low_or n _ _ (low_byte 33 n (omega arith)) (λ b. low_or n _ _ (low_byte 40 n (omega arith)) (λ c. low_or n _ _ (low_byte 41 n (omega arith)) (λ d. low_or n _ _ (low_byte 42 n (omega arith))
-    (λ e. low_or n _ _ (low_byte 91 n (omega arith)) (low_byte 93 n (omega arith)) e) d) c) b) a) h
-
 pub low_statement : (n : ℕ) → is_statement_byte n ≡ true → n < 128
-low_statement n h =
-    low_or n _ _ (low_operand n) (λ a. low_or n _ _ (low_byte 32 n (omega arith)) (λ b. low_or n _ _ (low_byte 44 n (omega arith)) (λ c. low_or n _ _ (low_byte 46 n (omega arith))
-    (λ d. low_or n _ _ (low_byte 123 n (omega arith)) (low_byte 125 n (omega arith)) d) c) b) a) h
+low_statement n h = grind (arith, nat_tests)

@@ -1,9 +1,8 @@
 -- Each valid instruction has words.
-use Rattle.std.proofs.Common.{◌≡◌, ℕ, ◌+◌, ◌-◌, ◌*◌, ◌%◌, ◌^◌, ◌<◌, Bool, true, false, not, cond, ltb, eqb, Some, refl, sym, ap, ◌∙◌, arith, inl, inr}
+use Rattle.std.proofs.Common.{◌≡◌, ℕ, ◌+◌, ◌-◌, ◌*◌, ◌%◌, ◌^◌, ◌<◌, Bool, true, false, not, ltb, eqb, Some, refl, sym, ap, ◌∙◌, arith, inl, inr}
 use Rattle.std.specs.Prelude.{ℤ, pos, negsuc}
 use Rattle.std.specs.Int.{from_bool}
-use Rattle.std.proofs.lemmas.Bool.{ltb-true, eqb-true, and_parts, cases_Bool}
-use Rattle.std.proofs.lemmas.Bool.Decides.{nat_tests}
+use Rattle.std.proofs.lemmas.Bool.{ltb-true, lt-ltb, le-ltb, eqb-true, and_parts, cases_Bool}
 use Rattle.std.proofs.lemmas.Int.{ints}
 use Rattle.i9_isa.specs.declared.op.Op.{Op}
 use Rattle.i9_isa.specs.declared.op.Op.TheVariants.{Notbit}
@@ -11,7 +10,7 @@ use Rattle.i9_isa.specs.declared.inst.Inst.{Inst}
 use Rattle.i9_isa.specs.declared.inst.Mode.{Mode}
 use Rattle.i9_isa.specs.declared.inst.Mode.TheVariants.{Offset, BaseOffset, Base, Ip, BaseIndex, Disp, BaseDisp, IndexDisp, BaseIndexDisp}
 use Rattle.i9_isa.specs.declared.format.Format.{Format}
-use Rattle.i9_isa.specs.Operands.{field_number, is_address, has_base, has_index, has_offset, has_disp, disp_limit}
+use Rattle.i9_isa.specs.Operands.{field_number, is_address, has_offset, has_disp, disp_limit}
 use Rattle.i9_isa.specs.Table.{row_of}
 use Rattle.i9_isa.specs.Valid.{IsValid, FitsDisp, is_within}
 use Rattle.i9_isa.specs.Words.{field, bit, signed_of, mode_in, Encodes}
@@ -21,6 +20,7 @@ use Rattle.i9_decode.proofs.Spelled.{number_small, row_fits_at}
 use Rattle.i9_decode.proofs.Forms.{register_form, branch_form, control_form, memory_form, address_parts, address_read}
 use Rattle.i9_decode.proofs.Clear.{register_clear, branch_clear, control_clear, memory_clear}
 use Rattle.i9_decode.proofs.Modes.{mode_added}
+use Rattle.i9_statement.proofs.ReadAddresses.{within}
 
 -- a first word of the instruction, with no ignored bit set
 pub record HasWord (i : Inst) : Type 0 where
@@ -66,19 +66,7 @@ register_sum o e a b c m1 s1 m2 s2 m3 =
 
 register_fields : (o e a b c m1 s1 m2 s2 m3 : ℕ) → o < 256 → e < 16 → a < 32 → b < 32 → c < 32 → m1 < 2 → s1 < 2 → m2 < 2 → s2 < 2 → m3 < 2
     → RegisterFields (register_sum o e a b c m1 s1 m2 s2 m3) o e a b c m1 s1 m2 s2 m3
-register_fields o e a b c m1 s1 m2 s2 m3 lo le la lb lc lm1 ls1 lm2 ls2 lm3 = record {
-  small = omega arith;
-  opcode = omega arith;
-  extension = omega arith;
-  src1 = omega arith;
-  bit_m1 = omega arith;
-  bit_s1 = omega arith;
-  src2 = omega arith;
-  bit_m2 = omega arith;
-  bit_s2 = omega arith;
-  src_dst = omega arith;
-  bit_m3 = omega arith;
-}
+register_fields o e a b c m1 s1 m2 s2 m3 lo le la lb lc lm1 ls1 lm2 ls2 lm3 = search arith
 
 register_word : (i : Inst) → IsValid i → (row_of i.op).format ≡ Format.Reg → HasWord i
 register_word i v f =
@@ -91,16 +79,14 @@ register_word i v f =
     (from_bool m1) (from_bool s1) (from_bool m2) (from_bool s2) (from_bool m3)
     (opcode_small i.op) (ltb-true r.extension 16 fits.1) (number_small r.a i.a v.a) (number_small r.b i.b v.b) (number_small r.c i.c v.c)
     (flag_small m1) (flag_small s1) (flag_small m2) (flag_small s2) (flag_small m3) in
-    let n = register_sum r.opcode r.extension (field_number i.a) (field_number i.b) (field_number i.c)
-    (from_bool m1) (from_bool s1) (from_bool m2) (from_bool s2) (from_bool m3) in
-    let bm1 = flag_read (field n 11 1) m1 w.bit_m1 in let bs1 = flag_read (field n 5 1) s1 w.bit_s1 in
-    let bm2 = flag_read (field n 12 1) m2 w.bit_m2 in let bs2 = flag_read (field n 6 1) s2 w.bit_s2 in
-    let bm3 = flag_read (field n 13 1) m3 w.bit_m3 in
+    let bm1 = flag_read _ m1 w.bit_m1 in let bs1 = flag_read _ s1 w.bit_s1 in
+    let bm2 = flag_read _ m2 w.bit_m2 in let bs2 = flag_read _ s2 w.bit_s2 in
+    let bm3 = flag_read _ m3 w.bit_m3 in
     record {
-      word = n;
+      word = _;
       small = w.small;
-      form = λ w1 _. register_form n w1 i v f w.opcode w.extension w.src1 bm1 bs1 w.src2 bm2 bs2 w.src_dst bm3;
-      clear = register_clear n i v f w.src1 bm1 bs1 w.src2 bm2 bs2 w.src_dst bm3;
+      form = λ w1 _. register_form _ w1 i v f w.opcode w.extension w.src1 bm1 bs1 w.src2 bm2 bs2 w.src_dst bm3;
+      clear = register_clear _ i v f w.src1 bm1 bs1 w.src2 bm2 bs2 w.src_dst bm3;
     }
 
 -- ---- the compare-and-branch and the control format
@@ -112,35 +98,24 @@ record LowDisp (width : ℕ) (z : ℤ) : Type 0 where
   fours : low % 4 ≡ 0
   said : z ≡ signed_of width low
 
-near_within : (z : ℤ) → is_within (2 ^ 12) z ≡ true → LowDisp 13 z
-near_within (pos n) h =
-    let p = and_parts (ltb n 4096) (eqb (n % 4) 0) h in
-    let l = ltb-true n 4096 p.0 in
-    record { low = n; small = omega arith; fours = eqb-true (n % 4) 0 p.1; said = grind (arith, ints, nat_tests) }
-near_within (negsuc n) h =
-    let p = and_parts (ltb n 4096) (eqb (n % 4) 3) h in
-    let l = ltb-true n 4096 p.0 in
+low_within : (width half : ℕ) → 2 ^ width ≡ 2 * half → 2 ^ (width - 1) ≡ half → half % 4 ≡ 0 → (z : ℤ) → is_within half z ≡ true → LowDisp width z
+low_within width half twice once fours (pos n) h =
+    let p = and_parts (ltb n half) (eqb (n % 4) 0) h in
+    let l = ltb-true n half p.0 in
+    record { low = n; small = omega arith; fours = eqb-true (n % 4) 0 p.1; said = rw (once, lt-ltb n half l) refl }
+low_within width half twice once fours (negsuc n) h =
+    let p = and_parts (ltb n half) (eqb (n % 4) 3) h in
+    let l = ltb-true n half p.0 in
     let e = eqb-true (n % 4) 3 p.1 in
-    record { low = 8191 - n; small = omega arith; fours = omega arith; said = grind (arith, ints, nat_tests) }
-
-far_within : (z : ℤ) → is_within (2 ^ 23) z ≡ true → LowDisp 24 z
-far_within (pos n) h =
-    let p = and_parts (ltb n 8388608) (eqb (n % 4) 0) h in
-    let l = ltb-true n 8388608 p.0 in
-    record { low = n; small = omega arith; fours = eqb-true (n % 4) 0 p.1; said = grind (arith, ints, nat_tests) }
-far_within (negsuc n) h =
-    let p = and_parts (ltb n 8388608) (eqb (n % 4) 3) h in
-    let l = ltb-true n 8388608 p.0 in
-    let e = eqb-true (n % 4) 3 p.1 in
-    record { low = 16777215 - n; small = omega arith; fours = omega arith; said = grind (arith, ints, nat_tests) }
+    record { low = 2 * half - 1 - n; small = omega arith; fours = omega arith; said = rw (once, le-ltb (2 * half - 1 - n) half (omega arith), twice) (omega (arith, ints)) }
 
 near_low : (uses : Bool) (z : ℤ) → FitsDisp Format.Cobr uses z → LowDisp 13 z
-near_low true z h = near_within z h
-near_low false z h = rw h (near_within (pos 0) refl)
+near_low true z h = low_within 13 (2 ^ 12) refl refl refl z h
+near_low false z h = rw h (low_within 13 (2 ^ 12) refl refl refl (pos 0) refl)
 
 far_low : (uses : Bool) (z : ℤ) → FitsDisp Format.Ctrl uses z → LowDisp 24 z
-far_low true z h = far_within z h
-far_low false z h = rw h (far_within (pos 0) refl)
+far_low true z h = low_within 24 (2 ^ 23) refl refl refl z h
+far_low false z h = rw h (low_within 24 (2 ^ 23) refl refl refl (pos 0) refl)
 
 -- the fields of a word of the compare-and-branch format
 record BranchFields (w o a b m s low hint : ℕ) : Type 0 where
@@ -158,16 +133,7 @@ branch_sum o a b m s low hint = o * 16777216 + a * 524288 + b * 16384 + m * 8192
 
 branch_fields : (o a b m s low hint : ℕ) → o < 256 → a < 32 → b < 32 → m < 2 → s < 2 → low < 8192 → low % 4 ≡ 0 → hint < 2
     → BranchFields (branch_sum o a b m s low hint) o a b m s low hint
-branch_fields o a b m s low hint lo la lb lm ls ll fours lh = record {
-  small = omega arith;
-  opcode = omega arith;
-  src1 = omega arith;
-  bit_m1 = omega arith;
-  src2 = omega arith;
-  bit_s2 = omega arith;
-  disp = omega arith;
-  predicted = omega arith;
-}
+branch_fields o a b m s low hint lo la lb lm ls ll fours lh = search arith
 
 branch_word : (i : Inst) → IsValid i → (row_of i.op).format ≡ Format.Cobr → HasWord i
 branch_word i v f =
@@ -176,15 +142,14 @@ branch_word i v f =
     let d = near_low r.disp i.disp (rw f at v.disp) in
     let w = branch_fields r.opcode (field_number i.a) (field_number i.b) (from_bool m) (from_bool s) d.low (from_bool i.hint)
     (opcode_small i.op) (number_small r.a i.a v.a) (number_small r.b i.b v.b) (flag_small m) (flag_small s) d.small d.fours (flag_small i.hint) in
-    let n = branch_sum r.opcode (field_number i.a) (field_number i.b) (from_bool m) (from_bool s) d.low (from_bool i.hint) in
-    let bm = flag_read (field n 13 1) m w.bit_m1 in let bs = flag_read (field n 0 1) s w.bit_s2 in
-    let bh = flag_read (field n 1 1) i.hint w.predicted in
+    let bm = flag_read _ m w.bit_m1 in let bs = flag_read _ s w.bit_s2 in
+    let bh = flag_read _ i.hint w.predicted in
     let said = d.said ∙ ap (signed_of 13) (sym w.disp) in
     record {
-      word = n;
+      word = _;
       small = w.small;
-      form = λ w1 _. branch_form n w1 i v f w.opcode w.src1 bm w.src2 bs said bh;
-      clear = branch_clear n i v f w.src2 bs said bh;
+      form = λ w1 _. branch_form _ w1 i v f w.opcode w.src1 bm w.src2 bs said bh;
+      clear = branch_clear _ i v f w.src2 bs said bh;
     }
 
 -- the fields of a word of the control format
@@ -199,27 +164,20 @@ abbrev control_sum : ℕ → ℕ → ℕ → ℕ
 control_sum o low hint = o * 16777216 + low + hint * 2
 
 control_fields : (o low hint : ℕ) → o < 256 → low < 16777216 → low % 4 ≡ 0 → hint < 2 → ControlFields (control_sum o low hint) o low hint
-control_fields o low hint lo ll fours lh = record {
-  small = omega arith;
-  opcode = omega arith;
-  disp = omega arith;
-  predicted = omega arith;
-  rest = omega arith;
-}
+control_fields o low hint lo ll fours lh = search arith
 
 control_word : (i : Inst) → IsValid i → (row_of i.op).format ≡ Format.Ctrl → HasWord i
 control_word i v f =
     let r = row_of i.op in
     let d = far_low r.disp i.disp (rw f at v.disp) in
     let w = control_fields r.opcode d.low (from_bool i.hint) (opcode_small i.op) d.small d.fours (flag_small i.hint) in
-    let n = control_sum r.opcode d.low (from_bool i.hint) in
-    let bh = flag_read (field n 1 1) i.hint w.predicted in
+    let bh = flag_read _ i.hint w.predicted in
     let said = d.said ∙ ap (signed_of 24) (sym w.disp) in
     record {
-      word = n;
+      word = _;
       small = w.small;
-      form = λ w1 _. control_form n w1 i v f w.opcode said bh;
-      clear = control_clear n i v f said bh w.rest;
+      form = λ w1 _. control_form _ w1 i v f w.opcode said bh;
+      clear = control_clear _ i v f said bh w.rest;
     }
 
 -- ---- the memory format
@@ -248,10 +206,6 @@ mode_bits Offset = record { small = refl; mode = refl; low = refl; long = refl }
 mode_bits BaseOffset = record { small = refl; mode = refl; low = refl; long = refl }
 mode_bits _ = record { small = refl; mode = refl; low = refl; long = refl }
 
-below_if : (has : Bool) (limit n : ℕ) → 0 < limit → ltb n (cond has limit 1) ≡ true → n < limit
-below_if true limit n some h = ltb-true n limit h
-below_if false limit n some h = let l = ltb-true n 1 h in omega arith
-
 offset_small : (m : Mode) (n : ℕ) → has_offset m ≡ true → ltb n (disp_limit m) ≡ true → n < 4096
 offset_small Offset n e h = ltb-true n 4096 h
 offset_small BaseOffset n e h = ltb-true n 4096 h
@@ -268,12 +222,7 @@ abbrev memory_sum : ℕ → ℕ → ℕ → ℕ → ℕ → ℕ
 memory_sum o c base mode low = o * 16777216 + c * 524288 + base * 16384 + mode + low
 
 memory_fields : (o c base mode low : ℕ) → o < 256 → c < 32 → base < 32 → mode + low < 16384 → MemoryFields (memory_sum o c base mode low) o c base
-memory_fields o c base mode low lo lc lb lm = record {
-  small = omega arith;
-  opcode = omega arith;
-  src_dst = omega arith;
-  base_field = omega arith;
-}
+memory_fields o c base mode low lo lc lb lm = search arith
 
 -- the low bits of the word of a mode without an offset
 record LongFields (w index scale : ℕ) : Type 0 where
@@ -282,7 +231,7 @@ record LongFields (w index scale : ℕ) : Type 0 where
   gap : field w 5 2 ≡ 0
 
 long_fields : (o c base mode index scale : ℕ) → mode % 1024 ≡ 0 → index < 32 → scale < 8 → LongFields (memory_sum o c base mode (scale * 128 + index)) index scale
-long_fields o c base mode index scale em li ls = record { index_field = omega arith; scale_field = omega arith; gap = omega arith }
+long_fields o c base mode index scale em li ls = search arith
 
 short_field : (o c base mode disp : ℕ) → mode % 4096 ≡ 0 → disp < 4096 → field (memory_sum o c base mode disp) 0 12 ≡ disp
 short_field o c base mode disp em ld = omega arith
@@ -292,12 +241,6 @@ unfolding mode_number
 short_mode Offset e = refl
 short_mode BaseOffset e = refl
 short_mode _ e = absurd cc
-
-within : (n l : ℕ) → n < 16384 → n % 1024 ≡ 0 → l < 1024 → n + l < 16384
-within n l a b c = omega arith
-
-within_short : (n l : ℕ) → n < 16384 → n % 4096 ≡ 0 → l < 4096 → n + l < 16384
-within_short n l a b c = omega arith
 
 -- a word with the fields of an instruction of the memory format
 memory_of : (i : Inst) (w : ℕ) → IsValid i → (row_of i.op).format ≡ Format.Mem → is_address i.ea ≡ true
@@ -311,51 +254,33 @@ memory_of i w v f ia w' em long short = record {
   clear = memory_clear w i v f ia w'.src_dst w'.base_field (λ t. (long t).index_field) (λ t. (long t).scale_field) (λ t. (long t).gap);
 }
 
-long_word : (i : Inst) → IsValid i → (row_of i.op).format ≡ Format.Mem → is_address i.ea ≡ true → has_offset i.ea.mode ≡ false → HasWord i
-long_word i v f ia off =
-    let r = row_of i.op in
-    let m = mode_number i.ea.mode in
-    let p = address_parts i.ea ia in
-    let b = mode_bits i.ea.mode in
-    let lm = ltb-true m 16384 b.small in
-    let lb = below_if (has_base i.ea.mode) 32 i.ea.base (omega arith) p.base in
-    let li = below_if (has_index i.ea.mode) 32 i.ea.index (omega arith) p.index in
-    let ls = below_if (has_index i.ea.mode) 5 i.ea.scale (omega arith) p.scale in
-    let c = field_number i.c in
-    let low = i.ea.scale * 128 + i.ea.index in
-    let ll : low < 1024 = omega arith in
-    let set : bit m 12 ≡ true = b.long ∙ ap not off in
-    let mode = mode_added (r.opcode * 16777216 + c * 524288 + i.ea.base * 16384) m low (omega arith) lm b.low
-    (λ t. absurd (cc)) (omega arith) (λ _. ll) in
-    memory_of i (memory_sum r.opcode c i.ea.base m low) v f ia
-    (memory_fields r.opcode c i.ea.base m low (opcode_small i.op) (number_small r.c i.c v.c) lb (within m low lm b.low ll))
-    (mode ∙ b.mode) (λ _. long_fields r.opcode c i.ea.base m i.ea.index i.ea.scale b.low li (omega arith)) (λ t. absurd (cc))
-
-short_word : (i : Inst) → IsValid i → (row_of i.op).format ≡ Format.Mem → is_address i.ea ≡ true → has_offset i.ea.mode ≡ true → HasWord i
-short_word i v f ia off =
-    let r = row_of i.op in
-    let m = mode_number i.ea.mode in
-    let p = address_parts i.ea ia in
-    let b = mode_bits i.ea.mode in
-    let lm = ltb-true m 16384 b.small in
-    let lb = below_if (has_base i.ea.mode) 32 i.ea.base (omega arith) p.base in
-    let c = field_number i.c in
-    let low = i.ea.disp in
-    let ll = offset_small i.ea.mode low off p.disp in
-    let em = short_mode i.ea.mode off in
-    let clear : bit m 12 ≡ false = b.long ∙ ap not off in
-    let mode = mode_added (r.opcode * 16777216 + c * 524288 + i.ea.base * 16384) m low (omega arith) lm b.low
-    (λ _. em) ll (λ t. absurd (cc)) in
-    memory_of i (memory_sum r.opcode c i.ea.base m low) v f ia
-    (memory_fields r.opcode c i.ea.base m low (opcode_small i.op) (number_small r.c i.c v.c) lb (within_short m low lm em ll))
-    (mode ∙ b.mode) (λ t. absurd (cc)) (λ _. short_field r.opcode c i.ea.base m low em ll)
-
 memory_word : (i : Inst) → IsValid i → (row_of i.op).format ≡ Format.Mem → HasWord i
 memory_word i v f =
     let ia = rw f at v.ea in
+    let r = row_of i.op in
+    let c = field_number i.c in
+    let m = mode_number i.ea.mode in
+    let b = mode_bits i.ea.mode in
+    let lm = ltb-true m 16384 b.small in
+    let in_range = within i.ea ia in
+    let above = r.opcode * 16777216 + c * 524288 + i.ea.base * 16384 in
+    let fields = λ (low : ℕ) (room : m + low < 16384). memory_fields r.opcode c i.ea.base m low (opcode_small i.op) (number_small r.c i.c v.c) in_range.base room in
     elim (cases_Bool (has_offset i.ea.mode)) [
-      | inl short ↦ short_word i v f ia short
-      | inr long ↦ long_word i v f ia long
+      | inl short ↦
+          let low = i.ea.disp in
+          let ll = offset_small i.ea.mode low short (address_parts i.ea ia).disp in
+          let em = short_mode i.ea.mode short in
+          let clear : bit m 12 ≡ false = b.long ∙ ap not short in
+          let mode = mode_added above m low (omega arith) lm b.low (λ _. em) ll (λ t. absurd (cc)) in
+          memory_of i (memory_sum r.opcode c i.ea.base m low) v f ia (fields low (omega (arith, em)))
+          (mode ∙ b.mode) (λ t. absurd (cc)) (λ _. short_field r.opcode c i.ea.base m low em ll)
+      | inr long ↦
+          let low = i.ea.scale * 128 + i.ea.index in
+          let ll : low < 1024 = omega arith in
+          let set : bit m 12 ≡ true = b.long ∙ ap not long in
+          let mode = mode_added above m low (omega arith) lm b.low (λ t. absurd (cc)) (omega arith) (λ _. ll) in
+          memory_of i (memory_sum r.opcode c i.ea.base m low) v f ia (fields low (omega (arith, b.low)))
+          (mode ∙ b.mode) (λ _. long_fields r.opcode c i.ea.base m i.ea.index i.ea.scale b.low in_range.index (omega arith)) (λ t. absurd (cc))
     ]
 
 -- ---- every format

@@ -1,17 +1,12 @@
-use Rattle.std.proofs.Common.{◌≡◌, ℕ, Option, true, false, Some, None, sym, subst, ◌∙◌}
+use Rattle.std.proofs.Common.{◌≡◌, true, false, Some, None, sym, ◌∙◌}
 use Rattle.std.specs.Str.{bytes_eq}
+use Rattle.std.proofs.lemmas.Option.{same_Some}
 use Rattle.i9_statement.specs.Registers.{register_text, likely_place}
 use Rattle.i9_statement.proofs.RegisterSearch.{place_found, place_none}
 use Rattle.i9_statement.proofs.registers.register_place.Goals as goal
 
-some_same : (j k : ℕ) → ◌≡◌ {A = Option ℕ} (Some j) (Some k) → j ≡ k
-some_same j k e = cc
-
-none_some : {X : Type 0} (k : ℕ) → ◌≡◌ {A = Option ℕ} None (Some k) → X
-none_some k e = absurd cc
-
 pub returns-in_default-clause-place : goal.returns-in_default-clause-place
-returns-in_default-clause-place c = sym (place_none c.args.text.now None (sym c.likely_place.ensures.place ∙ c.in_default.is) (λ k e. none_some k e))
+returns-in_default-clause-place c = sym (place_none c.args.text.now None (sym c.likely_place.ensures.place ∙ c.in_default.is) (λ k e. absurd (cc e)))
 
 pub returns-then-eq-clause-place : goal.returns-then-eq-clause-place
 returns-then-eq-clause-place c =
@@ -26,4 +21,4 @@ returns-else-eq-clause-place c =
     let k = c.in-Some.place in
     let other : bytes_eq s (register_text k) ≡ false = rw c.register_name.ensures at (sym c.eq.ensures ∙ c.if-eq.false) in
     let likely : likely_place s ≡ Some k = sym c.likely_place.ensures.place ∙ c.in-Some.is in
-    sym (place_none s (Some k) likely (λ j e. subst (λ n. bytes_eq s (register_text n) ≡ false) (some_same k j e) other))
+    sym (place_none s (Some k) likely (λ j e. rw (← same_Some k j e) other))

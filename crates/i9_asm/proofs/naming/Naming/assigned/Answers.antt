@@ -1,5 +1,7 @@
-use Rattle.std.proofs.Common.{◌≡◌, ℕ, Bool, true, false, ◌&&◌, refl, sym, ap, ◌∙◌}
+use Rattle.std.proofs.Common.{◌≡◌, ℕ, true, false, ◌&&◌, refl, sym, ap, ◌∙◌}
 use Rattle.std.specs.Prelude.{is_some}
+use Rattle.std.proofs.lemmas.Bool.{and_right}
+use Rattle.std.proofs.lemmas.Result.{IfOk-weaker}
 use Rattle.i9_statement.specs.Known.{definitions, enter}
 use Rattle.i9_statement.specs.declared.fault.Noted.{Noted}
 use Rattle.i9_statement.specs.Values.{is_name, value_of, settled}
@@ -7,16 +9,9 @@ use Rattle.i9_statement.proofs.KnownNames.{known-all}
 use Rattle.i9_asm.specs.Said.{item_as}
 use Rattle.i9_asm.specs.Numbered.{item_entered}
 use Rattle.i9_asm.specs.Reading.{naming_place}
-use Rattle.i9_asm.proofs.NumberedNames.{each, set_entered, set_kept}
+use Rattle.i9_asm.proofs.NumberedNames.{set_entered, set_kept}
 use Rattle.i9_asm.proofs.naming.Naming.assigned.Goals as goal
 use Rattle.i9_asm.proofs.naming.Naming.assigned.Goals.{else-is_name-via-then-is_name+else-is_some, else-is_name-via-else-is_name}
-
-and_right : (a b : Bool) → b ≡ false → (a && b) ≡ false
-and_right true b h = h
-and_right false b h = refl
-
-and_left : (a b : Bool) → a ≡ false → (a && b) ≡ false
-and_left a b h = rw h refl
 
 pub returns-then-is_some : goal.returns-then-is_some
 returns-then-is_some c =
@@ -27,9 +22,9 @@ returns-then-is_some c =
     let value : c.value_of-value.result ≡ value_of p.known f = c.value_of-value.ensures ∙ ap (λ known. value_of known f) (known-all _) in
     let good : is_name name ≡ true = sym c.is_name.ensures ∙ c.if-is_name.true in
     let some : is_some (value_of p.known f) ≡ true = ap is_some (sym value) ∙ sym c.is_some.ensures ∙ c.if-is_some.true in
-    each c.define.result _ (λ more. definitions more ≡ item_entered p c.args.step (item_as c.args.said.now) table) c.define.ensures
+    IfOk-weaker c.define.result _ (λ more. definitions more ≡ item_entered p c.args.step (item_as c.args.said.now) table)
     (λ more h. h ∙ ap (λ (n : Noted ℕ). enter name (record { value = n.value; step = c.args.step }) table) (c.settled-value.ensures ∙ ap settled value)
-    ∙ sym (set_entered p c.args.step name f table good some) ∙ ap (λ said. item_entered p c.args.step (item_as said) table) (sym c.in-Set.is))
+    ∙ sym (set_entered p c.args.step name f table good some) ∙ ap (λ said. item_entered p c.args.step (item_as said) table) (sym c.in-Set.is)) c.define.ensures
 
 pub returns-else-is_name : goal.returns-else-is_name
 returns-else-is_name c =
@@ -41,5 +36,5 @@ returns-else-is_name c =
     let kept = λ (h : (is_name name && is_some (value_of p.known f)) ≡ false). sym (set_kept p c.args.step name f table h) ∙ ap (λ said. item_entered p c.args.step (item_as said) table) (sym c.in-Set.is) in
     elim c.else-is_name.branch [
       | else-is_name-via-then-is_name+else-is_some w ↦ kept (and_right (is_name name) (is_some (value_of p.known f)) (ap is_some (sym value) ∙ sym w.is_some.ensures ∙ w.if-is_some.false))
-      | else-is_name-via-else-is_name w ↦ kept (and_left (is_name name) (is_some (value_of p.known f)) (sym c.is_name.ensures ∙ w.if-is_name.false))
+      | else-is_name-via-else-is_name w ↦ kept (rw (sym c.is_name.ensures ∙ w.if-is_name.false) refl)
     ]

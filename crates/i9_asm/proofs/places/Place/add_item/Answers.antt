@@ -1,4 +1,5 @@
 use Rattle.std.proofs.Common.{ap, ◌∙◌}
+use Rattle.std.proofs.lemmas.Result.{on_ok_weaker}
 use Rattle.i9_statement.specs.Known.{known_in}
 use Rattle.i9_asm.specs.Lines.{Empty, Org, Align, Set}
 use Rattle.i9_asm.specs.Said.{item_as, bytes_of}
@@ -6,16 +7,17 @@ use Rattle.i9_asm.specs.Places.{space_of}
 use Rattle.i9_asm.specs.Source.{gives_nothing, gives_move, gives_alignment, gives_assignment}
 use Rattle.i9_asm.specs.Reading.{place_of}
 use Rattle.i9_asm.proofs.FieldLoops.{fields_in}
-use Rattle.i9_asm.proofs.GivenBytes.{on_ok, code_adds, data_adds, string_adds, zeros_add, no_bytes}
+use Rattle.i9_asm.proofs.GivenBytes.{code_adds, data_adds, string_adds, zeros_add, no_bytes}
 use Rattle.i9_asm.proofs.places.Place.add_item.Goals as goal
 
 pub returns-in-Instruction-clause-bytes : goal.returns-in-Instruction-clause-bytes
-returns-in-Instruction-clause-bytes c = on_ok c.add_code.result c.add_code.ensures.words
-    (λ h. code_adds (known_in c.args.names) (place_of c.args.self.now) c.address.result c.in-Instruction.text.now c.args.bytes.now.items c.add_code.new.bytes.items (item_as c.args.said.now) c.address.ensures (ap item_as c.in-Instruction.is) h)
+returns-in-Instruction-clause-bytes c = on_ok_weaker c.add_code.result
+    (code_adds (known_in c.args.names) (place_of c.args.self.now) c.address.result c.in-Instruction.text.now c.args.bytes.now.items c.add_code.new.bytes.items (item_as c.args.said.now) c.address.ensures (ap item_as c.in-Instruction.is)) c.add_code.ensures.words
 
 pub returns-in-Data-clause-bytes : goal.returns-in-Data-clause-bytes
-returns-in-Data-clause-bytes c = on_ok c.add_data.result c.add_data.ensures.bytes
+returns-in-Data-clause-bytes c = on_ok_weaker c.add_data.result
     (λ h sound. data_adds (known_in c.args.names) (place_of c.args.self.now) (bytes_of c.in-Data.width) (fields_in c.in-Data.text.now) c.args.bytes.now.items c.add_data.new.bytes.items (item_as c.args.said.now) (ap item_as c.in-Data.is) h)
+    c.add_data.ensures.bytes
 
 pub returns-in_ok-add_string-in-Ascii-clause-bytes : goal.returns-in_ok-add_string-in-Ascii-clause-bytes
 returns-in_ok-add_string-in-Ascii-clause-bytes c =

@@ -1,6 +1,4 @@
-use Rattle.std.proofs.Common.{◌≡◌, ◌+◌, false, length, length-append, Option, Some, None, refl, sym, ap, subst, ◌∙◌, arith}
-use Rattle.std.specs.Prelude.{is_some}
-use Rattle.i9_statement.specs.declared.fault.Fault.{Fault}
+use Rattle.std.proofs.Common.{◌≡◌, ◌+◌, length, length-append, None, refl, sym, ap, subst, ◌∙◌, arith}
 use Rattle.i9_asm.specs.declared.lines.Said as code
 use Rattle.i9_asm.specs.declared.lines.Said.TheVariants as said
 use Rattle.i9_statement.specs.Known.{known_in}
@@ -8,26 +6,15 @@ use Rattle.i9_asm.specs.Said.{item_as}
 use Rattle.i9_asm.specs.Places.{Place, size_of, moved_to}
 use Rattle.i9_asm.specs.Source.{Source, begun, item_fault}
 use Rattle.i9_asm.specs.Reading.{place_of, source_at, Adds}
-use Rattle.i9_asm.proofs.NumberedNames.{place_same}
+use Rattle.i9_asm.proofs.NumberedNames.{place_same, not_some}
 use Rattle.i9_asm.proofs.CountedBytes.{IsNarrow, item_counts}
 use Rattle.i9_asm.proofs.FieldLoops.{bytes_of-small}
 use Rattle.i9_asm.proofs.source.Source.grown.Goals.{then-is_some, else-is_some}
 use Rattle.i9_asm.proofs.source.Source.grown.Goals as goal
 
 narrow_said : (x : code.Said) → IsNarrow (item_as x)
-narrow_said said.Empty = tt
-narrow_said (said.Bad f) = tt
-narrow_said (said.Org f) = tt
-narrow_said (said.Space f) = tt
-narrow_said (said.Align f) = tt
-narrow_said (said.Set n f) = tt
 narrow_said (said.Data width text) = bytes_of-small width
-narrow_said (said.Ascii s) = tt
-narrow_said (said.Instruction s) = tt
-
-no_fault : (o : Option Fault) → is_some o ≡ false → o ≡ None
-no_fault None h = refl
-no_fault (Some f) h = absurd (cc h)
+narrow_said _ = tt
 
 pub returns-clause-grows : goal.returns-clause-grows
 returns-clause-grows c =
@@ -47,7 +34,7 @@ returns-clause-grows c =
       size = elim c.if-is_some.branch [
         | then-is_some w ↦ w.size-is ∙ w.size_of-size.ensures.size ∙ ap (λ (q : Place). size_of q item) place
         | else-is_some w ↦
-            let sound : item_fault names p item ≡ None = sym c.in_ok-fault.ensures.fault ∙ no_fault c.in_ok-fault.fault (sym (w.if-is_some.ensures {u = tt})) in
+            let sound : item_fault names p item ≡ None = sym c.in_ok-fault.ensures.fault ∙ not_some c.in_ok-fault.fault (sym (w.if-is_some.ensures {u = tt})) in
             let a = c.in_ok-fault.ensures.bytes sound in
             let counts : length a.bytes ≡ size_of p item = item_counts names p item a.bytes (narrow_said c.args.said.now) a.gives sound in
             let whole : length new ≡ length old + length a.bytes = ap length a.same ∙ length-append old a.bytes in
