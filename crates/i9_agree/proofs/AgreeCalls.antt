@@ -7,7 +7,6 @@ use Rattle.std.proofs.lemmas.Bool.{or_left, eqb-true}
 use Rattle.i9_isa.specs.declared.op.Op.{Op}
 use Rattle.i9_isa.specs.declared.op.Op.TheVariants.{Mov, Movl, Movt, Movq, Lda, Atadd, Atmod, Bx, Balx, Bal, Call, Callx, Calls, Ret, Flushreg, Modac, Modtc, Modpc, Sdma, Sysctl}
 use Rattle.i9_isa.specs.declared.size.Transfer.{Transfer}
-use Rattle.i9_isa.specs.declared.inst.Operand.{Operand}
 use Rattle.i9_isa.specs.declared.inst.Inst.{Inst}
 use Rattle.i9_isa.specs.Transfers.{transfer_of}
 use Rattle.i9_model.specs.declared.interrupts.TheConstants.{FIRST_VECTOR}
@@ -26,7 +25,7 @@ use Rattle.i9_model.specs.Calls.{caller_in, call_type, system_entered, in_superv
 use Rattle.i9_model.specs.Controls.{Restarts, LoadsGroup}
 use Rattle.i9_model.specs.Operands.{value, word_of, source_words, address, target}
 use Rattle.i9_model.specs.Sound.{in_returns}
-use Rattle.i9_model.specs.Step.{Action, Returns, Flushes, going, passing, following, answering, merged, jumping, linking, modified, modac_action, modtc_action, process_controls, modpc_action, Message, AsksNothing, AsksCheck, AsksInterrupt, AsksRestart, AsksGroup, message_of, argument_of, message_kind, asked_message, message_action, sdma_action, pushing, call_action, system_call, calls_action, ret_action, action_by_name, action_by, action_of}
+use Rattle.i9_model.specs.Step.{Action, Returns, Flushes, going, passing, following, assigning, marking, answering, merged, jumping, linking, modified, modac_action, modtc_action, process_controls, modpc_action, Message, AsksNothing, AsksCheck, AsksInterrupt, AsksRestart, AsksGroup, message_of, argument_of, message_kind, asked_message, message_action, sdma_action, pushing, call_action, system_call, calls_action, ret_action, action_by_name, action_by, action_of}
 use Rattle.i9_model.specs.Stale.{picked, mark_of, marks_of, word_mark, word_marks, left_memory, left_stale, registers_of, address_registers, is_marked, marks_by_name, marks_by, restart_registers, record_registers, deciding, deciding_by, push_mark, area_hazard}
 use Rattle.i9_model.specs.Access.{access_by_name, message_access, access_by, hazard_in, hazard_of}
 use Rattle.i9_model.specs.Alike.{is_hard, AgreeWhere, with_other, shows, with_values, AgreeBeside, AreValuesAlike, AreActionsAlike}
@@ -36,7 +35,7 @@ use Rattle.i9_model.proofs.FrameLaws.{read_hazard-none}
 use Rattle.i9_agree.proofs.AlikeActions.{AreKnown, other_caller, system_by_same, saved_pc_same, saved_ac_same, request_same}
 use Rattle.i9_agree.proofs.Agreeing.{shows-none, shows-first, shows-second, shows-both, values-mapped, writes-append, writes-same, writes-picked}
 use Rattle.i9_agree.proofs.AgreeNames.{AreOther, hard-bytes, pc-alike, moving-agree, atomic-agree, other-agree}
-use Rattle.i9_agree.proofs.AgreeActions.{AreShown, shown-first, shown-second, word-same, operand-same, value-same, address-same, legible-word, shown-word-same, alike-same, alike-by, assigning-alike, pushing-alike}
+use Rattle.i9_agree.proofs.AgreeActions.{AreShown, shown-first, shown-second, word-same, operand-same, value-same, address-same, legible-word, shown-word-same, alike-same, alike-by, IsAllowed, assigning-alike, pushing-alike}
 
 -- ---- pushes
 
@@ -285,9 +284,11 @@ pub record IsAllowedOf (op : Op) (i : Inst) (s : State) : Type 0 where
   pub special : (is_special i.c && list_any (λ b. b) (marks_by_name op (named op i) s)) ≡ false
 
 -- groups are moved word by word
-moved-words : (hides : Bool) (s : State) (regs bytes reading : ℕ → ℕ) (o : Operand) (n : ℕ) → AgreeBeside hides s regs → AreValuesAlike hides (marks_of s o n) (source_words s o n) (source_words (with_values s regs bytes reading) o n)
-moved-words hides s regs bytes reading o n same =
-    values-mapped hides (mark_of s o) (word_of s o) (word_of (with_values s regs bytes reading) o) 0 n (λ k l h. word-same hides s regs bytes reading o k same h)
+words-agree : (hides : Bool) (i : Inst) (s : State) (regs bytes reading : ℕ → ℕ) (n : ℕ) → AgreeBeside hides s regs → IsAllowed i.c (marks_of s i.a n)
+    → let moving = λ (u : State). marking i.c (marks_of s i.a n) (assigning i.c (source_words u i.a n) (passing i s)) in AreActionsAlike hides (moving s) (moving (with_values s regs bytes reading))
+words-agree hides i s regs bytes reading n same allowed =
+    assigning-alike hides i.c (marks_of s i.a n) (source_words s i.a n) (source_words (with_values s regs bytes reading) i.a n) (passing i s) allowed
+    (values-mapped hides (mark_of s i.a) (word_of s i.a) (word_of (with_values s regs bytes reading) i.a) 0 n (λ k l h. word-same hides s regs bytes reading i.a k same h)) refl
 
 pub name-agree : (hides : Bool) (op : Op) (i : Inst) (s : State) (regs bytes reading : ℕ → ℕ) → AreOther hides s regs bytes reading → ((x : ℕ) → in_returns s.frames.live x ≡ true → s.frames.marked x ≡ false)
     → IsAllowedOf op i s → hazard_in s (access_by_name op (named op i) s) ≡ None → AreActionsAlike hides (action_by_name op (named op i) s) (action_by_name op (named op i) (with_values s regs bytes reading))
@@ -351,14 +352,10 @@ name-agree hides Sdma i s regs bytes reading same known may none =
         → ◌≡◌ {A = Action} (record (passing i s) { dma = set_up s.dma v (record { control = w; count = x; source = y; target = z }) }) (record (passing i s) { dma = set_up s.dma a (record { control = b; count = p; source = q; target = r }) })
     sdma-parts s i a b p q r v w x y z e0 e1 e2 e3 e4 = rw (e0, e1, e2, e3, e4) refl
 name-agree hides Sysctl i s regs bytes reading same known may none = sysctl-agree hides (named Sysctl i) s regs bytes reading same (shows-none hides _ may.deciding) none
-name-agree hides Mov i s regs bytes reading same known may none =
-    assigning-alike hides i.c (marks_of s i.a 1) (source_words s i.a 1) (source_words (with_values s regs bytes reading) i.a 1) (passing (named Mov i) s) may.special (moved-words hides s regs bytes reading i.a 1 same.regs) refl
-name-agree hides Movl i s regs bytes reading same known may none =
-    assigning-alike hides i.c (marks_of s i.a 2) (source_words s i.a 2) (source_words (with_values s regs bytes reading) i.a 2) (passing (named Movl i) s) may.special (moved-words hides s regs bytes reading i.a 2 same.regs) refl
-name-agree hides Movt i s regs bytes reading same known may none =
-    assigning-alike hides i.c (marks_of s i.a 3) (source_words s i.a 3) (source_words (with_values s regs bytes reading) i.a 3) (passing (named Movt i) s) may.special (moved-words hides s regs bytes reading i.a 3 same.regs) refl
-name-agree hides Movq i s regs bytes reading same known may none =
-    assigning-alike hides i.c (marks_of s i.a 4) (source_words s i.a 4) (source_words (with_values s regs bytes reading) i.a 4) (passing (named Movq i) s) may.special (moved-words hides s regs bytes reading i.a 4 same.regs) refl
+name-agree hides Mov i s regs bytes reading same known may none = words-agree hides (named Mov i) s regs bytes reading 1 same.regs may.special
+name-agree hides Movl i s regs bytes reading same known may none = words-agree hides (named Movl i) s regs bytes reading 2 same.regs may.special
+name-agree hides Movt i s regs bytes reading same known may none = words-agree hides (named Movt i) s regs bytes reading 3 same.regs may.special
+name-agree hides Movq i s regs bytes reading same known may none = words-agree hides (named Movq i) s regs bytes reading 4 same.regs may.special
 name-agree hides op i s regs bytes reading same known may none = other-agree hides (named op i) s regs bytes reading same.regs refl refl may.deciding may.special
 
 pub action-agree : (hides : Bool) (i : Inst) (s : State) (regs bytes reading : ℕ → ℕ) → AreOther hides s regs bytes reading → ((x : ℕ) → in_returns s.frames.live x ≡ true → s.frames.marked x ≡ false)

@@ -118,10 +118,7 @@ bytes-alike hides m a (b ∷ bs) (v ∷ vs) (w ∷ ws) h =
     values-append hides (replicate 4 b) (byte_marks bs) (word_bytes m a v) (word_bytes m a w) (bytes_of_words m (wrapped (a + 4)) vs) (bytes_of_words m (wrapped (a + 4)) ws)
     (values-marked hides b 4 (word_bytes m a v) (word_bytes m a w) (four_bytes m a v) (four_bytes m a w) (λ t. ap (word_bytes m a) (h.0 t)))
     (bytes-alike hides m (wrapped (a + 4)) bs vs ws h.1)
-bytes-alike hides m a [] (v ∷ vs) ws h = absurd h
-bytes-alike hides m a [] [] (w ∷ ws) h = absurd h
-bytes-alike hides m a (b ∷ bs) [] ws h = absurd h
-bytes-alike hides m a (b ∷ bs) (v ∷ vs) [] h = absurd h
+bytes-alike hides m a _ _ _ h = absurd h
 
 -- the marked bytes of a frame that is saved are in its save area, beside the port page
 abbrev pub AreOfSave : Move → List ℕ → Type 0
@@ -169,19 +166,13 @@ move-agree hides Returns w lost f m bytes inside whole alike same = λ x h. ap (
 move-agree hides Flushes w lost f m bytes inside whole alike same = λ x h. ap (λ (u : Move). (memory_after (with_other m bytes) u).bytes x) alike ∙ same x (open-flushed hides f x (open-marked hides (flushed f) lost x h))
 move-agree hides (Saves a vs) (Saves b ws) lost f m bytes inside whole alike same = λ x h.
     ap (λ (c : ℕ). (memory_after (with_other m bytes) (Saves c ws)).bytes x) alike.0 ∙ saves-agree hides f m bytes a lost vs ws inside whole (refl, alike.1) same x h
-move-agree hides (Saves a vs) Stays lost f m bytes inside whole alike same = absurd alike
-move-agree hides (Saves a vs) Returns lost f m bytes inside whole alike same = absurd alike
-move-agree hides (Saves a vs) Flushes lost f m bytes inside whole alike same = absurd alike
+move-agree hides (Saves a vs) _ lost f m bytes inside whole alike same = absurd alike
 
 -- frames go by addresses alone
 move-frames : (hides : Bool) (v w : Move) (lost : List ℕ) (f : Frames) → AreMovesAlike hides lost v w → frames_after f w ≡ frames_after f v
-move-frames hides Stays w lost f alike = ap (frames_after f) alike
-move-frames hides Returns w lost f alike = ap (frames_after f) alike
-move-frames hides Flushes w lost f alike = ap (frames_after f) alike
 move-frames hides (Saves a vs) (Saves b ws) lost f alike = ap (saved f) alike.0
-move-frames hides (Saves a vs) Stays lost f alike = absurd alike
-move-frames hides (Saves a vs) Returns lost f alike = absurd alike
-move-frames hides (Saves a vs) Flushes lost f alike = absurd alike
+move-frames hides (Saves a vs) _ lost f alike = absurd alike
+move-frames hides _ w lost f alike = ap (frames_after f) alike
 
 -- ---- the state after an action
 

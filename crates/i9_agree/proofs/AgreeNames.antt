@@ -6,7 +6,7 @@ use Rattle.std.proofs.lemmas.Bool.Decides.{nat_tests}
 use Rattle.i9_isa.specs.declared.op.Op.{Op}
 use Rattle.i9_isa.specs.declared.op.Op.TheVariants.{Mov, Lda}
 use Rattle.i9_isa.specs.declared.size.Size.{Size}
-use Rattle.i9_isa.specs.declared.size.Size.TheVariants.{Byte, Half, Words}
+use Rattle.i9_isa.specs.declared.size.Size.TheVariants.{Byte}
 use Rattle.i9_isa.specs.declared.size.Direction.{Direction}
 use Rattle.i9_isa.specs.declared.size.Direction.TheVariants.{Load, Store}
 use Rattle.i9_isa.specs.declared.inst.Operand.{Operand}
@@ -60,8 +60,7 @@ pc-alike hides a b x alike = record {
 
 stored-marks : (size : Size) (s : State) (regs bytes reading : ℕ → ℕ) (o : Operand) → stored_marks size (with_values s regs bytes reading) o ≡ stored_marks size s o
 stored-marks Byte s regs bytes reading o = refl
-stored-marks Half s regs bytes reading o = refl
-stored-marks (Words n) s regs bytes reading o = refl
+stored-marks _ s regs bytes reading o = refl
 
 pub moving-agree : (hides : Bool) (d : Direction) (size : Size) (signed : Bool) (i : Inst) (s : State) (regs bytes reading : ℕ → ℕ) → AreOther hides s regs bytes reading
     → AreShown hides s (address_registers i.ea) → IsAllowed i.c (moved_marks d size i s) → AreActionsAlike hides (moving d size signed i s) (moving d size signed i (with_values s regs bytes reading))

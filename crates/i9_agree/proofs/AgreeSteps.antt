@@ -4,7 +4,7 @@ use Rattle.std.specs.Option.{option_map, option_and_then}
 use Rattle.std.specs.Prelude.{not, bit_and, max, map, ◌%◌, ◌==◌}
 use Rattle.std.specs.List.{range_with_len, list_any}
 use Rattle.i9_isa.specs.declared.op.Op.{Op}
-use Rattle.i9_isa.specs.declared.op.Op.TheVariants.{Calls, Ret, Sysctl, Lda, Atadd, Atmod, Bx, Balx, Bal, Call, Callx, Flushreg, Modac, Modtc, Modpc, Sdma}
+use Rattle.i9_isa.specs.declared.op.Op.TheVariants.{Calls, Ret, Sysctl, Atadd, Atmod}
 use Rattle.i9_isa.specs.declared.size.Size.{Size}
 use Rattle.i9_isa.specs.declared.size.Direction.{Direction}
 use Rattle.i9_isa.specs.declared.size.Direction.TheVariants.{Load, Store}
@@ -32,7 +32,7 @@ use Rattle.i9_model.specs.Boot.{table_word, setup_of, configured}
 use Rattle.i9_model.specs.Tables.{tables_hazard, group_address, group_hazard, group_words}
 use Rattle.i9_model.specs.Calls.{caller_in, record_address, in_supervisor_mode, leaves_supervisor, return_type}
 use Rattle.i9_model.specs.Controls.{Control, KeepsControls, Restarts, LoadsGroup, with_group, controlled, marks_after}
-use Rattle.i9_model.specs.Step.{Action, Flushes, Message, AsksNothing, AsksCheck, AsksInterrupt, AsksRestart, AsksGroup, passing, moving, entering, argument_of, asked_message, message_action, action_by_name, action_by, action_of, moved, flagged, acted, counted, Move, Stays, Saves, Returns, branching, resulting, answer_in, atomic_address, pushing, frames_after}
+use Rattle.i9_model.specs.Step.{Action, Flushes, Message, AsksNothing, AsksRestart, AsksGroup, passing, moving, entering, argument_of, asked_message, message_action, action_by_name, action_by, action_of, moved, flagged, acted, counted, Move, Stays, Saves, Returns, atomic_address, pushing, frames_after}
 use Rattle.i9_model.specs.declared.trace.Seen.{Seen}
 use Rattle.i9_model.specs.declared.trace.Trace.{Trace}
 use Rattle.i9_model.specs.Tracing.{trace_of}
@@ -61,7 +61,6 @@ use Rattle.i9_model.specs.declared.push.Push.{Push}
 use Rattle.i9_model.specs.Sound.{in_returns, IsSound}
 use Rattle.i9_model.specs.Faults.{is_special, planned_fault_by}
 use Rattle.i9_model.specs.Interrupts.{cleared, planned_interrupt_by}
-use Rattle.i9_model.specs.Branches.{asks, question_of}
 use Rattle.i9_model.specs.Stale.{picked, byte_marks, mark_of, marks_of, word_mark, stored_marks, saved_marks, registers_of, is_marked, record_registers, deciding, deciding_by, touches_port, stored_out, changed_out, goes_out, goes_out_by, misuses, area_hazard}
 use Rattle.i9_model.proofs.FrameLaws.{write_hazard-none, save_hazard-none, port_hazard-none, none_wrote}
 use Rattle.i9_model.proofs.Among.{bytes-among, among-bytes, among-address}
@@ -126,17 +125,19 @@ IsReadable s KeepsControls = Unit {0}
 IsReadable s (Restarts first prcb) = tables_hazard s.memory s.frames prcb ≡ None
 IsReadable s (LoadsGroup group) = group_hazard s.frames s.tables.control_table group ≡ None
 
-group_bytes : (a b c : Bool) (s : State) (group : ℕ) (ws : List ℕ) → (by_group a b c s group ws).memory.bytes ≡ s.memory.bytes
-group_bytes true b c s group ws = refl
-group_bytes false true c s group ws = refl
-group_bytes false false true s group ws = refl
-group_bytes false false false s group ws = refl
+-- a group of the control table changes nothing of these
+pub group-rest : (a b c : Bool) (s : State) (group : ℕ) (ws : List ℕ)
+    → let t = by_group a b c s group ws in (t.regs ≡ s.regs) × (t.marks ≡ s.marks) × (t.reading ≡ s.reading) × (t.memory.bytes ≡ s.memory.bytes) × (t.frames ≡ s.frames) × (t.tables ≡ s.tables)
+group-rest true b c s group ws = (refl, refl, refl, refl, refl, refl)
+group-rest false true c s group ws = (refl, refl, refl, refl, refl, refl)
+group-rest false false true s group ws = (refl, refl, refl, refl, refl, refl)
+group-rest false false false s group ws = (refl, refl, refl, refl, refl, refl)
 
 pub controlled_bytes : (c : Control) (s : State) → (controlled s c).memory.bytes ≡ s.memory.bytes
 unfolding started configured
 controlled_bytes KeepsControls s = refl
 controlled_bytes (Restarts first prcb) s = refl
-controlled_bytes (LoadsGroup group) s = group_bytes (eqb group 0) (eqb group 1) (eqb group 6) s group (group_words s.memory s.tables.control_table group)
+controlled_bytes (LoadsGroup group) s = (group-rest (eqb group 0) (eqb group 1) (eqb group 6) s group (group_words s.memory s.tables.control_table group)).3
 
 -- ---- tables are read after a flush that stores nothing
 
@@ -152,11 +153,9 @@ unfolding moved
 group_readable i s group none = ap (λ (f : Frames). group_hazard f s.tables.control_table group) (none_wrote (flushed s.frames)) ∙ none
 
 message_readable : (m : Message) (i : Inst) (s : State) → hazard_in s (message_access m i s) ≡ None → IsReadable (moved s (message_action m i s)) (message_action m i s).control
-message_readable AsksNothing i s none = tt
-message_readable AsksCheck i s none = tt
-message_readable AsksInterrupt i s none = tt
 message_readable AsksRestart i s none = restart_readable i s (value s i.b) (value s i.c) none
 message_readable AsksGroup i s none = group_readable i s (argument_of i s) none
+message_readable _ i s none = tt
 
 name_readable : (op : Op) (i : Inst) (s : State) → hazard_in s (access_by_name op i s) ≡ None → IsReadable (moved s (action_by_name op i s)) (action_by_name op i s).control
 name_readable Sysctl i s none = message_readable (asked_message i s) i s none
@@ -181,12 +180,6 @@ group-parts true b c s regs bytes reading group ws = refl
 group-parts false true c s regs bytes reading group ws = refl
 group-parts false false true s regs bytes reading group ws = refl
 group-parts false false false s regs bytes reading group ws = refl
-
-group-rest : (a b c : Bool) (s : State) (group : ℕ) (ws : List ℕ) → ((by_group a b c s group ws).regs ≡ s.regs) × ((by_group a b c s group ws).marks ≡ s.marks) × ((by_group a b c s group ws).reading ≡ s.reading) × ((by_group a b c s group ws).memory.bytes ≡ s.memory.bytes) × ((by_group a b c s group ws).frames ≡ s.frames)
-group-rest true b c s group ws = (refl, refl, refl, refl, refl)
-group-rest false true c s group ws = (refl, refl, refl, refl, refl)
-group-rest false false true s group ws = (refl, refl, refl, refl, refl)
-group-rest false false false s group ws = (refl, refl, refl, refl, refl)
 
 -- a state that agrees, by its values
 pub agree-by : (hides : Bool) (s t : State) (regs bytes reading : ℕ → ℕ) → t ≡ with_values s regs bytes reading → AreOther hides s regs bytes reading → Agree hides s t
@@ -324,14 +317,7 @@ atomic-inside i s datas data_marked less out none =
 
 message-inside : (m : Message) (i : Inst) (s : State) → AreInside (frames_after s.frames (message_action m i s).move) (message_action m i s).stale
 message-inside AsksNothing i s = λ x t. absurd cc
-message-inside AsksCheck i s = λ x t. absurd cc
-message-inside AsksInterrupt i s = λ x t. absurd cc
-message-inside AsksRestart i s = λ x t. absurd cc
-message-inside AsksGroup i s = λ x t. absurd cc
-
-other-inside : (b : Bool) (i : Inst) (s : State) → AreInside (frames_after s.frames (cond b (branching i s) (resulting i s (answer_in i s))).move) (cond b (branching i s) (resulting i s (answer_in i s))).stale
-other-inside true i s = λ x t. absurd cc
-other-inside false i s = λ x t. absurd cc
+message-inside _ i s = λ x t. absurd cc
 
 data-none : (s : State) (o : Operand) → is_marked s (registers_of o 1) ≡ false → mark_of s o 0 ≡ false
 data-none s o none = unmarked (mark_of s o 0) (shown-word true s o 1 0 (shows-none true _ none) (omega arith))
@@ -342,21 +328,8 @@ name-inside Atmod i s out none = atomic-inside i s (registers_of i.b 1 ++ regist
     let shown = shows-none true (is_marked s (registers_of i.b 1 ++ registers_of i.c 1)) e in
     or_from (mark_of s i.b 0) (mark_of s i.c 0) (unmarked (mark_of s i.b 0) (shown-word true s i.b 1 0 (shown-first true s (registers_of i.b 1) (registers_of i.c 1) shown) (omega arith)))
     (unmarked (mark_of s i.c 0) (shown-word true s i.c 1 0 (shown-second true s (registers_of i.b 1) (registers_of i.c 1) shown) (omega arith)))) out none
-name-inside Lda i s out none = λ x t. absurd cc
-name-inside Bx i s out none = λ x t. absurd cc
-name-inside Balx i s out none = λ x t. absurd cc
-name-inside Bal i s out none = λ x t. absurd cc
-name-inside Call i s out none = λ x t. absurd cc
-name-inside Callx i s out none = λ x t. absurd cc
-name-inside Calls i s out none = λ x t. absurd cc
-name-inside Ret i s out none = λ x t. absurd cc
-name-inside Flushreg i s out none = λ x t. absurd cc
-name-inside Modac i s out none = λ x t. absurd cc
-name-inside Modtc i s out none = λ x t. absurd cc
-name-inside Modpc i s out none = λ x t. absurd cc
-name-inside Sdma i s out none = λ x t. absurd cc
 name-inside Sysctl i s out none = message-inside (asked_message i s) i s
-name-inside op i s out none = other-inside (asks (question_of op)) i s
+name-inside _ i s out none = λ x t. absurd cc
 
 action-inside : (i : Inst) (s : State) → goes_out_by (transfer_of i.op) i s ≡ false → hazard_of i s ≡ None → AreInside (frames_after s.frames (action_of i s).move) (action_of i s).stale
 unfolding hazard_of action_of
@@ -504,10 +477,7 @@ kind-due hides (Instruction i) s regs bytes reading inside alike =
     ap (due_in t b.trace) (exit-same hides s regs bytes reading a b inside alike)
     ∙ ap (λ (o : Option Trace). due_in t o (exit_in s a)) trace
     ∙ due-in-same s regs bytes reading a.trace (exit_in s a)
-kind-due hides (Faulted inst fault) s regs bytes reading inside alike = refl
-kind-due hides (Entered x) s regs bytes reading inside alike = refl
-kind-due hides (Interrupted c x) s regs bytes reading inside alike = refl
-kind-due hides (Reached x u) s regs bytes reading inside alike = refl
+kind-due hides _ s regs bytes reading inside alike = refl
 
 record-agree : (hides : Bool) (k : Kind) (s t : State) → IsKindAlike hides k s t → Agree hides s t → DoAgree hides (record_of k s) (record_of k t)
 record-agree hides k s t alike agree = record {
@@ -615,13 +585,8 @@ unfolding received_in
 received-same hides s regs bytes reading e same = events_alone e ∙ received_same s bytes e (hard-bytes hides s regs bytes reading same)
   where
     events_alone : (e : Event) → received_in (with_values s regs bytes reading) e ≡ received_in (with_memory s bytes) e
-    events_alone (events.Pin x) = refl
-    events_alone (events.Low x) = refl
-    events_alone (events.High x) = refl
     events_alone events.Nmi = refl
-    events_alone (events.Dma c) = refl
-    events_alone (events.Feed c given) = refl
-    events_alone (events.Show a n) = refl
+    events_alone _ = refl
 
 reached-agree : (hides : Bool) (e : Event) (p : Result Received ℕ) (s : State) (regs bytes reading : ℕ → ℕ) → AreOther hides s regs bytes reading → NextsAgree hides (next_by_received s e p) (next_by_received (with_values s regs bytes reading) e p)
 reached-agree hides e (Ok u) s regs bytes reading same =

@@ -77,10 +77,8 @@ move_alike (Saves save words) f m bytes whole same = λ x h.
 
 -- no move changes a configuration word
 pub move_mcon : (v : Move) (m : Memory) → (memory_after m v).mcon ≡ m.mcon
-move_mcon Stays m = refl
-move_mcon Returns m = refl
-move_mcon Flushes m = refl
 move_mcon (Saves save words) m = ap (λ (k : Memory). k.mcon) (words_as_bytes m save words)
+move_mcon _ m = refl
 
 -- bytes that are soft again are compared no more
 pub softened_compared : (f : Frames) (stale : List ℕ) (x : ℕ) → is_compared (softened f stale) x ≡ true → is_compared f x ≡ true

@@ -9,11 +9,11 @@ use Rattle.i9_model.specs.Writes.{address_count, wrapped}
 use Rattle.i9_model.specs.Memory.{console_byte, in_port_page, exit_word}
 use Rattle.i9_model.specs.State.{State, as_zero}
 use Rattle.i9_model.specs.Frames.{in_frames}
-use Rattle.i9_model.specs.Step.{Action, Flushes, Move, Stays, Saves, Returns}
+use Rattle.i9_model.specs.Step.{Action, Move, Saves}
 use Rattle.i9_model.specs.declared.trace.Trace.{Trace}
 use Rattle.i9_model.specs.Traced.{traced_action}
 use Rattle.i9_model.specs.declared.run.End.{End}
-use Rattle.i9_model.specs.Run.{Finish, Kind, Instruction, Faulted, Entered, Interrupted, Reached, Record, action_by_kind, action_done, point_of, exit_in, due_in, due_by, action_due, Next, Does, Ends, next_in, reached_by}
+use Rattle.i9_model.specs.Run.{Finish, Kind, Instruction, Reached, Record, action_by_kind, action_done, point_of, exit_in, due_in, due_by, action_due, Next, Does, Ends, next_in, reached_by}
 use Rattle.i9_model.specs.declared.run.Point.{Point}
 use Rattle.i9_model.specs.declared.run.Due.{Due}
 use Rattle.i9_model.specs.Overlay.{overlay}
@@ -54,25 +54,17 @@ writes-are marked [] [] h = refl
 writes-are marked (p ∷ ps) (q ∷ qs) h =
     let one : q ≡ p = λ i. (h.0 i, h.1 refl i) in
     ap (λ (x : ℕ × ℕ). x ∷ qs) one ∙ ap (λ (xs : List (ℕ × ℕ)). p ∷ xs) (writes-are marked ps qs h.2)
-writes-are marked [] (q ∷ qs) h = absurd h
-writes-are marked (p ∷ ps) [] h = absurd h
+writes-are marked _ _ h = absurd h
 
 values-are : (bs : List Bool) (vs ws : List ℕ) → AreValuesAlike false bs vs ws → ws ≡ vs
 values-are [] [] [] h = refl
 values-are (b ∷ bs) (v ∷ vs) (w ∷ ws) h = ap (λ (x : ℕ). x ∷ ws) (h.0 refl) ∙ ap (λ (xs : List ℕ). v ∷ xs) (values-are bs vs ws h.1)
-values-are [] (v ∷ vs) ws h = absurd h
-values-are [] [] (w ∷ ws) h = absurd h
-values-are (b ∷ bs) [] ws h = absurd h
-values-are (b ∷ bs) (v ∷ vs) [] h = absurd h
+values-are _ _ _ h = absurd h
 
 moves-are : (lost : List ℕ) (v w : Move) → AreMovesAlike false lost v w → w ≡ v
-moves-are lost Stays w h = h
-moves-are lost Returns w h = h
-moves-are lost Flushes w h = h
 moves-are lost (Saves a vs) (Saves b ws) h = ap (λ (c : ℕ). Saves c ws) h.0 ∙ ap (λ (xs : List ℕ). Saves a xs) (values-are h.1.0 vs ws h.1.2)
-moves-are lost (Saves a vs) Stays h = absurd h
-moves-are lost (Saves a vs) Returns h = absurd h
-moves-are lost (Saves a vs) Flushes h = absurd h
+moves-are lost (Saves a vs) _ h = absurd h
+moves-are lost _ w h = h
 
 actions-are : (a b : Action) → AreActionsAlike false a b → b ≡ a
 actions-are a b h =
@@ -115,10 +107,7 @@ due_alike_by s bytes a = due_same_in a.trace (exit_in s a)
 
 due_same : (k : Kind) (s : State) (bytes : ℕ → ℕ) → action_by_kind k (with_memory s bytes) ≡ action_by_kind k s → due_by k (with_memory s bytes) ≡ due_by k s
 due_same (Instruction i) s bytes e = ap (action_due (with_memory s bytes)) e ∙ due_alike_by s bytes (traced_action i s)
-due_same (Faulted inst fault) s bytes e = refl
-due_same (Entered x) s bytes e = refl
-due_same (Interrupted c x) s bytes e = refl
-due_same (Reached x u) s bytes e = refl
+due_same _ s bytes e = refl
 
 -- ---- what is shown
 
@@ -204,32 +193,21 @@ overlays_alike s t a n alike = by_places (range_with_len 0 n)
         ap (λ (b : Option ℕ). b ∷ map (λ j. overlay t (wrapped (a + j))) ks) (overlay_alike s t (wrapped (a + k)) alike) ∙ ap (λ (bs : List (Option ℕ)). overlay s (wrapped (a + k)) ∷ bs) (by_places ks)
 
 bytes_alike : (e : Event) (s t : State) → AreAlike s t → bytes_lines e t ≡ bytes_lines e s
-bytes_alike (events.Pin x) s t alike = refl
-bytes_alike (events.Low x) s t alike = refl
-bytes_alike (events.High x) s t alike = refl
-bytes_alike events.Nmi s t alike = refl
-bytes_alike (events.Dma c) s t alike = refl
-bytes_alike (events.Feed c bytes) s t alike = refl
 bytes_alike (events.Show a n) s t alike = ap (λ (bs : List (Option ℕ)). Bytes a bs ∷ []) (overlays_alike s t a n alike)
+bytes_alike _ s t alike = refl
 
 journal_alike : (e : Event) (s t : State) → AreAlike s t → ◌≡◌ {A = List Shown} (Journal t.count e ∷ bytes_lines e t) (Journal s.count e ∷ bytes_lines e s)
 journal_alike e s t alike =
     ap (λ (u : State). Journal u.count e ∷ bytes_lines e t) alike.rest ∙ ap (λ (ls : List Shown). Journal s.count e ∷ ls) (bytes_alike e s t alike)
 
 events_alike : (k : Kind) (s t : State) → AreAlike s t → event_lines k t ≡ event_lines k s
-events_alike (Instruction i) s t alike = refl
-events_alike (Faulted inst fault) s t alike = refl
-events_alike (Entered e) s t alike = refl
-events_alike (Interrupted c e) s t alike = refl
 events_alike (Reached e u) s t alike = journal_alike e s t alike
+events_alike _ s t alike = refl
 
 -- which event was reached
 reached_same : (k : Kind) (s t : State) → AreAlike s t → reached_by k t ≡ reached_by k s
-reached_same (Instruction i) s t alike = refl
-reached_same (Faulted inst fault) s t alike = refl
-reached_same (Entered e) s t alike = refl
-reached_same (Interrupted c e) s t alike = refl
 reached_same (Reached e u) s t alike = ap (λ (v : State). timed_at v.count e ∷ []) alike.rest
+reached_same _ s t alike = refl
 
 pub reached_alike : (r q : Record) → AreRecordsAlike r q → reached_by q.kind q.before ≡ reached_by r.kind r.before
 reached_alike r q same = ap (λ (k : Kind). reached_by k q.before) same.kind ∙ reached_same r.kind r.before q.before same.before
