@@ -37,10 +37,7 @@ feed_cases : (n : ℕ) → (n == 2 || n == 4 || n == 8 || n == 32) ≡ true → 
 feed_cases n h = grind (arith)
 
 feed_length : (n m : ℕ) → ((m ≡ 2) ⊎ (m ≡ 4)) ⊎ ((m ≡ 8) ⊎ (m ≡ 32)) → m ≡ 2 * n → IsUnit n
-feed_length n m (inl (inl e)) len = inl (inl (omega arith))
-feed_length n m (inl (inr e)) len = inl (inr (omega arith))
-feed_length n m (inr (inl e)) len = inr (inl (omega arith))
-feed_length n m (inr (inr e)) len = inr (inr (omega arith))
+feed_length n m digits len = grind arith
 
 ok_some : {A E : Type 0} (r : Result A E) (x : A) → result_ok r ≡ Some x → r ≡ Ok x
 ok_some (Ok y) x h = let e : y ≡ x = cc in ap Ok e
