@@ -41,6 +41,11 @@ shown-first hides s xs ys h = shows-first hides (is_marked s xs) (is_marked s ys
 pub shown-second : (hides : Bool) (s : State) (xs ys : List ℕ) → AreShown hides s (xs ++ ys) → AreShown hides s ys
 shown-second hides s xs ys h = shows-second hides (is_marked s xs) (is_marked s ys) (ap (shows hides) (sym (list_any-append s.marks xs ys)) ∙ h)
 
+pub shown-three : (hides : Bool) (s : State) (xs ys zs : List ℕ) → AreShown hides s (xs ++ (ys ++ zs)) → AreShown hides s xs × AreShown hides s ys × AreShown hides s zs
+shown-three hides s xs ys zs h =
+    let later = shown-second hides s xs (ys ++ zs) h in
+    (shown-first hides s xs (ys ++ zs) h, shown-first hides s ys zs later, shown-second hides s ys zs later)
+
 -- one of a group
 shown-group : (hides : Bool) (s : State) (r n k : ℕ) → AreShown hides s (range_with_len r n) → k < n → shows hides (s.marks (r + k)) ≡ true
 shown-group hides s r zero k h l = absurd (omega arith)

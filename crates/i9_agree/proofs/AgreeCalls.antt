@@ -35,7 +35,7 @@ use Rattle.i9_model.proofs.FrameLaws.{read_hazard-none}
 use Rattle.i9_agree.proofs.AlikeActions.{AreKnown, other_caller, system_by_same, saved_pc_same, saved_ac_same, request_same}
 use Rattle.i9_agree.proofs.Agreeing.{shows-none, shows-first, shows-second, shows-both, values-mapped, writes-append, writes-same, writes-picked}
 use Rattle.i9_agree.proofs.AgreeNames.{AreOther, hard-bytes, pc-alike, moving-agree, atomic-agree, other-agree}
-use Rattle.i9_agree.proofs.AgreeActions.{AreShown, shown-first, shown-second, word-same, operand-same, value-same, address-same, legible-word, shown-word-same, alike-same, alike-by, IsAllowed, assigning-alike, pushing-alike}
+use Rattle.i9_agree.proofs.AgreeActions.{AreShown, shown-first, shown-second, shown-three, word-same, operand-same, value-same, address-same, legible-word, shown-word-same, alike-same, alike-by, IsAllowed, assigning-alike, pushing-alike}
 
 -- ---- pushes
 
@@ -241,15 +241,11 @@ message-agree hides AsksInterrupt i s regs bytes reading same shown more none =
     (ap (λ (v : ℕ). record (passing i s) { writes = request_writes (with_other s.memory bytes) s.tables.interrupt_table (v % 2 ^ 8); check = true }) (value-same hides s regs bytes reading i.a same.regs shown)
     ∙ ap (λ (ps : List (ℕ × ℕ)). record (passing i s) { writes = ps; check = true }) (request_same s.frames s.memory bytes s.tables.interrupt_table (argument_of i s) (hard-bytes hides s regs bytes reading same) none))
 message-agree hides AsksRestart i s regs bytes reading same shown more none =
-    let t = with_values s regs bytes reading in
-    let both = more refl in
-    alike-by hides (message_action AsksRestart i s) (message_action AsksRestart i t) refl
-    (ap (λ (v : ℕ). record (passing i s) { move = Flushes; control = Restarts v (value t i.c) }) (value-same hides s regs bytes reading i.b same.regs (shown-first hides s (registers_of i.b 1) (registers_of i.c 1) both))
-    ∙ ap (λ (v : ℕ). record (passing i s) { move = Flushes; control = Restarts (value s i.b) v }) (value-same hides s regs bytes reading i.c same.regs (shown-second hides s (registers_of i.b 1) (registers_of i.c 1) both)))
+    let b = shown-first hides s (registers_of i.b 1) (registers_of i.c 1) (more refl) in
+    let c = shown-second hides s (registers_of i.b 1) (registers_of i.c 1) (more refl) in
+    alike-by hides (message_action AsksRestart i s) (message_action AsksRestart i (with_values s regs bytes reading)) refl (rw (value-same hides s regs bytes reading i.b same.regs b, value-same hides s regs bytes reading i.c same.regs c) refl)
 message-agree hides AsksGroup i s regs bytes reading same shown more none =
-    let t = with_values s regs bytes reading in
-    alike-by hides (message_action AsksGroup i s) (message_action AsksGroup i t) refl
-    (ap (λ (v : ℕ). record (passing i s) { move = Flushes; control = LoadsGroup (v % 2 ^ 8) }) (value-same hides s regs bytes reading i.a same.regs shown))
+    alike-by hides (message_action AsksGroup i s) (message_action AsksGroup i (with_values s regs bytes reading)) refl (rw (value-same hides s regs bytes reading i.a same.regs shown) refl)
 
 -- message 3 takes two further registers
 pub restart-shown : (hides : Bool) (s : State) (n v : ℕ) (rs : List ℕ) → AreShown hides s (cond (n == 3) rs []) → message_kind n v ≡ AsksRestart → AreShown hides s rs
@@ -317,40 +313,20 @@ name-agree hides Calls i s regs bytes reading same known may none =
 name-agree hides Ret i s regs bytes reading same known may none = ret-agree hides s regs bytes reading same known (shows-none hides _ may.deciding) none
 name-agree hides Flushreg i s regs bytes reading same known may none = alike-same hides (action_by_name Flushreg (named Flushreg i) s) refl
 name-agree hides Modac i s regs bytes reading same known may none =
-    let t = with_values s regs bytes reading in
-    let all : AreShown hides s (registers_of i.a 1 ++ (registers_of i.b 1 ++ registers_of i.c 0)) = shows-none hides _ may.deciding in
-    let later = shown-second hides s (registers_of i.a 1) (registers_of i.b 1 ++ registers_of i.c 0) all in
-    alike-by hides (modac_action (named Modac i) s) _ refl
-    (ap (λ (v : ℕ). record (answering (named Modac i) s s.ac) { ac = modified s.ac v (value t i.b) AC_MASK }) (value-same hides s regs bytes reading i.a same.regs (shown-first hides s (registers_of i.a 1) (registers_of i.b 1 ++ registers_of i.c 0) all))
-    ∙ ap (λ (v : ℕ). record (answering (named Modac i) s s.ac) { ac = modified s.ac (value s i.a) v AC_MASK }) (value-same hides s regs bytes reading i.b same.regs (shown-first hides s (registers_of i.b 1) (registers_of i.c 0) later)))
+    let all = shown-three hides s (registers_of i.a 1) (registers_of i.b 1) (registers_of i.c 0) (shows-none hides _ may.deciding) in
+    alike-by hides (modac_action (named Modac i) s) (modac_action (named Modac i) (with_values s regs bytes reading)) refl (rw (value-same hides s regs bytes reading i.a same.regs all.0, value-same hides s regs bytes reading i.b same.regs all.1) refl)
 name-agree hides Modtc i s regs bytes reading same known may none =
-    let t = with_values s regs bytes reading in
-    let all : AreShown hides s (registers_of i.a 1 ++ (registers_of i.b 1 ++ registers_of i.c 0)) = shows-none hides _ may.deciding in
-    let later = shown-second hides s (registers_of i.a 1) (registers_of i.b 1 ++ registers_of i.c 0) all in
-    alike-by hides (modtc_action (named Modtc i) s) _ refl
-    (ap (λ (v : ℕ). record (answering (named Modtc i) s s.trace.tc) { tc = modified s.trace.tc v (value t i.b) TC_MASK }) (value-same hides s regs bytes reading i.a same.regs (shown-first hides s (registers_of i.a 1) (registers_of i.b 1 ++ registers_of i.c 0) all))
-    ∙ ap (λ (v : ℕ). record (answering (named Modtc i) s s.trace.tc) { tc = modified s.trace.tc (value s i.a) v TC_MASK }) (value-same hides s regs bytes reading i.b same.regs (shown-first hides s (registers_of i.b 1) (registers_of i.c 0) later)))
+    let all = shown-three hides s (registers_of i.a 1) (registers_of i.b 1) (registers_of i.c 0) (shows-none hides _ may.deciding) in
+    alike-by hides (modtc_action (named Modtc i) s) (modtc_action (named Modtc i) (with_values s regs bytes reading)) refl (rw (value-same hides s regs bytes reading i.a same.regs all.0, value-same hides s regs bytes reading i.b same.regs all.1) refl)
 name-agree hides Modpc i s regs bytes reading same known may none =
-    let t = with_values s regs bytes reading in
     let all : AreShown hides s (registers_of i.b 1 ++ registers_of i.c 1) = shows-none hides _ may.deciding in
-    let controls : process_controls (named Modpc i) t ≡ process_controls (named Modpc i) s =
-    ap (λ (v : ℕ). modified s.pc v (value t i.c) PC_MASK) (value-same hides s regs bytes reading i.b same.regs (shown-first hides s (registers_of i.b 1) (registers_of i.c 1) all))
-    ∙ ap (λ (v : ℕ). modified s.pc (value s i.b) v PC_MASK) (value-same hides s regs bytes reading i.c same.regs (shown-second hides s (registers_of i.b 1) (registers_of i.c 1) all)) in
-    alike-by hides (modpc_action (named Modpc i) s) _ refl
-    (ap (λ (v : ℕ). record (answering (named Modpc i) s s.pc) { pc = v; check = nat_lt (priority_of v) (priority_of s.pc) }) controls)
+    alike-by hides (modpc_action (named Modpc i) s) (modpc_action (named Modpc i) (with_values s regs bytes reading)) refl
+    (rw (value-same hides s regs bytes reading i.b same.regs (shown-first hides s (registers_of i.b 1) (registers_of i.c 1) all), value-same hides s regs bytes reading i.c same.regs (shown-second hides s (registers_of i.b 1) (registers_of i.c 1) all)) refl)
 name-agree hides Sdma i s regs bytes reading same known may none =
-    let t = with_values s regs bytes reading in
-    let all : AreShown hides s (registers_of i.a 1 ++ (registers_of i.b 1 ++ registers_of i.c 3)) = shows-none hides _ may.deciding in
-    let later = shown-second hides s (registers_of i.a 1) (registers_of i.b 1 ++ registers_of i.c 3) all in
-    let a = value-same hides s regs bytes reading i.a same.regs (shown-first hides s (registers_of i.a 1) (registers_of i.b 1 ++ registers_of i.c 3) all) in
-    let b = value-same hides s regs bytes reading i.b same.regs (shown-first hides s (registers_of i.b 1) (registers_of i.c 3) later) in
-    let c : (k : ℕ) → k < 3 → word_of t i.c k ≡ word_of s i.c k = λ k l. operand-same hides s regs bytes reading i.c 3 k same.regs (shown-second hides s (registers_of i.b 1) (registers_of i.c 3) later) l in
-    alike-by hides (sdma_action (named Sdma i) s) _ refl
-    (sdma-parts s (named Sdma i) (value s i.a) (value s i.b) (word_of s i.c 0) (word_of s i.c 1) (word_of s i.c 2) (value t i.a) (value t i.b) (word_of t i.c 0) (word_of t i.c 1) (word_of t i.c 2) a b (c 0 (omega arith)) (c 1 (omega arith)) (c 2 (omega arith)))
-  where
-    sdma-parts : (s : State) (i : Inst) (a b p q r v w x y z : ℕ) → v ≡ a → w ≡ b → x ≡ p → y ≡ q → z ≡ r
-        → ◌≡◌ {A = Action} (record (passing i s) { dma = set_up s.dma v (record { control = w; count = x; source = y; target = z }) }) (record (passing i s) { dma = set_up s.dma a (record { control = b; count = p; source = q; target = r }) })
-    sdma-parts s i a b p q r v w x y z e0 e1 e2 e3 e4 = rw (e0, e1, e2, e3, e4) refl
+    let all = shown-three hides s (registers_of i.a 1) (registers_of i.b 1) (registers_of i.c 3) (shows-none hides _ may.deciding) in
+    let c : (k : ℕ) → k < 3 → word_of (with_values s regs bytes reading) i.c k ≡ word_of s i.c k = λ k l. operand-same hides s regs bytes reading i.c 3 k same.regs all.2 l in
+    alike-by hides (sdma_action (named Sdma i) s) (sdma_action (named Sdma i) (with_values s regs bytes reading)) refl
+    (rw (value-same hides s regs bytes reading i.a same.regs all.0, value-same hides s regs bytes reading i.b same.regs all.1, c 0 (omega arith), c 1 (omega arith), c 2 (omega arith)) refl)
 name-agree hides Sysctl i s regs bytes reading same known may none = sysctl-agree hides (named Sysctl i) s regs bytes reading same (shows-none hides _ may.deciding) none
 name-agree hides Mov i s regs bytes reading same known may none = words-agree hides (named Mov i) s regs bytes reading 1 same.regs may.special
 name-agree hides Movl i s regs bytes reading same known may none = words-agree hides (named Movl i) s regs bytes reading 2 same.regs may.special

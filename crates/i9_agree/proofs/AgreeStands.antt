@@ -65,34 +65,24 @@ decides hides None i s regs bytes reading same = name-decides hides i.op i s reg
 
 -- ---- what reaches a special function register, and what goes out
 
-name-marks : (hides : Bool) (op : Op) (i : Inst) (s : State) (regs bytes reading : ℕ → ℕ) → AgreeBeside hides s regs → AreShown hides s (deciding op i s) → marks_by_name op i (with_values s regs bytes reading) ≡ marks_by_name op i s
-name-marks hides Atadd i s regs bytes reading same shown = ap (λ (v : ℕ). word_mark s.frames.soft (aligned v) ∷ []) (value-same hides s regs bytes reading i.a same shown)
-name-marks hides Atmod i s regs bytes reading same shown = ap (λ (v : ℕ). word_mark s.frames.soft (aligned v) ∷ []) (value-same hides s regs bytes reading i.a same shown)
-name-marks hides _ i s regs bytes reading same shown = refl
+-- these are the same
+abbrev AreMarksSame : Option Transfer → Inst → State → State → Type 0
+AreMarksSame o i s t = (marks_by o i t ≡ marks_by o i s) × (goes_out_by o i t ≡ goes_out_by o i s)
 
-moved-marks : (hides : Bool) (d : Direction) (size : Size) (i : Inst) (s : State) (regs bytes reading : ℕ → ℕ) → AgreeBeside hides s regs → AreShown hides s (address_registers i.ea) → moved_marks d size i (with_values s regs bytes reading) ≡ moved_marks d size i s
-moved-marks hides Load size i s regs bytes reading same shown = ap (loaded_marks size s.frames.soft) (address-same hides s regs bytes reading i.ea same shown)
-moved-marks hides Store size i s regs bytes reading same shown = refl
+name-marks : (hides : Bool) (op : Op) (i : Inst) (s : State) (regs bytes reading : ℕ → ℕ) → AgreeBeside hides s regs → AreShown hides s (deciding op i s)
+    → (marks_by_name op i (with_values s regs bytes reading) ≡ marks_by_name op i s) × (goes_out op i (with_values s regs bytes reading) ≡ goes_out op i s)
+name-marks hides Atadd i s regs bytes reading same shown = rw (value-same hides s regs bytes reading i.a same shown) (refl, refl)
+name-marks hides Atmod i s regs bytes reading same shown = rw (value-same hides s regs bytes reading i.a same shown) (refl, refl)
+name-marks hides _ i s regs bytes reading same shown = (refl, refl)
 
-marks-same : (hides : Bool) (o : Option Transfer) (i : Inst) (s : State) (regs bytes reading : ℕ → ℕ) → AgreeBeside hides s regs → AreShown hides s (deciding_by o i s) → marks_by o i (with_values s regs bytes reading) ≡ marks_by o i s
+moved-marks : (hides : Bool) (d : Direction) (size : Size) (i : Inst) (s : State) (regs bytes reading : ℕ → ℕ) → AgreeBeside hides s regs → AreShown hides s (address_registers i.ea)
+    → (moved_marks d size i (with_values s regs bytes reading) ≡ moved_marks d size i s) × (stored_out d size i (with_values s regs bytes reading) ≡ stored_out d size i s)
+moved-marks hides Load size i s regs bytes reading same shown = rw (address-same hides s regs bytes reading i.ea same shown) (refl, refl)
+moved-marks hides Store size i s regs bytes reading same shown = rw (address-same hides s regs bytes reading i.ea same shown) (refl, refl)
+
+marks-same : (hides : Bool) (o : Option Transfer) (i : Inst) (s : State) (regs bytes reading : ℕ → ℕ) → AgreeBeside hides s regs → AreShown hides s (deciding_by o i s) → AreMarksSame o i s (with_values s regs bytes reading)
 marks-same hides (Some t) i s regs bytes reading same shown = moved-marks hides t.direction t.size i s regs bytes reading same shown
 marks-same hides None i s regs bytes reading same shown = name-marks hides i.op i s regs bytes reading same shown
-
-name-out : (hides : Bool) (op : Op) (i : Inst) (s : State) (regs bytes reading : ℕ → ℕ) → AgreeBeside hides s regs → AreShown hides s (deciding op i s) → goes_out op i (with_values s regs bytes reading) ≡ goes_out op i s
-name-out hides Atadd i s regs bytes reading same shown =
-    ap (λ (v : ℕ). (word_mark s.frames.soft (aligned v) || is_marked s (registers_of i.b 1)) && touches_port (aligned v) 4 || is_marked s (registers_of i.b 1) && is_special i.c) (value-same hides s regs bytes reading i.a same shown)
-name-out hides Atmod i s regs bytes reading same shown =
-    ap (λ (v : ℕ). (word_mark s.frames.soft (aligned v) || is_marked s (registers_of i.b 1 ++ registers_of i.c 1)) && touches_port (aligned v) 4 || is_marked s (registers_of i.b 1 ++ registers_of i.c 1) && is_special i.c) (value-same hides s regs bytes reading i.a same shown)
-name-out hides _ i s regs bytes reading same shown = refl
-
-moved-out : (hides : Bool) (d : Direction) (size : Size) (i : Inst) (s : State) (regs bytes reading : ℕ → ℕ) → AgreeBeside hides s regs → AreShown hides s (address_registers i.ea) → stored_out d size i (with_values s regs bytes reading) ≡ stored_out d size i s
-moved-out hides Load size i s regs bytes reading same shown = refl
-moved-out hides Store size i s regs bytes reading same shown =
-    ap (λ (a : ℕ). is_marked s (registers_of i.c (register_count size)) && touches_port a (byte_count size)) (address-same hides s regs bytes reading i.ea same shown)
-
-out-same : (hides : Bool) (o : Option Transfer) (i : Inst) (s : State) (regs bytes reading : ℕ → ℕ) → AgreeBeside hides s regs → AreShown hides s (deciding_by o i s) → goes_out_by o i (with_values s regs bytes reading) ≡ goes_out_by o i s
-out-same hides (Some t) i s regs bytes reading same shown = moved-out hides t.direction t.size i s regs bytes reading same shown
-out-same hides None i s regs bytes reading same shown = name-out hides i.op i s regs bytes reading same shown
 
 pub misuses-same : (hides : Bool) (i : Inst) (s : State) (regs bytes reading : ℕ → ℕ) → AgreeBeside hides s regs → misuses i (with_values s regs bytes reading) ≡ misuses i s
 unfolding misuses
@@ -102,9 +92,9 @@ misuses-same hides i s regs bytes reading same =
     let first = is_marked s (deciding_by o i s) in
     ap (λ (b : Bool). b || (reaches_special i t || goes_out_by o i t)) (decides hides o i s regs bytes reading same)
     ∙ either-same first (reaches_special i s || goes_out_by o i s) (reaches_special i t || goes_out_by o i t) (λ e.
-    let shown = shows-none hides first e in
-    ap (λ (bs : List Bool). (is_special i.c && list_any (λ (b : Bool). b) bs) || goes_out_by o i t) (marks-same hides o i s regs bytes reading same shown)
-    ∙ ap (λ (b : Bool). reaches_special i s || b) (out-same hides o i s regs bytes reading same shown))
+    let marks = marks-same hides o i s regs bytes reading same (shows-none hides first e) in
+    ap (λ (bs : List Bool). (is_special i.c && list_any (λ (b : Bool). b) bs) || goes_out_by o i t) marks.0
+    ∙ ap (λ (b : Bool). reaches_special i s || b) marks.1)
 
 -- what is not misused
 pub record IsAllowedIn (i : Inst) (s : State) : Type 0 where
