@@ -1,7 +1,7 @@
 -- In states that agree each instruction that marks allow, and whose access meets no hazard, does what is alike: pushes,
 -- returns, system control, and all names.
 use Rattle.std.proofs.Common.{◌≡◌, ℕ, ◌+◌, ◌*◌, ◌/◌, ◌%◌, ◌^◌, ◌<◌, Bool, true, false, cond, eqb, nat_lt, List, [], ◌∷◌, ◌++◌, Option, Some, None, refl, sym, ap, ◌∙◌, subst, arith}
-use Rattle.std.specs.Prelude.{not, bit_and, ◌==◌, ◌&&◌, ◌||◌}
+use Rattle.std.specs.Prelude.{not, ◌==◌, ◌&&◌, ◌||◌}
 use Rattle.std.specs.List.{list_any}
 use Rattle.std.proofs.lemmas.Bool.{or_left, eqb-true}
 use Rattle.i9_isa.specs.declared.op.Op.{Op}
@@ -10,7 +10,7 @@ use Rattle.i9_isa.specs.declared.size.Transfer.{Transfer}
 use Rattle.i9_isa.specs.declared.inst.Inst.{Inst}
 use Rattle.i9_isa.specs.Transfers.{transfer_of}
 use Rattle.i9_model.specs.declared.interrupts.TheConstants.{FIRST_VECTOR}
-use Rattle.i9_model.specs.declared.layout.TheConstants.{FP, SP, PFP, LOCALS, FRAME_SIZE, INTERRUPT_RETURN, LOCAL_RETURN, AC_MASK, PC_MASK, TC_MASK}
+use Rattle.i9_model.specs.declared.layout.TheConstants.{FP, SP, PFP, LOCALS, FRAME_SIZE, INTERRUPT_RETURN, LOCAL_RETURN}
 use Rattle.i9_model.specs.declared.push.Push.{Push}
 use Rattle.i9_model.specs.declared.calls.Sys.{Sys}
 use Rattle.i9_model.specs.Writes.{wrapped, pairs_at}
@@ -19,13 +19,11 @@ use Rattle.i9_model.specs.State.{State, aligned, frame_sets}
 use Rattle.i9_model.specs.Frames.{pushed, rounded_down, in_bytes, in_frames}
 use Rattle.i9_model.specs.Hazards.{save_hazard, port_hazard, frame_hazard, return_hazard, return_place}
 use Rattle.i9_model.specs.Requests.{request_writes}
-use Rattle.i9_model.specs.Dma.{set_up}
 use Rattle.i9_model.specs.Faults.{is_special}
-use Rattle.i9_model.specs.Calls.{caller_in, call_type, system_entered, in_supervisor_mode, leaves_supervisor, without_supervisor, saved_pc, saved_ac, priority_of, takes_record, return_type, controls_hazard, ret_hazard, returned_pc, returned_ac, popped, system_hazard_by}
-use Rattle.i9_model.specs.Controls.{Restarts, LoadsGroup}
+use Rattle.i9_model.specs.Calls.{caller_in, call_type, system_entered, takes_record, return_type, controls_hazard, ret_hazard, returned_pc, returned_ac, popped, system_hazard_by}
 use Rattle.i9_model.specs.Operands.{value, word_of, source_words, address, target}
 use Rattle.i9_model.specs.Sound.{in_returns}
-use Rattle.i9_model.specs.Step.{Action, Returns, Flushes, going, passing, following, assigning, marking, answering, merged, jumping, linking, modified, modac_action, modtc_action, process_controls, modpc_action, Message, AsksNothing, AsksCheck, AsksInterrupt, AsksRestart, AsksGroup, message_of, argument_of, message_kind, asked_message, message_action, sdma_action, pushing, call_action, system_call, calls_action, ret_action, action_by_name, action_by, action_of}
+use Rattle.i9_model.specs.Step.{Action, Returns, going, passing, following, assigning, marking, merged, jumping, linking, modac_action, modtc_action, modpc_action, Message, AsksNothing, AsksCheck, AsksInterrupt, AsksRestart, AsksGroup, message_of, argument_of, message_kind, asked_message, message_action, sdma_action, pushing, call_action, system_call, calls_action, ret_action, action_by_name, action_by, action_of}
 use Rattle.i9_model.specs.Stale.{picked, mark_of, marks_of, word_mark, word_marks, left_memory, left_stale, registers_of, address_registers, is_marked, marks_by_name, marks_by, restart_registers, record_registers, deciding, deciding_by, push_mark, area_hazard}
 use Rattle.i9_model.specs.Access.{access_by_name, message_access, access_by, hazard_in, hazard_of}
 use Rattle.i9_model.specs.Alike.{is_hard, AgreeWhere, with_other, shows, with_values, AgreeBeside, AreValuesAlike, AreActionsAlike}
@@ -40,9 +38,7 @@ use Rattle.i9_agree.proofs.AgreeActions.{AreShown, shown-first, shown-second, sh
 -- ---- pushes
 
 none_mark : (fp sp : Bool) (ip : ℕ) → cond (fp || sp) (Some ip) None ≡ None → (fp ≡ false) × (sp ≡ false)
-none_mark false false ip e = (refl, refl)
-none_mark true sp ip e = absurd cc
-none_mark false true ip e = absurd cc
+none_mark fp sp ip e = grind arith
 
 -- where nothing is found of a push, fp and sp as far as it goes by them are the same
 pub push-known : (hides : Bool) (s : State) (regs : ℕ → ℕ) → AgreeBeside hides s regs → AreKnown (area_hazard s) (s.regs FP) (s.regs SP) (regs FP) (regs SP)
@@ -109,7 +105,7 @@ frame-read hides s regs bytes reading [] a is same known none = (
 )
 frame-read hides s regs bytes reading (g ∷ live) a is same known none = (
   (λ k l h. shown-word-same hides s.memory bytes s.frames.marked (wrapped (a + 4 * k))
-      (λ t. ap bytes (whole (4 * k)) ∙ byte (4 * k) (omega (arith, l)) (ap (λ (x : ℕ). shows hides (s.frames.marked x)) (sym (whole (4 * k))) ∙ t) ∙ ap s.memory.bytes (sym (whole (4 * k))))
+      (λ t. byte (4 * k) (omega (arith, l)) t)
       (λ j m n t. ap bytes (next k j) ∙ byte (4 * k + j) (omega (arith, l, n)) (ap (λ (x : ℕ). shows hides (s.frames.marked x)) (sym (next k j)) ∙ t) ∙ ap s.memory.bytes (sym (next k j)))
       h),
   return_shown hides s.frames.marked (return_place a) (λ x t. known x (returns x t)) (below_count a),
@@ -125,9 +121,6 @@ frame-read hides s regs bytes reading (g ∷ live) a is same known none = (
     returns : (x : ℕ) → in_bytes (return_place a) 4 x ≡ true → in_returns (g ∷ live) x ≡ true
     returns x t = or_left (in_bytes (return_place g) 4 x) (in_returns live x) (ap (λ (y : ℕ). in_bytes (return_place y) 4 x) (sym here) ∙ t)
 
-    whole : (k : ℕ) → wrapped (a + k) ≡ wrapped (a + k)
-    whole k = refl
-
     next : (k j : ℕ) → wrapped (wrapped (a + 4 * k) + j) ≡ wrapped (a + (4 * k + j))
     next k j = omega arith
 
@@ -135,10 +128,7 @@ frame-read hides s regs bytes reading (g ∷ live) a is same known none = (
     is_live x t = ap (λ (l : List ℕ). in_frames l x) is ∙ or_left (in_bytes g FRAME_SIZE x) (in_frames live x) (ap (λ (y : ℕ). in_bytes y FRAME_SIZE x) (sym here) ∙ t)
 
     opened : (hard sh lv : Bool) → sh ≡ true → lv ≡ true → (hard || cond sh lv false) ≡ true
-    opened true sh lv e d = refl
-    opened false true true e d = refl
-    opened false false lv e d = absurd cc
-    opened false true false e d = absurd cc
+    opened hard sh lv e d = grind arith
 
     byte : (k : ℕ) → k < 64 → shows hides (s.frames.marked (wrapped (a + k))) ≡ true → bytes (wrapped (a + k)) ≡ s.memory.bytes (wrapped (a + k))
     byte k l t =
@@ -161,18 +151,10 @@ controls-same hides s regs bytes reading same shown none = by_takes (takes_recor
     Same = (returned_pc (with_other s.memory bytes) kind (regs FP) s.pc ≡ returned_pc s.memory kind (s.regs FP) s.pc) × (returned_ac (with_other s.memory bytes) kind (regs FP) s.ac ≡ returned_ac s.memory kind (s.regs FP) s.ac)
 
     fp_same : regs FP ≡ s.regs FP → Same
-    fp_same e = (
-      ap (λ (x : ℕ). returned_pc (with_other s.memory bytes) kind x s.pc) e ∙ saved_pc_same s.frames s.memory bytes kind (s.regs FP) s.pc hard none,
-      ap (λ (x : ℕ). returned_ac (with_other s.memory bytes) kind x s.ac) e ∙ saved_ac_same s.frames s.memory bytes kind (s.regs FP) s.ac hard none,
-    )
+    fp_same e = rw e (saved_pc_same s.frames s.memory bytes kind (s.regs FP) s.pc hard none, saved_ac_same s.frames s.memory bytes kind (s.regs FP) s.ac hard none)
 
     unread : takes_record kind ≡ false → Same
-    unread e = (
-      ap (λ (b : Bool). cond (not (in_supervisor_mode s.pc)) s.pc (cond b (bit_and (saved_pc (with_other s.memory bytes) (regs FP)) PC_MASK) (cond (leaves_supervisor kind) (without_supervisor s.pc (kind % 2)) s.pc))) e
-          ∙ sym (ap (λ (b : Bool). cond (not (in_supervisor_mode s.pc)) s.pc (cond b (bit_and (saved_pc s.memory (s.regs FP)) PC_MASK) (cond (leaves_supervisor kind) (without_supervisor s.pc (kind % 2)) s.pc))) e),
-      ap (λ (b : Bool). cond b (bit_and (saved_ac (with_other s.memory bytes) (regs FP)) AC_MASK) s.ac) e
-          ∙ sym (ap (λ (b : Bool). cond b (bit_and (saved_ac s.memory (s.regs FP)) AC_MASK) s.ac) e),
-    )
+    unread e = rw e (refl, refl)
 
     by_takes : (b : Bool) → takes_record kind ≡ b → AreShown hides s (cond b (FP ∷ []) []) → Same
     by_takes true e h = fp_same (same.regs FP (shows-first hides (s.marks FP) false h))
@@ -188,9 +170,6 @@ restoring s frame back words marked pc ac = record (going s (aligned back)) {
   ac = ac;
   check = return_type (s.regs PFP) == INTERRUPT_RETURN;
 }
-
-restoring-parts : (s : State) (frame back back2 : ℕ) (words marked : List ℕ) (pc pc2 ac ac2 : ℕ) → back2 ≡ back → pc2 ≡ pc → ac2 ≡ ac → restoring s frame back2 words marked pc2 ac2 ≡ restoring s frame back words marked pc ac
-restoring-parts s frame back back2 words marked pc pc2 ac ac2 h i j = rw (h, i, j) refl
 
 pub ret-agree : (hides : Bool) (s : State) (regs bytes reading : ℕ → ℕ) → AreOther hides s regs bytes reading → ((x : ℕ) → in_returns s.frames.live x ≡ true → s.frames.marked x ≡ false)
     → AreShown hides s (PFP ∷ record_registers s) → ret_hazard s.frames (s.regs PFP) (s.regs FP) ≡ None → AreActionsAlike hides (ret_action s) (ret_action (with_values s regs bytes reading))
@@ -221,11 +200,7 @@ ret-agree hides s regs bytes reading same known shown none =
       writes = tt;
       move = refl;
     } in
-    let all : ret_action t ≡ restoring s a back ws marked pc ac =
-    ap (λ (p : ℕ). restoring (record s { regs = λ r. cond (r == PFP) p (s.regs r) }) (rounded_down p) (word_in (left_memory f.live t) (return_place (rounded_down p))) (words_in (left_memory f.live t) (rounded_down p) LOCALS)
-    (picked (λ r. r) 0 (word_marks (left_stale f.live f) (rounded_down p) LOCALS)) (returned_pc (with_other s.memory bytes) (return_type p) (regs FP) s.pc) (returned_ac (with_other s.memory bytes) (return_type p) (regs FP) s.ac)) pfp
-    ∙ restoring-parts s a back (word_in (left_memory f.live t) (return_place a)) ws marked pc (returned_pc (with_other s.memory bytes) kind (regs FP) s.pc) ac (returned_ac (with_other s.memory bytes) kind (regs FP) s.ac)
-    (read.0 2 (omega arith) read.1) returned.0 returned.1 in
+    let all : ret_action t ≡ restoring s a back ws marked pc ac = rw (pfp, read.0 2 (omega arith) read.1, returned.0, returned.1) refl in
     subst (λ (x : Action). AreActionsAlike hides (ret_action s) x) (sym all) here
 
 -- ---- system control

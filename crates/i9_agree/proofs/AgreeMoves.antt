@@ -1,5 +1,5 @@
 -- Actions that are alike leave states that agree.
-use Rattle.std.proofs.Common.{◌≡◌, ℕ, ◌+◌, ◌*◌, Bool, true, false, cond, List, [], ◌∷◌, length, drop, nat_le, refl, sym, ap, ◌∙◌, subst}
+use Rattle.std.proofs.Common.{◌≡◌, ℕ, ◌+◌, ◌*◌, Bool, true, false, cond, List, [], ◌∷◌, length, drop, nat_le, refl, sym, ap, ◌∙◌, subst, arith}
 use Rattle.std.specs.Prelude.{not, ◌&&◌, ◌||◌, replicate}
 use Rattle.std.proofs.lemmas.Bool.{or_left, or_right}
 use Rattle.i9_model.specs.declared.layout.TheConstants.{FRAME_SIZE}
@@ -65,14 +65,7 @@ pub open-flushed : (hides : Bool) (f : Frames) (x : ℕ) → is_open hides (flus
 open-flushed hides f x h = by_cases hides (is_beyond x) (f.soft x) (f.marked x) (in_frames f.live x) h
   where
     by_cases : (hides beyond soft m live : Bool) → ((beyond || not (soft && not (cond (not m) live false))) || cond (shows hides false) false false) ≡ true → ((beyond || not soft) || cond (shows hides m) live false) ≡ true
-    by_cases hides true soft m live k = refl
-    by_cases hides false false m live k = refl
-    by_cases true false true true live k = absurd cc
-    by_cases false false true true live k = absurd cc
-    by_cases true false true false true k = refl
-    by_cases false false true false true k = refl
-    by_cases true false true false false k = absurd cc
-    by_cases false false true false false k = absurd cc
+    by_cases hides beyond soft m live k = grind arith
 
 -- ---- writes
 
@@ -86,16 +79,10 @@ open-wrote : (hides : Bool) (f : Frames) (ps : List (ℕ × ℕ)) (stale : List 
 open-wrote hides f ps stale x inside h = by_stale (has stale x) refl h
   where
     beside : (beyond soft put : Bool) (rest : Bool) → put ≡ false → ((beyond || not (soft && not put)) || rest) ≡ true → ((beyond || not soft) || rest) ≡ true
-    beside true soft put rest o k = refl
-    beside false false put rest o k = refl
-    beside false true false rest o k = k
-    beside false true true rest o k = absurd cc
+    beside beyond soft put rest o k = grind arith
 
     nowhere : (beyond live s : Bool) → beyond ≡ false → live ≡ false → ((beyond || false) || cond s live false) ≡ true → ⊥
-    nowhere false false true o n k = cc k
-    nowhere false false false o n k = cc k
-    nowhere true live s o n k = cc o
-    nowhere false true s o n k = cc n
+    nowhere beyond live s o n k = grind arith
 
     by_stale : (b : Bool) → has stale x ≡ b → ((is_beyond x || not (b || (f.soft x && not (is_put ps x)))) || cond (shows hides (f.marked x)) (in_frames f.live x) false) ≡ true
         → (has stale x ≡ false) × (is_put ps x ≡ false → is_open hides f x ≡ true)
@@ -134,10 +121,7 @@ open-saved hides f a lost x inside h = (by_lost (has lost x) refl h, λ out. bes
     by_lost true t k = let away = inside x t in within hides (is_beyond x) (in_bytes a FRAME_SIZE x) (f.soft x) (f.marked x) (in_frames f.live x) away.0 away.1 k
       where
         within : (hides beyond here soft m live : Bool) → beyond ≡ false → here ≡ true → ((beyond || not (here || soft)) || cond (shows hides (true || m)) (here || live) false) ≡ true → shows hides true ≡ true
-        within false beyond here soft m live e d k = refl
-        within true false true soft m live e d k = absurd cc
-        within true true here soft m live e d k = absurd cc
-        within true false false soft m live e d k = absurd cc
+        within hides beyond here soft m live e d k = grind arith
 
     beside : (beyond soft here l m live : Bool) → here ≡ false → (l ≡ true → ⊥) → ((beyond || not (here || soft)) || cond (shows hides (l || m)) (here || live) false) ≡ true → ((beyond || not soft) || cond (shows hides m) live false) ≡ true
     beside beyond soft false false m live o n k = k

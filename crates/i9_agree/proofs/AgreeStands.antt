@@ -12,7 +12,7 @@ use Rattle.i9_isa.specs.declared.size.Direction.TheVariants.{Load, Store}
 use Rattle.i9_isa.specs.declared.size.Transfer.{Transfer}
 use Rattle.i9_isa.specs.declared.inst.Inst.{Inst}
 use Rattle.i9_isa.specs.declared.inst.BadWord.{BadWord}
-use Rattle.i9_isa.specs.Transfers.{transfer_of, byte_count, register_count}
+use Rattle.i9_isa.specs.Transfers.{transfer_of, byte_count}
 use Rattle.i9_isa.specs.Words.{decoded}
 use Rattle.i9_model.specs.declared.layout.TheConstants.{FP, SP, PFP}
 use Rattle.i9_model.specs.declared.faults.TheConstants.{OPERATION, PROTECTION, TYPE, CONSTRAINT, RANGE, UNALIGNED, INVALID_OPERAND, LENGTH, MISMATCH}
@@ -25,7 +25,7 @@ use Rattle.i9_model.specs.Operands.{value, address}
 use Rattle.i9_model.specs.Results.{results_by}
 use Rattle.i9_model.specs.Branches.{question_of, asks}
 use Rattle.i9_model.specs.Step.{first_word, next_word, answer_in, Message, AsksInterrupt, AsksRestart, AsksGroup, message_of, argument_of, message_kind, asked_message}
-use Rattle.i9_model.specs.Stale.{word_mark, loaded_marks, registers_of, sources, address_registers, is_marked, moved_marks, marks_by_name, marks_by, restart_registers, record_registers, deciding, deciding_by, stored_out, goes_out, goes_out_by, reaches_special, misuses, touches_port, area_hazard}
+use Rattle.i9_model.specs.Stale.{registers_of, sources, address_registers, is_marked, moved_marks, marks_by_name, marks_by, restart_registers, record_registers, deciding, deciding_by, stored_out, goes_out, goes_out_by, reaches_special, misuses, area_hazard}
 use Rattle.i9_model.specs.Access.{Access, Reads, Writes, Changes, SavesFrame, CallsSystem, ReturnsBy, Requests, ReadsTables, ReadsGroup, moved_access, message_access, access_by_name, access_by, access_of, data_of, hazard_in, hazard_of, fetch_hazard, second_hazard}
 use Rattle.i9_model.specs.Standing.{Meets, answer_fault, is_fault_name, range_fault, first_fault, raised_in, later_fault, by_access, by_later, by_raised, by_word, by_fetch, stands_at}
 use Rattle.i9_model.specs.Alike.{is_hard, AgreeWhere, with_other, with_memory, shows, with_values, AgreeBeside}
@@ -65,10 +65,6 @@ decides hides None i s regs bytes reading same = name-decides hides i.op i s reg
 
 -- ---- what reaches a special function register, and what goes out
 
--- these are the same
-abbrev AreMarksSame : Option Transfer → Inst → State → State → Type 0
-AreMarksSame o i s t = (marks_by o i t ≡ marks_by o i s) × (goes_out_by o i t ≡ goes_out_by o i s)
-
 name-marks : (hides : Bool) (op : Op) (i : Inst) (s : State) (regs bytes reading : ℕ → ℕ) → AgreeBeside hides s regs → AreShown hides s (deciding op i s)
     → (marks_by_name op i (with_values s regs bytes reading) ≡ marks_by_name op i s) × (goes_out op i (with_values s regs bytes reading) ≡ goes_out op i s)
 name-marks hides Atadd i s regs bytes reading same shown = rw (value-same hides s regs bytes reading i.a same shown) (refl, refl)
@@ -80,7 +76,8 @@ moved-marks : (hides : Bool) (d : Direction) (size : Size) (i : Inst) (s : State
 moved-marks hides Load size i s regs bytes reading same shown = rw (address-same hides s regs bytes reading i.ea same shown) (refl, refl)
 moved-marks hides Store size i s regs bytes reading same shown = rw (address-same hides s regs bytes reading i.ea same shown) (refl, refl)
 
-marks-same : (hides : Bool) (o : Option Transfer) (i : Inst) (s : State) (regs bytes reading : ℕ → ℕ) → AgreeBeside hides s regs → AreShown hides s (deciding_by o i s) → AreMarksSame o i s (with_values s regs bytes reading)
+marks-same : (hides : Bool) (o : Option Transfer) (i : Inst) (s : State) (regs bytes reading : ℕ → ℕ) → AgreeBeside hides s regs → AreShown hides s (deciding_by o i s)
+    → (marks_by o i (with_values s regs bytes reading) ≡ marks_by o i s) × (goes_out_by o i (with_values s regs bytes reading) ≡ goes_out_by o i s)
 marks-same hides (Some t) i s regs bytes reading same shown = moved-marks hides t.direction t.size i s regs bytes reading same shown
 marks-same hides None i s regs bytes reading same shown = name-marks hides i.op i s regs bytes reading same shown
 

@@ -44,7 +44,7 @@ use Rattle.i9_model.specs.declared.run.End.TheVariants.{Limit, Exit}
 use Rattle.i9_model.specs.Run.{Kind, Instruction, Faulted, Entered, Interrupted, Reached, action_by_kind, counts_of, record_of, exit_in, due_in, due_by, Ends, finish, next_by_standing, next_by_received, next_by_event, next_by_interrupt, next_by_choice, next_by_entry, entry_in, fault_at, next_in}
 use Rattle.i9_model.specs.declared.run.Due.{Due}
 use Rattle.i9_model.specs.Overlay.{overlay}
-use Rattle.i9_model.specs.Alike.{is_hard, AgreeWhere, with_other, with_memory, told, is_beyond, shows, is_open, with_values, AgreeBeside, Agree, AreWritesAlike, AreActionsAlike, told_words, access_by_kind, DoAgree, NextsAgree}
+use Rattle.i9_model.specs.Alike.{is_hard, AgreeWhere, with_other, with_memory, told, is_beyond, shows, is_open, with_values, AgreeBeside, Agree, AreWritesAlike, AreActionsAlike, access_by_kind, DoAgree, NextsAgree}
 use Rattle.i9_model.proofs.CallLaws.{first_none, second_none, enters_free_by}
 use Rattle.i9_model.proofs.ControlLaws.{by_group}
 use Rattle.i9_model.proofs.Readings.{read_same, inner_word_same, words_same}
