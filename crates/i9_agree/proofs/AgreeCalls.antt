@@ -171,6 +171,9 @@ restoring s frame back words marked pc ac = record (going s (aligned back)) {
   check = return_type (s.regs PFP) == INTERRUPT_RETURN;
 }
 
+restoring-parts : (s : State) (frame back back2 : ℕ) (words marked : List ℕ) (pc pc2 ac ac2 : ℕ) → back2 ≡ back → pc2 ≡ pc → ac2 ≡ ac → restoring s frame back2 words marked pc2 ac2 ≡ restoring s frame back words marked pc ac
+restoring-parts s frame back back2 words marked pc pc2 ac ac2 h i j = rw (h, i, j) refl
+
 pub ret-agree : (hides : Bool) (s : State) (regs bytes reading : ℕ → ℕ) → AreOther hides s regs bytes reading → ((x : ℕ) → in_returns s.frames.live x ≡ true → s.frames.marked x ≡ false)
     → AreShown hides s (PFP ∷ record_registers s) → ret_hazard s.frames (s.regs PFP) (s.regs FP) ≡ None → AreActionsAlike hides (ret_action s) (ret_action (with_values s regs bytes reading))
 unfolding popped ret_hazard
@@ -200,7 +203,10 @@ ret-agree hides s regs bytes reading same known shown none =
       writes = tt;
       move = refl;
     } in
-    let all : ret_action t ≡ restoring s a back ws marked pc ac = rw (pfp, read.0 2 (omega arith) read.1, returned.0, returned.1) refl in
+    let all : ret_action t ≡ restoring s a back ws marked pc ac =
+    ap (λ (p : ℕ). restoring (record s { regs = λ r. cond (r == PFP) p (s.regs r) }) (rounded_down p) (word_in (left_memory f.live t) (return_place (rounded_down p))) (words_in (left_memory f.live t) (rounded_down p) LOCALS)
+    (picked (λ r. r) 0 (word_marks (left_stale f.live f) (rounded_down p) LOCALS)) (returned_pc (with_other s.memory bytes) (return_type p) (regs FP) s.pc) (returned_ac (with_other s.memory bytes) (return_type p) (regs FP) s.ac)) pfp
+    ∙ restoring-parts s a back _ ws marked pc _ ac _ (read.0 2 (omega arith) read.1) returned.0 returned.1 in
     subst (λ (x : Action). AreActionsAlike hides (ret_action s) x) (sym all) here
 
 -- ---- system control
