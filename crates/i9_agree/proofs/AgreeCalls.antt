@@ -32,7 +32,7 @@ use Rattle.i9_model.proofs.Readings.{in_bytes-has}
 use Rattle.i9_model.proofs.FrameLaws.{read_hazard-none}
 use Rattle.i9_agree.proofs.AlikeActions.{AreKnown, other_caller, system_by_same, saved_pc_same, saved_ac_same, request_same}
 use Rattle.i9_agree.proofs.Agreeing.{shows-none, shows-first, shows-second, shows-both, values-mapped, writes-append, writes-same, writes-picked}
-use Rattle.i9_agree.proofs.AgreeNames.{AreOther, hard-bytes, pc-alike, moving-agree, atomic-agree, other-agree}
+use Rattle.i9_agree.proofs.AgreeNames.{AreOther, hard-bytes, moving-agree, atomic-agree, other-agree}
 use Rattle.i9_agree.proofs.AgreeActions.{AreShown, shown-first, shown-second, shown-three, word-same, operand-same, value-same, address-same, legible-word, shown-word-same, alike-same, alike-by, IsAllowed, assigning-alike, pushing-alike}
 
 -- ---- pushes
@@ -73,7 +73,8 @@ calls-agree hides i s regs bytes reading same shown none =
     ap (λ (n : ℕ). system_entered (other_caller (caller_in s) bytes (regs FP) (regs SP)) s.tables.system_table n 0 kind) number
     ∙ system_by_same (caller_in s) bytes s.tables.system_table (value s i.a) (regs FP) (regs SP) 0 kind (area_hazard s) (hard-bytes hides s regs bytes reading same) (push-known hides s regs same.regs) none in
     let all : calls_action i t ≡ record (pushing t y.push (following i s) y.target) { pc = y.pc } = ap (λ (x : Sys). record (pushing t x.push (following i s) x.target) { pc = x.pc }) enters in
-    subst (λ (x : Action). AreActionsAlike hides (calls_action i s) x) (sym all) (pc-alike hides (pushing s y.push (following i s) y.target) (pushing t y.push (following i s) y.target) y.pc (pushing-alike hides s regs bytes reading y.push (following i s) y.target same.regs))
+    let push = pushing-alike hides s regs bytes reading y.push (following i s) y.target same.regs in
+    subst (λ (x : Action). AreActionsAlike hides (calls_action i s) x) (sym all) (record { rest = refl; sets = push.sets; writes = push.writes; move = push.move })
 
 -- ---- returns
 

@@ -48,14 +48,6 @@ ac-alike hides a b x y e alike = record {
   move = alike.move;
 }
 
-pub pc-alike : (hides : Bool) (a b : Action) (x : ℕ) → AreActionsAlike hides a b → AreActionsAlike hides (record a { pc = x }) (record b { pc = x })
-pc-alike hides a b x alike = record {
-  rest = ap (λ (c : Action). record c { pc = x }) alike.rest;
-  sets = alike.sets;
-  writes = alike.writes;
-  move = alike.move;
-}
-
 -- ---- loads, stores and atomics
 
 stored-marks : (size : Size) (s : State) (regs bytes reading : ℕ → ℕ) (o : Operand) → stored_marks size (with_values s regs bytes reading) o ≡ stored_marks size s o
@@ -244,9 +236,7 @@ resulting-agree hides i s regs bytes reading same other plain none allowed = by_
     marked_keeps false m rs e d h = let no : true ≡ false = sym (e ∙ d) ∙ h in absurd (cc no)
 
     hidden : (h m : Bool) → shows h m ≡ false → (h ≡ true) × (m ≡ true)
-    hidden true true e = (refl, refl)
-    hidden true false e = absurd cc
-    hidden false m e = absurd cc
+    hidden h m e = grind arith
 
     counts : (u : State) → keeps_marks i.op ≡ true → length (values_of (answer_in i u)) ≡ destination_words i.op
     counts u keeps = rw (other, keeps) at (keeps-count i.op (word_of u i.a 0) (word_of u i.a 1) (word_of u i.a 2) (word_of u i.a 3) (word_of u i.b 0) (word_of u i.b 1) (word_of u i.c 0) u.ac)

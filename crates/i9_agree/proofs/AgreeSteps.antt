@@ -395,7 +395,7 @@ exit-same hides s regs bytes reading a b inside alike =
     (port-alike hides s a b (EXIT_WORD + 2) inside alike refl)
     (port-alike hides s a b (EXIT_WORD + 3) inside alike refl))
 
-due-in-same : (s : State) (regs bytes reading : ℕ → ℕ) (t : Option Trace) (f : Option End) → due_in (with_values s regs bytes reading) t f ≡ due_in s t f
+pub due-in-same : (s : State) (regs bytes reading : ℕ → ℕ) (t : Option Trace) (f : Option End) → due_in (with_values s regs bytes reading) t f ≡ due_in s t f
 due-in-same s regs bytes reading t (Some f) = refl
 due-in-same s regs bytes reading None None = refl
 due-in-same s regs bytes reading (Some t) None = refl

@@ -1,5 +1,5 @@
 -- What comes next in states that are alike is the same record or the same end, and states stay alike.
-use Rattle.std.proofs.Common.{◌≡◌, ℕ, ◌+◌, Bool, true, false, cond, ◌&&◌, ◌||◌, nat_le, List, [], ◌∷◌, ◌++◌, Option, Some, None, refl, sym, ap, ◌∙◌, subst}
+use Rattle.std.proofs.Common.{◌≡◌, ℕ, ◌+◌, Bool, true, false, cond, ◌&&◌, ◌||◌, nat_le, List, [], ◌∷◌, ◌++◌, Option, Some, None, refl, sym, ap, ◌∙◌, subst, arith}
 use Rattle.std.specs.Prelude.{not, map}
 use Rattle.std.specs.List.{range_with_len}
 use Rattle.i9_model.specs.declared.event.Event.{Event}
@@ -21,7 +21,7 @@ use Rattle.i9_model.specs.PrintedText.{Shown, Drained, Journal, Bytes, view_of, 
 use Rattle.i9_model.specs.declared.view.View.{View}
 use Rattle.i9_model.specs.Alike.{is_compared, AgreeWhere, with_memory, AreAlike, AreRecordsAlike, AreNextAlike, with_values, Agree, AreValuesAlike, AreWritesAlike, AreMovesAlike, AreActionsAlike, DoAgree, NextsAgree}
 use Rattle.i9_model.specs.Sound.{IsSound}
-use Rattle.i9_agree.proofs.AgreeSteps.{next-agree}
+use Rattle.i9_agree.proofs.AgreeSteps.{next-agree, due-in-same}
 pub use Rattle.i9_agree.proofs.AgreeSteps.{IsReadable, controlled_bytes, restart_readable, group_readable}
 
 -- ---- as states that agree where marks do not hide
@@ -98,12 +98,7 @@ next_alike limit due stands s t sound blind alike =
 -- what is due after the same action
 due_alike_by : (s : State) (bytes : ℕ → ℕ) (a : Action) → action_due (with_memory s bytes) a ≡ action_due s a
 unfolding exit_word
-due_alike_by s bytes a = due_same_in a.trace (exit_in s a)
-  where
-    due_same_in : (t : Option Trace) (f : Option End) → due_in (with_memory s bytes) t f ≡ due_in s t f
-    due_same_in t (Some f) = refl
-    due_same_in None None = refl
-    due_same_in (Some t) None = refl
+due_alike_by s bytes a = due-in-same s s.regs bytes s.reading a.trace (exit_in s a)
 
 due_same : (k : Kind) (s : State) (bytes : ℕ → ℕ) → action_by_kind k (with_memory s bytes) ≡ action_by_kind k s → due_by k (with_memory s bytes) ≡ due_by k s
 due_same (Instruction i) s bytes e = ap (action_due (with_memory s bytes)) e ∙ due_alike_by s bytes (traced_action i s)
