@@ -16,7 +16,7 @@ use Rattle.i9_model.proofs.Runs.{is_put-upwards}
 use Rattle.i9_model.proofs.Lengths.{four_bytes, words_long}
 use Rattle.i9_model.proofs.Storing.{stored_words_same, words_as_bytes}
 use Rattle.i9_agree.proofs.AlikeMoves.{move_mcon}
-use Rattle.i9_agree.proofs.Agreeing.{shows-none, shows-second, shows-unmarked, shows-after, values-append, values-marked, writes-picked, puts-same, written-alike, stored-alike}
+use Rattle.i9_agree.proofs.Agreeing.{shows-none, shows-unmarked, shows-after, values-append, values-marked, writes-picked, puts-same, written-alike, stored-alike}
 
 -- ---- which bytes are open
 
@@ -29,37 +29,20 @@ open-hard hides f x h = or_left _ _ h
 
 -- fewer marks leave more open
 open-marked : (hides : Bool) (f : Frames) (lost : List ℕ) (x : ℕ) → is_open hides (with_marked f lost) x ≡ true → is_open hides f x ≡ true
-open-marked hides f lost x h = by_cases (is_hard f x) (has lost x) (f.marked x) (in_frames f.live x) h
+open-marked hides f lost x h = by_cases hides (is_hard f x) (has lost x) (f.marked x) (in_frames f.live x) h
   where
-    by_shown : (l m live : Bool) (s t : Bool) → shows hides (l || m) ≡ s → shows hides m ≡ t → cond s live false ≡ true → cond t live false ≡ true
-    by_shown l m live true true e d k = k
-    by_shown l m live false t e d k = absurd cc
-    by_shown l m live true false e d k = let no : false ≡ true = sym d ∙ shows-second hides l m e in absurd (cc no)
-
-    by_cases : (hard l m live : Bool) → (hard || cond (shows hides (l || m)) live false) ≡ true → (hard || cond (shows hides m) live false) ≡ true
-    by_cases true l m live k = refl
-    by_cases false l m live k = by_shown l m live (shows hides (l || m)) (shows hides m) refl refl k
+    by_cases : (hides hard l m live : Bool) → (hard || cond (shows hides (l || m)) live false) ≡ true → (hard || cond (shows hides m) live false) ≡ true
+    by_cases hides hard l m live k = grind arith
 
 open-returned : (hides : Bool) (f : Frames) (x : ℕ) → is_open hides (returned f) x ≡ true → is_open hides f x ≡ true
-open-returned hides f x h = by_live f.live (is_hard f x) (f.marked x) h
+open-returned hides f x h = by_cases hides (is_hard f x) (f.marked x) (in_frames (drop 1 f.live) x) (in_frames f.live x) (in_rest f.live) h
   where
-    by_rest : (s t m rest live : Bool) → shows hides (m && rest) ≡ s → shows hides m ≡ t → (rest ≡ true → live ≡ true) → cond s rest false ≡ true → cond t live false ≡ true
-    by_rest true true m rest live e d sub k = sub k
-    by_rest true false m true live e d sub k = let no : false ≡ true = sym d ∙ ap (shows hides) (both m) ∙ e in absurd (cc no)
-      where
-        both : (b : Bool) → b ≡ (b && true)
-        both true = refl
-        both false = refl
-    by_rest true false m false live e d sub k = absurd cc
-    by_rest false t m rest live e d sub k = absurd cc
-
     in_rest : (live : List ℕ) → in_frames (drop 1 live) x ≡ true → in_frames live x ≡ true
     in_rest [] t = t
     in_rest (g ∷ live) t = or_right (in_bytes g FRAME_SIZE x) (in_frames live x) t
 
-    by_live : (live : List ℕ) (hard m : Bool) → (hard || cond (shows hides (m && in_frames (drop 1 live) x)) (in_frames (drop 1 live) x) false) ≡ true → (hard || cond (shows hides m) (in_frames live x) false) ≡ true
-    by_live live true m k = refl
-    by_live live false m k = by_rest (shows hides (m && in_frames (drop 1 live) x)) (shows hides m) m (in_frames (drop 1 live) x) (in_frames live x) refl refl (in_rest live) k
+    by_cases : (hides hard m rest live : Bool) → (rest ≡ true → live ≡ true) → (hard || cond (shows hides (m && rest)) rest false) ≡ true → (hard || cond (shows hides m) live false) ≡ true
+    by_cases hides hard m rest live sub k = grind arith
 
 pub open-flushed : (hides : Bool) (f : Frames) (x : ℕ) → is_open hides (flushed f) x ≡ true → is_open hides f x ≡ true
 open-flushed hides f x h = by_cases hides (is_beyond x) (f.soft x) (f.marked x) (in_frames f.live x) h

@@ -21,24 +21,16 @@ pub shows-none : (hides b : Bool) → b ≡ false → shows hides b ≡ true
 shows-none hides b e = ap (shows hides) e ∙ shows-unmarked hides
 
 pub shows-first : (hides b c : Bool) → shows hides (b || c) ≡ true → shows hides b ≡ true
-shows-first false b c h = refl
-shows-first true false c h = refl
-shows-first true true c h = absurd cc
+shows-first hides b c h = grind arith
 
 pub shows-second : (hides b c : Bool) → shows hides (b || c) ≡ true → shows hides c ≡ true
-shows-second false b c h = refl
-shows-second true false c h = h
-shows-second true true c h = absurd cc
+shows-second hides b c h = grind arith
 
 pub shows-both : (hides b c : Bool) → shows hides b ≡ true → shows hides c ≡ true → shows hides (b || c) ≡ true
-shows-both false b c h k = refl
-shows-both true false c h k = k
-shows-both true true c h k = absurd cc
+shows-both hides b c h k = grind arith
 
 pub shows-less : (hides b c : Bool) → (b ≡ true → c ≡ true) → shows hides c ≡ true → shows hides b ≡ true
-shows-less false b c m h = refl
-shows-less true false c m h = refl
-shows-less true true c m h = absurd (let no : false ≡ true = sym (ap not (m refl)) ∙ h in cc no)
+shows-less hides b c m h = grind arith
 
 -- a register behind what is set
 pub shows-after : (hides : Bool) (marks : ℕ → Bool) (sets : List (ℕ × ℕ)) (marked : List ℕ) (r : ℕ) → shows hides (marks_after marks sets marked r) ≡ true → (shows hides (has marked r) ≡ true) × (is_put sets r ≡ false → shows hides (marks r) ≡ true)

@@ -1,5 +1,5 @@
 -- What comes next in states that are alike is the same record or the same end, and states stay alike.
-use Rattle.std.proofs.Common.{◌≡◌, ℕ, ◌+◌, Bool, true, false, cond, ◌&&◌, ◌||◌, nat_le, List, [], ◌∷◌, ◌++◌, Option, Some, None, refl, sym, ap, ◌∙◌, subst, arith}
+use Rattle.std.proofs.Common.{◌≡◌, ℕ, ◌+◌, Bool, true, false, cond, ◌&&◌, ◌||◌, nat_le, List, [], ◌∷◌, ◌++◌, Option, Some, None, refl, sym, ap, ◌∙◌, subst}
 use Rattle.std.specs.Prelude.{not, map}
 use Rattle.std.specs.List.{range_with_len}
 use Rattle.i9_model.specs.declared.event.Event.{Event}
@@ -10,10 +10,8 @@ use Rattle.i9_model.specs.Memory.{console_byte, in_port_page, exit_word}
 use Rattle.i9_model.specs.State.{State, as_zero}
 use Rattle.i9_model.specs.Frames.{in_frames}
 use Rattle.i9_model.specs.Step.{Action, Move, Saves}
-use Rattle.i9_model.specs.declared.trace.Trace.{Trace}
 use Rattle.i9_model.specs.Traced.{traced_action}
-use Rattle.i9_model.specs.declared.run.End.{End}
-use Rattle.i9_model.specs.Run.{Finish, Kind, Instruction, Reached, Record, action_by_kind, action_done, point_of, exit_in, due_in, due_by, action_due, Next, Does, Ends, next_in, reached_by}
+use Rattle.i9_model.specs.Run.{Finish, Kind, Instruction, Reached, Record, action_by_kind, action_done, point_of, exit_in, due_by, action_due, Next, Does, Ends, next_in, reached_by}
 use Rattle.i9_model.specs.declared.run.Point.{Point}
 use Rattle.i9_model.specs.declared.run.Due.{Due}
 use Rattle.i9_model.specs.Overlay.{overlay}
@@ -140,28 +138,24 @@ alike_trans s t u p q = record {
 
 pub does_alike : (o p : Next) (q : Record) → AreNextAlike o p → p ≡ Does q → (r : Record) × (o ≡ Does r) × AreRecordsAlike r q
 does_alike (Does r) (Does x) q alike e = let same : x ≡ q = cc in (r, refl, subst (AreRecordsAlike r) same alike)
-does_alike (Does r) (Ends g) q alike e = absurd alike
-does_alike (Ends f) (Does x) q alike e = absurd alike
 does_alike (Ends f) (Ends g) q alike e = absurd cc
+does_alike _ _ q alike e = absurd alike
 
 pub ends_alike : (o p : Next) (g : Finish) → AreNextAlike o p → p ≡ Ends g → o ≡ Ends g
 ends_alike (Ends f) (Ends h) g alike e = let same : h ≡ g = cc in ap (λ (x : Finish). Ends x) (sym alike ∙ same)
-ends_alike (Does r) (Ends h) g alike e = absurd alike
-ends_alike (Ends f) (Does x) g alike e = absurd alike
 ends_alike (Does r) (Does x) g alike e = absurd cc
+ends_alike _ _ g alike e = absurd alike
 
 -- the other way round
 pub does_beside : (o p : Next) (r : Record) → AreNextAlike o p → o ≡ Does r → (q : Record) × (p ≡ Does q) × AreRecordsAlike r q
 does_beside (Does x) (Does q) r alike e = let same : x ≡ r = cc in (q, refl, subst (λ (y : Record). AreRecordsAlike y q) same alike)
-does_beside (Does x) (Ends g) r alike e = absurd alike
-does_beside (Ends f) (Does q) r alike e = absurd alike
 does_beside (Ends f) (Ends g) r alike e = absurd cc
+does_beside _ _ r alike e = absurd alike
 
 pub ends_beside : (o p : Next) (g : Finish) → AreNextAlike o p → o ≡ Ends g → p ≡ Ends g
 ends_beside (Ends f) (Ends h) g alike e = let same : f ≡ g = cc in ap (λ (x : Finish). Ends x) (alike ∙ same)
-ends_beside (Does r) (Ends h) g alike e = absurd alike
-ends_beside (Ends f) (Does x) g alike e = absurd alike
 ends_beside (Does r) (Does x) g alike e = absurd cc
+ends_beside _ _ g alike e = absurd alike
 
 -- ---- what records that are alike do, make due and print
 
