@@ -363,8 +363,7 @@ last-alike hides marked (p ∷ ps) (q ∷ qs) x h none =
     by_place true e =
         let shown : shows hides (has marked p.0) ≡ true = shows-none hides (has marked p.0) (ap (has marked) (sym (eqb-true x p.0 e)) ∙ none) in
         ap (λ (v : ℕ). or_earlier (last_put ps x) (Some v)) (h.1 shown)
-last-alike hides marked [] (q ∷ qs) x h none = absurd h
-last-alike hides marked (p ∷ ps) [] x h none = absurd h
+last-alike hides marked _ _ x h none = absurd h
 
 -- no marked byte goes out
 port-unmarked : (f : Frames) (stale : List ℕ) (x : ℕ) → AreInside f stale → in_port_page x ≡ true → has stale x ≡ false

@@ -85,8 +85,7 @@ records-alike r q h = record {
 nexts-alike : (o p : Next) → NextsAgree false o p → AreNextAlike o p
 nexts-alike (Does r) (Does q) h = records-alike r q h
 nexts-alike (Ends f) (Ends g) h = h
-nexts-alike (Does r) (Ends g) h = absurd h
-nexts-alike (Ends f) (Does q) h = absurd h
+nexts-alike _ _ h = absurd h
 
 -- what comes next in states that are alike, where frames are sound
 pub next_alike : (limit : ℕ) (due : Due) (stands : Option Event) (s t : State) → IsSound s.frames → IsBlind s → AreAlike s t → AreNextAlike (next_in limit due stands s) (next_in limit due stands t)
