@@ -9,7 +9,7 @@ use Rattle.i9_isa.specs.declared.size.Size.TheVariants.{Byte, Half, Words}
 use Rattle.i9_isa.specs.declared.inst.Operand.{Operand}
 use Rattle.i9_isa.specs.declared.inst.Operand.TheVariants.{Reg, Lit, Sfr}
 use Rattle.i9_isa.specs.declared.inst.Mode.{Mode}
-use Rattle.i9_isa.specs.declared.inst.Mode.TheVariants.{Offset, BaseOffset, Base, Ip, BaseIndex, Disp, BaseDisp, IndexDisp, BaseIndexDisp}
+use Rattle.i9_isa.specs.declared.inst.Mode.TheVariants.{BaseOffset, Base, BaseIndex, BaseDisp, IndexDisp, BaseIndexDisp}
 use Rattle.i9_isa.specs.declared.inst.Ea.{Ea}
 use Rattle.i9_isa.specs.Operands.{has_base, has_index}
 use Rattle.i9_model.specs.declared.push.Push.{Push}
@@ -41,6 +41,11 @@ shown-first hides s xs ys h = shows-first hides (is_marked s xs) (is_marked s ys
 pub shown-second : (hides : Bool) (s : State) (xs ys : List ℕ) → AreShown hides s (xs ++ ys) → AreShown hides s ys
 shown-second hides s xs ys h = shows-second hides (is_marked s xs) (is_marked s ys) (ap (shows hides) (sym (list_any-append s.marks xs ys)) ∙ h)
 
+pub shown-three : (hides : Bool) (s : State) (xs ys zs : List ℕ) → AreShown hides s (xs ++ (ys ++ zs)) → AreShown hides s xs × AreShown hides s ys × AreShown hides s zs
+shown-three hides s xs ys zs h =
+    let later = shown-second hides s xs (ys ++ zs) h in
+    (shown-first hides s xs (ys ++ zs) h, shown-first hides s ys zs later, shown-second hides s ys zs later)
+
 -- one of a group
 shown-group : (hides : Bool) (s : State) (r n k : ℕ) → AreShown hides s (range_with_len r n) → k < n → shows hides (s.marks (r + k)) ≡ true
 shown-group hides s r zero k h l = absurd (omega arith)
@@ -60,8 +65,7 @@ word-same hides s regs bytes reading (Reg r) k same h = by_place (k == 0) h
     by_place : (b : Bool) → shows hides (cond b (s.marks r) (s.marks (r + k))) ≡ true → cond b (regs r) (regs (r + k)) ≡ cond b (s.regs r) (s.regs (r + k))
     by_place true t = same r t
     by_place false t = same (r + k) t
-word-same hides s regs bytes reading (Lit n) k same h = refl
-word-same hides s regs bytes reading (Sfr j) k same h = refl
+word-same hides s regs bytes reading _ k same h = refl
 
 -- a word of an operand that is shown
 pub shown-word : (hides : Bool) (s : State) (o : Operand) (n k : ℕ) → AreShown hides s (registers_of o n) → k < n → shows hides (mark_of s o k) ≡ true
@@ -73,8 +77,7 @@ shown-word hides s (Reg r) n k h l = by_place (k == 0) refl
     by_place : (b : Bool) → (k == 0) ≡ b → shows hides (cond b (s.marks r) (s.marks (r + k))) ≡ true
     by_place true t = first (eqb-true k 0 t)
     by_place false t = shown-group hides s r n k h l
-shown-word hides s (Lit j) n k h l = shows-unmarked hides
-shown-word hides s (Sfr j) n k h l = shows-unmarked hides
+shown-word hides s _ n k h l = shows-unmarked hides
 
 pub operand-same : (hides : Bool) (s : State) (regs bytes reading : ℕ → ℕ) (o : Operand) (n k : ℕ) → AgreeBeside hides s regs → AreShown hides s (registers_of o n) → k < n → word_of (with_values s regs bytes reading) o k ≡ word_of s o k
 operand-same hides s regs bytes reading o n k same h l = word-same hides s regs bytes reading o k same (shown-word hides s o n k h l)
@@ -87,9 +90,6 @@ pub address-same : (hides : Bool) (s : State) (regs bytes reading : ℕ → ℕ)
 address-same hides s regs bytes reading e same h = ap wrapped (by_mode e.mode e h)
   where
     by_mode : (m : Mode) (e : Ea) → AreShown hides s (cond (has_base m) (e.base ∷ []) [] ++ cond (has_index m) (e.index ∷ []) []) → sum_for m e (regs e.base) (regs e.index) s.ip ≡ sum_for m e (s.regs e.base) (s.regs e.index) s.ip
-    by_mode Offset e h = refl
-    by_mode Ip e h = refl
-    by_mode Disp e h = refl
     by_mode BaseOffset e h = ap (λ (b : ℕ). b + e.disp) (same e.base (shows-first hides (s.marks e.base) false h))
     by_mode Base e h = same e.base (shows-first hides (s.marks e.base) false h)
     by_mode BaseDisp e h = ap (λ (b : ℕ). b + e.disp) (same e.base (shows-first hides (s.marks e.base) false h))
@@ -100,6 +100,7 @@ address-same hides s regs bytes reading e same h = ap wrapped (by_mode e.mode e 
     by_mode BaseIndexDisp e h =
         ap (λ (b : ℕ). b + regs e.index * 2 ^ e.scale + e.disp) (same e.base (shows-first hides (s.marks e.base) (s.marks e.index || false) h))
         ∙ ap (λ (x : ℕ). s.regs e.base + x * 2 ^ e.scale + e.disp) (same e.index (shows-first hides (s.marks e.index) false (shows-second hides (s.marks e.base) (s.marks e.index || false) h)))
+    by_mode _ e h = refl
 
 -- ---- what is read
 
@@ -178,10 +179,7 @@ values-none hides (b ∷ bs) (v ∷ vs) (w ∷ ws) h none =
     let parts = or_parts b (list_any (λ (c : Bool). c) bs) none in
     let first : w ≡ v = h.0 (shows-none hides b parts.0) in
     ap (λ (x : ℕ). x ∷ ws) first ∙ ap (λ (xs : List ℕ). v ∷ xs) (values-none hides bs vs ws h.1 parts.1)
-values-none hides [] (v ∷ vs) ws h none = absurd h
-values-none hides [] [] (w ∷ ws) h none = absurd h
-values-none hides (b ∷ bs) [] ws h none = absurd h
-values-none hides (b ∷ bs) (v ∷ vs) [] h none = absurd h
+values-none hides _ _ _ h none = absurd h
 
 -- no marked value gets to a special function register
 abbrev pub IsAllowed : Operand → List Bool → Type 0

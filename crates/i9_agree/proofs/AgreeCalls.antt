@@ -1,17 +1,16 @@
 -- In states that agree each instruction that marks allow, and whose access meets no hazard, does what is alike: pushes,
 -- returns, system control, and all names.
 use Rattle.std.proofs.Common.{◌≡◌, ℕ, ◌+◌, ◌*◌, ◌/◌, ◌%◌, ◌^◌, ◌<◌, Bool, true, false, cond, eqb, nat_lt, List, [], ◌∷◌, ◌++◌, Option, Some, None, refl, sym, ap, ◌∙◌, subst, arith}
-use Rattle.std.specs.Prelude.{not, bit_and, ◌==◌, ◌&&◌, ◌||◌}
+use Rattle.std.specs.Prelude.{not, ◌==◌, ◌&&◌, ◌||◌}
 use Rattle.std.specs.List.{list_any}
 use Rattle.std.proofs.lemmas.Bool.{or_left, eqb-true}
 use Rattle.i9_isa.specs.declared.op.Op.{Op}
 use Rattle.i9_isa.specs.declared.op.Op.TheVariants.{Mov, Movl, Movt, Movq, Lda, Atadd, Atmod, Bx, Balx, Bal, Call, Callx, Calls, Ret, Flushreg, Modac, Modtc, Modpc, Sdma, Sysctl}
 use Rattle.i9_isa.specs.declared.size.Transfer.{Transfer}
-use Rattle.i9_isa.specs.declared.inst.Operand.{Operand}
 use Rattle.i9_isa.specs.declared.inst.Inst.{Inst}
 use Rattle.i9_isa.specs.Transfers.{transfer_of}
 use Rattle.i9_model.specs.declared.interrupts.TheConstants.{FIRST_VECTOR}
-use Rattle.i9_model.specs.declared.layout.TheConstants.{FP, SP, PFP, LOCALS, FRAME_SIZE, INTERRUPT_RETURN, LOCAL_RETURN, AC_MASK, PC_MASK, TC_MASK}
+use Rattle.i9_model.specs.declared.layout.TheConstants.{FP, SP, PFP, LOCALS, FRAME_SIZE, INTERRUPT_RETURN, LOCAL_RETURN}
 use Rattle.i9_model.specs.declared.push.Push.{Push}
 use Rattle.i9_model.specs.declared.calls.Sys.{Sys}
 use Rattle.i9_model.specs.Writes.{wrapped, pairs_at}
@@ -20,13 +19,11 @@ use Rattle.i9_model.specs.State.{State, aligned, frame_sets}
 use Rattle.i9_model.specs.Frames.{pushed, rounded_down, in_bytes, in_frames}
 use Rattle.i9_model.specs.Hazards.{save_hazard, port_hazard, frame_hazard, return_hazard, return_place}
 use Rattle.i9_model.specs.Requests.{request_writes}
-use Rattle.i9_model.specs.Dma.{set_up}
 use Rattle.i9_model.specs.Faults.{is_special}
-use Rattle.i9_model.specs.Calls.{caller_in, call_type, system_entered, in_supervisor_mode, leaves_supervisor, without_supervisor, saved_pc, saved_ac, priority_of, takes_record, return_type, controls_hazard, ret_hazard, returned_pc, returned_ac, popped, system_hazard_by}
-use Rattle.i9_model.specs.Controls.{Restarts, LoadsGroup}
+use Rattle.i9_model.specs.Calls.{caller_in, call_type, system_entered, takes_record, return_type, controls_hazard, ret_hazard, returned_pc, returned_ac, popped, system_hazard_by}
 use Rattle.i9_model.specs.Operands.{value, word_of, source_words, address, target}
 use Rattle.i9_model.specs.Sound.{in_returns}
-use Rattle.i9_model.specs.Step.{Action, Returns, Flushes, going, passing, following, answering, merged, jumping, linking, modified, modac_action, modtc_action, process_controls, modpc_action, Message, AsksNothing, AsksCheck, AsksInterrupt, AsksRestart, AsksGroup, message_of, argument_of, message_kind, asked_message, message_action, sdma_action, pushing, call_action, system_call, calls_action, ret_action, action_by_name, action_by, action_of}
+use Rattle.i9_model.specs.Step.{Action, Returns, going, passing, following, assigning, marking, merged, jumping, linking, modac_action, modtc_action, modpc_action, Message, AsksNothing, AsksCheck, AsksInterrupt, AsksRestart, AsksGroup, message_of, argument_of, message_kind, asked_message, message_action, sdma_action, pushing, call_action, system_call, calls_action, ret_action, action_by_name, action_by, action_of}
 use Rattle.i9_model.specs.Stale.{picked, mark_of, marks_of, word_mark, word_marks, left_memory, left_stale, registers_of, address_registers, is_marked, marks_by_name, marks_by, restart_registers, record_registers, deciding, deciding_by, push_mark, area_hazard}
 use Rattle.i9_model.specs.Access.{access_by_name, message_access, access_by, hazard_in, hazard_of}
 use Rattle.i9_model.specs.Alike.{is_hard, AgreeWhere, with_other, shows, with_values, AgreeBeside, AreValuesAlike, AreActionsAlike}
@@ -35,15 +32,13 @@ use Rattle.i9_model.proofs.Readings.{in_bytes-has}
 use Rattle.i9_model.proofs.FrameLaws.{read_hazard-none}
 use Rattle.i9_agree.proofs.AlikeActions.{AreKnown, other_caller, system_by_same, saved_pc_same, saved_ac_same, request_same}
 use Rattle.i9_agree.proofs.Agreeing.{shows-none, shows-first, shows-second, shows-both, values-mapped, writes-append, writes-same, writes-picked}
-use Rattle.i9_agree.proofs.AgreeNames.{AreOther, hard-bytes, pc-alike, moving-agree, atomic-agree, other-agree}
-use Rattle.i9_agree.proofs.AgreeActions.{AreShown, shown-first, shown-second, word-same, operand-same, value-same, address-same, legible-word, shown-word-same, alike-same, alike-by, assigning-alike, pushing-alike}
+use Rattle.i9_agree.proofs.AgreeNames.{AreOther, hard-bytes, moving-agree, atomic-agree, other-agree}
+use Rattle.i9_agree.proofs.AgreeActions.{AreShown, shown-first, shown-second, shown-three, word-same, operand-same, value-same, address-same, legible-word, shown-word-same, alike-same, alike-by, IsAllowed, assigning-alike, pushing-alike}
 
 -- ---- pushes
 
 none_mark : (fp sp : Bool) (ip : ℕ) → cond (fp || sp) (Some ip) None ≡ None → (fp ≡ false) × (sp ≡ false)
-none_mark false false ip e = (refl, refl)
-none_mark true sp ip e = absurd cc
-none_mark false true ip e = absurd cc
+none_mark fp sp ip e = grind arith
 
 -- where nothing is found of a push, fp and sp as far as it goes by them are the same
 pub push-known : (hides : Bool) (s : State) (regs : ℕ → ℕ) → AgreeBeside hides s regs → AreKnown (area_hazard s) (s.regs FP) (s.regs SP) (regs FP) (regs SP)
@@ -78,7 +73,8 @@ calls-agree hides i s regs bytes reading same shown none =
     ap (λ (n : ℕ). system_entered (other_caller (caller_in s) bytes (regs FP) (regs SP)) s.tables.system_table n 0 kind) number
     ∙ system_by_same (caller_in s) bytes s.tables.system_table (value s i.a) (regs FP) (regs SP) 0 kind (area_hazard s) (hard-bytes hides s regs bytes reading same) (push-known hides s regs same.regs) none in
     let all : calls_action i t ≡ record (pushing t y.push (following i s) y.target) { pc = y.pc } = ap (λ (x : Sys). record (pushing t x.push (following i s) x.target) { pc = x.pc }) enters in
-    subst (λ (x : Action). AreActionsAlike hides (calls_action i s) x) (sym all) (pc-alike hides (pushing s y.push (following i s) y.target) (pushing t y.push (following i s) y.target) y.pc (pushing-alike hides s regs bytes reading y.push (following i s) y.target same.regs))
+    let push = pushing-alike hides s regs bytes reading y.push (following i s) y.target same.regs in
+    subst (λ (x : Action). AreActionsAlike hides (calls_action i s) x) (sym all) (record { rest = refl; sets = push.sets; writes = push.writes; move = push.move })
 
 -- ---- returns
 
@@ -110,7 +106,7 @@ frame-read hides s regs bytes reading [] a is same known none = (
 )
 frame-read hides s regs bytes reading (g ∷ live) a is same known none = (
   (λ k l h. shown-word-same hides s.memory bytes s.frames.marked (wrapped (a + 4 * k))
-      (λ t. ap bytes (whole (4 * k)) ∙ byte (4 * k) (omega (arith, l)) (ap (λ (x : ℕ). shows hides (s.frames.marked x)) (sym (whole (4 * k))) ∙ t) ∙ ap s.memory.bytes (sym (whole (4 * k))))
+      (λ t. byte (4 * k) (omega (arith, l)) t)
       (λ j m n t. ap bytes (next k j) ∙ byte (4 * k + j) (omega (arith, l, n)) (ap (λ (x : ℕ). shows hides (s.frames.marked x)) (sym (next k j)) ∙ t) ∙ ap s.memory.bytes (sym (next k j)))
       h),
   return_shown hides s.frames.marked (return_place a) (λ x t. known x (returns x t)) (below_count a),
@@ -126,9 +122,6 @@ frame-read hides s regs bytes reading (g ∷ live) a is same known none = (
     returns : (x : ℕ) → in_bytes (return_place a) 4 x ≡ true → in_returns (g ∷ live) x ≡ true
     returns x t = or_left (in_bytes (return_place g) 4 x) (in_returns live x) (ap (λ (y : ℕ). in_bytes (return_place y) 4 x) (sym here) ∙ t)
 
-    whole : (k : ℕ) → wrapped (a + k) ≡ wrapped (a + k)
-    whole k = refl
-
     next : (k j : ℕ) → wrapped (wrapped (a + 4 * k) + j) ≡ wrapped (a + (4 * k + j))
     next k j = omega arith
 
@@ -136,10 +129,7 @@ frame-read hides s regs bytes reading (g ∷ live) a is same known none = (
     is_live x t = ap (λ (l : List ℕ). in_frames l x) is ∙ or_left (in_bytes g FRAME_SIZE x) (in_frames live x) (ap (λ (y : ℕ). in_bytes y FRAME_SIZE x) (sym here) ∙ t)
 
     opened : (hard sh lv : Bool) → sh ≡ true → lv ≡ true → (hard || cond sh lv false) ≡ true
-    opened true sh lv e d = refl
-    opened false true true e d = refl
-    opened false false lv e d = absurd cc
-    opened false true false e d = absurd cc
+    opened hard sh lv e d = grind arith
 
     byte : (k : ℕ) → k < 64 → shows hides (s.frames.marked (wrapped (a + k))) ≡ true → bytes (wrapped (a + k)) ≡ s.memory.bytes (wrapped (a + k))
     byte k l t =
@@ -162,18 +152,10 @@ controls-same hides s regs bytes reading same shown none = by_takes (takes_recor
     Same = (returned_pc (with_other s.memory bytes) kind (regs FP) s.pc ≡ returned_pc s.memory kind (s.regs FP) s.pc) × (returned_ac (with_other s.memory bytes) kind (regs FP) s.ac ≡ returned_ac s.memory kind (s.regs FP) s.ac)
 
     fp_same : regs FP ≡ s.regs FP → Same
-    fp_same e = (
-      ap (λ (x : ℕ). returned_pc (with_other s.memory bytes) kind x s.pc) e ∙ saved_pc_same s.frames s.memory bytes kind (s.regs FP) s.pc hard none,
-      ap (λ (x : ℕ). returned_ac (with_other s.memory bytes) kind x s.ac) e ∙ saved_ac_same s.frames s.memory bytes kind (s.regs FP) s.ac hard none,
-    )
+    fp_same e = rw e (saved_pc_same s.frames s.memory bytes kind (s.regs FP) s.pc hard none, saved_ac_same s.frames s.memory bytes kind (s.regs FP) s.ac hard none)
 
     unread : takes_record kind ≡ false → Same
-    unread e = (
-      ap (λ (b : Bool). cond (not (in_supervisor_mode s.pc)) s.pc (cond b (bit_and (saved_pc (with_other s.memory bytes) (regs FP)) PC_MASK) (cond (leaves_supervisor kind) (without_supervisor s.pc (kind % 2)) s.pc))) e
-          ∙ sym (ap (λ (b : Bool). cond (not (in_supervisor_mode s.pc)) s.pc (cond b (bit_and (saved_pc s.memory (s.regs FP)) PC_MASK) (cond (leaves_supervisor kind) (without_supervisor s.pc (kind % 2)) s.pc))) e),
-      ap (λ (b : Bool). cond b (bit_and (saved_ac (with_other s.memory bytes) (regs FP)) AC_MASK) s.ac) e
-          ∙ sym (ap (λ (b : Bool). cond b (bit_and (saved_ac s.memory (s.regs FP)) AC_MASK) s.ac) e),
-    )
+    unread e = rw e (refl, refl)
 
     by_takes : (b : Bool) → takes_record kind ≡ b → AreShown hides s (cond b (FP ∷ []) []) → Same
     by_takes true e h = fp_same (same.regs FP (shows-first hides (s.marks FP) false h))
@@ -225,8 +207,7 @@ ret-agree hides s regs bytes reading same known shown none =
     let all : ret_action t ≡ restoring s a back ws marked pc ac =
     ap (λ (p : ℕ). restoring (record s { regs = λ r. cond (r == PFP) p (s.regs r) }) (rounded_down p) (word_in (left_memory f.live t) (return_place (rounded_down p))) (words_in (left_memory f.live t) (rounded_down p) LOCALS)
     (picked (λ r. r) 0 (word_marks (left_stale f.live f) (rounded_down p) LOCALS)) (returned_pc (with_other s.memory bytes) (return_type p) (regs FP) s.pc) (returned_ac (with_other s.memory bytes) (return_type p) (regs FP) s.ac)) pfp
-    ∙ restoring-parts s a back (word_in (left_memory f.live t) (return_place a)) ws marked pc (returned_pc (with_other s.memory bytes) kind (regs FP) s.pc) ac (returned_ac (with_other s.memory bytes) kind (regs FP) s.ac)
-    (read.0 2 (omega arith) read.1) returned.0 returned.1 in
+    ∙ restoring-parts s a back _ ws marked pc _ ac _ (read.0 2 (omega arith) read.1) returned.0 returned.1 in
     subst (λ (x : Action). AreActionsAlike hides (ret_action s) x) (sym all) here
 
 -- ---- system control
@@ -242,15 +223,11 @@ message-agree hides AsksInterrupt i s regs bytes reading same shown more none =
     (ap (λ (v : ℕ). record (passing i s) { writes = request_writes (with_other s.memory bytes) s.tables.interrupt_table (v % 2 ^ 8); check = true }) (value-same hides s regs bytes reading i.a same.regs shown)
     ∙ ap (λ (ps : List (ℕ × ℕ)). record (passing i s) { writes = ps; check = true }) (request_same s.frames s.memory bytes s.tables.interrupt_table (argument_of i s) (hard-bytes hides s regs bytes reading same) none))
 message-agree hides AsksRestart i s regs bytes reading same shown more none =
-    let t = with_values s regs bytes reading in
-    let both = more refl in
-    alike-by hides (message_action AsksRestart i s) (message_action AsksRestart i t) refl
-    (ap (λ (v : ℕ). record (passing i s) { move = Flushes; control = Restarts v (value t i.c) }) (value-same hides s regs bytes reading i.b same.regs (shown-first hides s (registers_of i.b 1) (registers_of i.c 1) both))
-    ∙ ap (λ (v : ℕ). record (passing i s) { move = Flushes; control = Restarts (value s i.b) v }) (value-same hides s regs bytes reading i.c same.regs (shown-second hides s (registers_of i.b 1) (registers_of i.c 1) both)))
+    let b = shown-first hides s (registers_of i.b 1) (registers_of i.c 1) (more refl) in
+    let c = shown-second hides s (registers_of i.b 1) (registers_of i.c 1) (more refl) in
+    alike-by hides (message_action AsksRestart i s) (message_action AsksRestart i (with_values s regs bytes reading)) refl (rw (value-same hides s regs bytes reading i.b same.regs b, value-same hides s regs bytes reading i.c same.regs c) refl)
 message-agree hides AsksGroup i s regs bytes reading same shown more none =
-    let t = with_values s regs bytes reading in
-    alike-by hides (message_action AsksGroup i s) (message_action AsksGroup i t) refl
-    (ap (λ (v : ℕ). record (passing i s) { move = Flushes; control = LoadsGroup (v % 2 ^ 8) }) (value-same hides s regs bytes reading i.a same.regs shown))
+    alike-by hides (message_action AsksGroup i s) (message_action AsksGroup i (with_values s regs bytes reading)) refl (rw (value-same hides s regs bytes reading i.a same.regs shown) refl)
 
 -- message 3 takes two further registers
 pub restart-shown : (hides : Bool) (s : State) (n v : ℕ) (rs : List ℕ) → AreShown hides s (cond (n == 3) rs []) → message_kind n v ≡ AsksRestart → AreShown hides s rs
@@ -285,9 +262,11 @@ pub record IsAllowedOf (op : Op) (i : Inst) (s : State) : Type 0 where
   pub special : (is_special i.c && list_any (λ b. b) (marks_by_name op (named op i) s)) ≡ false
 
 -- groups are moved word by word
-moved-words : (hides : Bool) (s : State) (regs bytes reading : ℕ → ℕ) (o : Operand) (n : ℕ) → AgreeBeside hides s regs → AreValuesAlike hides (marks_of s o n) (source_words s o n) (source_words (with_values s regs bytes reading) o n)
-moved-words hides s regs bytes reading o n same =
-    values-mapped hides (mark_of s o) (word_of s o) (word_of (with_values s regs bytes reading) o) 0 n (λ k l h. word-same hides s regs bytes reading o k same h)
+words-agree : (hides : Bool) (i : Inst) (s : State) (regs bytes reading : ℕ → ℕ) (n : ℕ) → AgreeBeside hides s regs → IsAllowed i.c (marks_of s i.a n)
+    → let moving = λ (u : State). marking i.c (marks_of s i.a n) (assigning i.c (source_words u i.a n) (passing i s)) in AreActionsAlike hides (moving s) (moving (with_values s regs bytes reading))
+words-agree hides i s regs bytes reading n same allowed =
+    assigning-alike hides i.c (marks_of s i.a n) (source_words s i.a n) (source_words (with_values s regs bytes reading) i.a n) (passing i s) allowed
+    (values-mapped hides (mark_of s i.a) (word_of s i.a) (word_of (with_values s regs bytes reading) i.a) 0 n (λ k l h. word-same hides s regs bytes reading i.a k same h)) refl
 
 pub name-agree : (hides : Bool) (op : Op) (i : Inst) (s : State) (regs bytes reading : ℕ → ℕ) → AreOther hides s regs bytes reading → ((x : ℕ) → in_returns s.frames.live x ≡ true → s.frames.marked x ≡ false)
     → IsAllowedOf op i s → hazard_in s (access_by_name op (named op i) s) ≡ None → AreActionsAlike hides (action_by_name op (named op i) s) (action_by_name op (named op i) (with_values s regs bytes reading))
@@ -316,49 +295,25 @@ name-agree hides Calls i s regs bytes reading same known may none =
 name-agree hides Ret i s regs bytes reading same known may none = ret-agree hides s regs bytes reading same known (shows-none hides _ may.deciding) none
 name-agree hides Flushreg i s regs bytes reading same known may none = alike-same hides (action_by_name Flushreg (named Flushreg i) s) refl
 name-agree hides Modac i s regs bytes reading same known may none =
-    let t = with_values s regs bytes reading in
-    let all : AreShown hides s (registers_of i.a 1 ++ (registers_of i.b 1 ++ registers_of i.c 0)) = shows-none hides _ may.deciding in
-    let later = shown-second hides s (registers_of i.a 1) (registers_of i.b 1 ++ registers_of i.c 0) all in
-    alike-by hides (modac_action (named Modac i) s) _ refl
-    (ap (λ (v : ℕ). record (answering (named Modac i) s s.ac) { ac = modified s.ac v (value t i.b) AC_MASK }) (value-same hides s regs bytes reading i.a same.regs (shown-first hides s (registers_of i.a 1) (registers_of i.b 1 ++ registers_of i.c 0) all))
-    ∙ ap (λ (v : ℕ). record (answering (named Modac i) s s.ac) { ac = modified s.ac (value s i.a) v AC_MASK }) (value-same hides s regs bytes reading i.b same.regs (shown-first hides s (registers_of i.b 1) (registers_of i.c 0) later)))
+    let all = shown-three hides s (registers_of i.a 1) (registers_of i.b 1) (registers_of i.c 0) (shows-none hides _ may.deciding) in
+    alike-by hides (modac_action (named Modac i) s) (modac_action (named Modac i) (with_values s regs bytes reading)) refl (rw (value-same hides s regs bytes reading i.a same.regs all.0, value-same hides s regs bytes reading i.b same.regs all.1) refl)
 name-agree hides Modtc i s regs bytes reading same known may none =
-    let t = with_values s regs bytes reading in
-    let all : AreShown hides s (registers_of i.a 1 ++ (registers_of i.b 1 ++ registers_of i.c 0)) = shows-none hides _ may.deciding in
-    let later = shown-second hides s (registers_of i.a 1) (registers_of i.b 1 ++ registers_of i.c 0) all in
-    alike-by hides (modtc_action (named Modtc i) s) _ refl
-    (ap (λ (v : ℕ). record (answering (named Modtc i) s s.trace.tc) { tc = modified s.trace.tc v (value t i.b) TC_MASK }) (value-same hides s regs bytes reading i.a same.regs (shown-first hides s (registers_of i.a 1) (registers_of i.b 1 ++ registers_of i.c 0) all))
-    ∙ ap (λ (v : ℕ). record (answering (named Modtc i) s s.trace.tc) { tc = modified s.trace.tc (value s i.a) v TC_MASK }) (value-same hides s regs bytes reading i.b same.regs (shown-first hides s (registers_of i.b 1) (registers_of i.c 0) later)))
+    let all = shown-three hides s (registers_of i.a 1) (registers_of i.b 1) (registers_of i.c 0) (shows-none hides _ may.deciding) in
+    alike-by hides (modtc_action (named Modtc i) s) (modtc_action (named Modtc i) (with_values s regs bytes reading)) refl (rw (value-same hides s regs bytes reading i.a same.regs all.0, value-same hides s regs bytes reading i.b same.regs all.1) refl)
 name-agree hides Modpc i s regs bytes reading same known may none =
-    let t = with_values s regs bytes reading in
     let all : AreShown hides s (registers_of i.b 1 ++ registers_of i.c 1) = shows-none hides _ may.deciding in
-    let controls : process_controls (named Modpc i) t ≡ process_controls (named Modpc i) s =
-    ap (λ (v : ℕ). modified s.pc v (value t i.c) PC_MASK) (value-same hides s regs bytes reading i.b same.regs (shown-first hides s (registers_of i.b 1) (registers_of i.c 1) all))
-    ∙ ap (λ (v : ℕ). modified s.pc (value s i.b) v PC_MASK) (value-same hides s regs bytes reading i.c same.regs (shown-second hides s (registers_of i.b 1) (registers_of i.c 1) all)) in
-    alike-by hides (modpc_action (named Modpc i) s) _ refl
-    (ap (λ (v : ℕ). record (answering (named Modpc i) s s.pc) { pc = v; check = nat_lt (priority_of v) (priority_of s.pc) }) controls)
+    alike-by hides (modpc_action (named Modpc i) s) (modpc_action (named Modpc i) (with_values s regs bytes reading)) refl
+    (rw (value-same hides s regs bytes reading i.b same.regs (shown-first hides s (registers_of i.b 1) (registers_of i.c 1) all), value-same hides s regs bytes reading i.c same.regs (shown-second hides s (registers_of i.b 1) (registers_of i.c 1) all)) refl)
 name-agree hides Sdma i s regs bytes reading same known may none =
-    let t = with_values s regs bytes reading in
-    let all : AreShown hides s (registers_of i.a 1 ++ (registers_of i.b 1 ++ registers_of i.c 3)) = shows-none hides _ may.deciding in
-    let later = shown-second hides s (registers_of i.a 1) (registers_of i.b 1 ++ registers_of i.c 3) all in
-    let a = value-same hides s regs bytes reading i.a same.regs (shown-first hides s (registers_of i.a 1) (registers_of i.b 1 ++ registers_of i.c 3) all) in
-    let b = value-same hides s regs bytes reading i.b same.regs (shown-first hides s (registers_of i.b 1) (registers_of i.c 3) later) in
-    let c : (k : ℕ) → k < 3 → word_of t i.c k ≡ word_of s i.c k = λ k l. operand-same hides s regs bytes reading i.c 3 k same.regs (shown-second hides s (registers_of i.b 1) (registers_of i.c 3) later) l in
-    alike-by hides (sdma_action (named Sdma i) s) _ refl
-    (sdma-parts s (named Sdma i) (value s i.a) (value s i.b) (word_of s i.c 0) (word_of s i.c 1) (word_of s i.c 2) (value t i.a) (value t i.b) (word_of t i.c 0) (word_of t i.c 1) (word_of t i.c 2) a b (c 0 (omega arith)) (c 1 (omega arith)) (c 2 (omega arith)))
-  where
-    sdma-parts : (s : State) (i : Inst) (a b p q r v w x y z : ℕ) → v ≡ a → w ≡ b → x ≡ p → y ≡ q → z ≡ r
-        → ◌≡◌ {A = Action} (record (passing i s) { dma = set_up s.dma v (record { control = w; count = x; source = y; target = z }) }) (record (passing i s) { dma = set_up s.dma a (record { control = b; count = p; source = q; target = r }) })
-    sdma-parts s i a b p q r v w x y z e0 e1 e2 e3 e4 = rw (e0, e1, e2, e3, e4) refl
+    let all = shown-three hides s (registers_of i.a 1) (registers_of i.b 1) (registers_of i.c 3) (shows-none hides _ may.deciding) in
+    let c : (k : ℕ) → k < 3 → word_of (with_values s regs bytes reading) i.c k ≡ word_of s i.c k = λ k l. operand-same hides s regs bytes reading i.c 3 k same.regs all.2 l in
+    alike-by hides (sdma_action (named Sdma i) s) (sdma_action (named Sdma i) (with_values s regs bytes reading)) refl
+    (rw (value-same hides s regs bytes reading i.a same.regs all.0, value-same hides s regs bytes reading i.b same.regs all.1, c 0 (omega arith), c 1 (omega arith), c 2 (omega arith)) refl)
 name-agree hides Sysctl i s regs bytes reading same known may none = sysctl-agree hides (named Sysctl i) s regs bytes reading same (shows-none hides _ may.deciding) none
-name-agree hides Mov i s regs bytes reading same known may none =
-    assigning-alike hides i.c (marks_of s i.a 1) (source_words s i.a 1) (source_words (with_values s regs bytes reading) i.a 1) (passing (named Mov i) s) may.special (moved-words hides s regs bytes reading i.a 1 same.regs) refl
-name-agree hides Movl i s regs bytes reading same known may none =
-    assigning-alike hides i.c (marks_of s i.a 2) (source_words s i.a 2) (source_words (with_values s regs bytes reading) i.a 2) (passing (named Movl i) s) may.special (moved-words hides s regs bytes reading i.a 2 same.regs) refl
-name-agree hides Movt i s regs bytes reading same known may none =
-    assigning-alike hides i.c (marks_of s i.a 3) (source_words s i.a 3) (source_words (with_values s regs bytes reading) i.a 3) (passing (named Movt i) s) may.special (moved-words hides s regs bytes reading i.a 3 same.regs) refl
-name-agree hides Movq i s regs bytes reading same known may none =
-    assigning-alike hides i.c (marks_of s i.a 4) (source_words s i.a 4) (source_words (with_values s regs bytes reading) i.a 4) (passing (named Movq i) s) may.special (moved-words hides s regs bytes reading i.a 4 same.regs) refl
+name-agree hides Mov i s regs bytes reading same known may none = words-agree hides (named Mov i) s regs bytes reading 1 same.regs may.special
+name-agree hides Movl i s regs bytes reading same known may none = words-agree hides (named Movl i) s regs bytes reading 2 same.regs may.special
+name-agree hides Movt i s regs bytes reading same known may none = words-agree hides (named Movt i) s regs bytes reading 3 same.regs may.special
+name-agree hides Movq i s regs bytes reading same known may none = words-agree hides (named Movq i) s regs bytes reading 4 same.regs may.special
 name-agree hides op i s regs bytes reading same known may none = other-agree hides (named op i) s regs bytes reading same.regs refl refl may.deciding may.special
 
 pub action-agree : (hides : Bool) (i : Inst) (s : State) (regs bytes reading : ℕ → ℕ) → AreOther hides s regs bytes reading → ((x : ℕ) → in_returns s.frames.live x ≡ true → s.frames.marked x ≡ false)

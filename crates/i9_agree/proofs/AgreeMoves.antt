@@ -1,5 +1,5 @@
 -- Actions that are alike leave states that agree.
-use Rattle.std.proofs.Common.{◌≡◌, ℕ, ◌+◌, ◌*◌, Bool, true, false, cond, List, [], ◌∷◌, length, drop, nat_le, refl, sym, ap, ◌∙◌, subst}
+use Rattle.std.proofs.Common.{◌≡◌, ℕ, ◌+◌, ◌*◌, Bool, true, false, cond, List, [], ◌∷◌, length, drop, nat_le, refl, sym, ap, ◌∙◌, subst, arith}
 use Rattle.std.specs.Prelude.{not, ◌&&◌, ◌||◌, replicate}
 use Rattle.std.proofs.lemmas.Bool.{or_left, or_right}
 use Rattle.i9_model.specs.declared.layout.TheConstants.{FRAME_SIZE}
@@ -16,7 +16,7 @@ use Rattle.i9_model.proofs.Runs.{is_put-upwards}
 use Rattle.i9_model.proofs.Lengths.{four_bytes, words_long}
 use Rattle.i9_model.proofs.Storing.{stored_words_same, words_as_bytes}
 use Rattle.i9_agree.proofs.AlikeMoves.{move_mcon}
-use Rattle.i9_agree.proofs.Agreeing.{shows-none, shows-second, shows-unmarked, shows-after, values-append, values-marked, writes-picked, puts-same, written-alike, stored-alike}
+use Rattle.i9_agree.proofs.Agreeing.{shows-none, shows-unmarked, shows-after, values-append, values-marked, writes-picked, puts-same, written-alike, stored-alike}
 
 -- ---- which bytes are open
 
@@ -29,50 +29,26 @@ open-hard hides f x h = or_left _ _ h
 
 -- fewer marks leave more open
 open-marked : (hides : Bool) (f : Frames) (lost : List ℕ) (x : ℕ) → is_open hides (with_marked f lost) x ≡ true → is_open hides f x ≡ true
-open-marked hides f lost x h = by_cases (is_hard f x) (has lost x) (f.marked x) (in_frames f.live x) h
+open-marked hides f lost x h = by_cases hides (is_hard f x) (has lost x) (f.marked x) (in_frames f.live x) h
   where
-    by_shown : (l m live : Bool) (s t : Bool) → shows hides (l || m) ≡ s → shows hides m ≡ t → cond s live false ≡ true → cond t live false ≡ true
-    by_shown l m live true true e d k = k
-    by_shown l m live false t e d k = absurd cc
-    by_shown l m live true false e d k = let no : false ≡ true = sym d ∙ shows-second hides l m e in absurd (cc no)
-
-    by_cases : (hard l m live : Bool) → (hard || cond (shows hides (l || m)) live false) ≡ true → (hard || cond (shows hides m) live false) ≡ true
-    by_cases true l m live k = refl
-    by_cases false l m live k = by_shown l m live (shows hides (l || m)) (shows hides m) refl refl k
+    by_cases : (hides hard l m live : Bool) → (hard || cond (shows hides (l || m)) live false) ≡ true → (hard || cond (shows hides m) live false) ≡ true
+    by_cases hides hard l m live k = grind arith
 
 open-returned : (hides : Bool) (f : Frames) (x : ℕ) → is_open hides (returned f) x ≡ true → is_open hides f x ≡ true
-open-returned hides f x h = by_live f.live (is_hard f x) (f.marked x) h
+open-returned hides f x h = by_cases hides (is_hard f x) (f.marked x) (in_frames (drop 1 f.live) x) (in_frames f.live x) (in_rest f.live) h
   where
-    by_rest : (s t m rest live : Bool) → shows hides (m && rest) ≡ s → shows hides m ≡ t → (rest ≡ true → live ≡ true) → cond s rest false ≡ true → cond t live false ≡ true
-    by_rest true true m rest live e d sub k = sub k
-    by_rest true false m true live e d sub k = let no : false ≡ true = sym d ∙ ap (shows hides) (both m) ∙ e in absurd (cc no)
-      where
-        both : (b : Bool) → b ≡ (b && true)
-        both true = refl
-        both false = refl
-    by_rest true false m false live e d sub k = absurd cc
-    by_rest false t m rest live e d sub k = absurd cc
-
     in_rest : (live : List ℕ) → in_frames (drop 1 live) x ≡ true → in_frames live x ≡ true
     in_rest [] t = t
     in_rest (g ∷ live) t = or_right (in_bytes g FRAME_SIZE x) (in_frames live x) t
 
-    by_live : (live : List ℕ) (hard m : Bool) → (hard || cond (shows hides (m && in_frames (drop 1 live) x)) (in_frames (drop 1 live) x) false) ≡ true → (hard || cond (shows hides m) (in_frames live x) false) ≡ true
-    by_live live true m k = refl
-    by_live live false m k = by_rest (shows hides (m && in_frames (drop 1 live) x)) (shows hides m) m (in_frames (drop 1 live) x) (in_frames live x) refl refl (in_rest live) k
+    by_cases : (hides hard m rest live : Bool) → (rest ≡ true → live ≡ true) → (hard || cond (shows hides (m && rest)) rest false) ≡ true → (hard || cond (shows hides m) live false) ≡ true
+    by_cases hides hard m rest live sub k = grind arith
 
 pub open-flushed : (hides : Bool) (f : Frames) (x : ℕ) → is_open hides (flushed f) x ≡ true → is_open hides f x ≡ true
 open-flushed hides f x h = by_cases hides (is_beyond x) (f.soft x) (f.marked x) (in_frames f.live x) h
   where
     by_cases : (hides beyond soft m live : Bool) → ((beyond || not (soft && not (cond (not m) live false))) || cond (shows hides false) false false) ≡ true → ((beyond || not soft) || cond (shows hides m) live false) ≡ true
-    by_cases hides true soft m live k = refl
-    by_cases hides false false m live k = refl
-    by_cases true false true true live k = absurd cc
-    by_cases false false true true live k = absurd cc
-    by_cases true false true false true k = refl
-    by_cases false false true false true k = refl
-    by_cases true false true false false k = absurd cc
-    by_cases false false true false false k = absurd cc
+    by_cases hides beyond soft m live k = grind arith
 
 -- ---- writes
 
@@ -86,16 +62,10 @@ open-wrote : (hides : Bool) (f : Frames) (ps : List (ℕ × ℕ)) (stale : List 
 open-wrote hides f ps stale x inside h = by_stale (has stale x) refl h
   where
     beside : (beyond soft put : Bool) (rest : Bool) → put ≡ false → ((beyond || not (soft && not put)) || rest) ≡ true → ((beyond || not soft) || rest) ≡ true
-    beside true soft put rest o k = refl
-    beside false false put rest o k = refl
-    beside false true false rest o k = k
-    beside false true true rest o k = absurd cc
+    beside beyond soft put rest o k = grind arith
 
     nowhere : (beyond live s : Bool) → beyond ≡ false → live ≡ false → ((beyond || false) || cond s live false) ≡ true → ⊥
-    nowhere false false true o n k = cc k
-    nowhere false false false o n k = cc k
-    nowhere true live s o n k = cc o
-    nowhere false true s o n k = cc n
+    nowhere beyond live s o n k = grind arith
 
     by_stale : (b : Bool) → has stale x ≡ b → ((is_beyond x || not (b || (f.soft x && not (is_put ps x)))) || cond (shows hides (f.marked x)) (in_frames f.live x) false) ≡ true
         → (has stale x ≡ false) × (is_put ps x ≡ false → is_open hides f x ≡ true)
@@ -118,10 +88,7 @@ bytes-alike hides m a (b ∷ bs) (v ∷ vs) (w ∷ ws) h =
     values-append hides (replicate 4 b) (byte_marks bs) (word_bytes m a v) (word_bytes m a w) (bytes_of_words m (wrapped (a + 4)) vs) (bytes_of_words m (wrapped (a + 4)) ws)
     (values-marked hides b 4 (word_bytes m a v) (word_bytes m a w) (four_bytes m a v) (four_bytes m a w) (λ t. ap (word_bytes m a) (h.0 t)))
     (bytes-alike hides m (wrapped (a + 4)) bs vs ws h.1)
-bytes-alike hides m a [] (v ∷ vs) ws h = absurd h
-bytes-alike hides m a [] [] (w ∷ ws) h = absurd h
-bytes-alike hides m a (b ∷ bs) [] ws h = absurd h
-bytes-alike hides m a (b ∷ bs) (v ∷ vs) [] h = absurd h
+bytes-alike hides m a _ _ _ h = absurd h
 
 -- the marked bytes of a frame that is saved are in its save area, beside the port page
 abbrev pub AreOfSave : Move → List ℕ → Type 0
@@ -137,10 +104,7 @@ open-saved hides f a lost x inside h = (by_lost (has lost x) refl h, λ out. bes
     by_lost true t k = let away = inside x t in within hides (is_beyond x) (in_bytes a FRAME_SIZE x) (f.soft x) (f.marked x) (in_frames f.live x) away.0 away.1 k
       where
         within : (hides beyond here soft m live : Bool) → beyond ≡ false → here ≡ true → ((beyond || not (here || soft)) || cond (shows hides (true || m)) (here || live) false) ≡ true → shows hides true ≡ true
-        within false beyond here soft m live e d k = refl
-        within true false true soft m live e d k = absurd cc
-        within true true here soft m live e d k = absurd cc
-        within true false false soft m live e d k = absurd cc
+        within hides beyond here soft m live e d k = grind arith
 
     beside : (beyond soft here l m live : Bool) → here ≡ false → (l ≡ true → ⊥) → ((beyond || not (here || soft)) || cond (shows hides (l || m)) (here || live) false) ≡ true → ((beyond || not soft) || cond (shows hides m) live false) ≡ true
     beside beyond soft false false m live o n k = k
@@ -169,19 +133,13 @@ move-agree hides Returns w lost f m bytes inside whole alike same = λ x h. ap (
 move-agree hides Flushes w lost f m bytes inside whole alike same = λ x h. ap (λ (u : Move). (memory_after (with_other m bytes) u).bytes x) alike ∙ same x (open-flushed hides f x (open-marked hides (flushed f) lost x h))
 move-agree hides (Saves a vs) (Saves b ws) lost f m bytes inside whole alike same = λ x h.
     ap (λ (c : ℕ). (memory_after (with_other m bytes) (Saves c ws)).bytes x) alike.0 ∙ saves-agree hides f m bytes a lost vs ws inside whole (refl, alike.1) same x h
-move-agree hides (Saves a vs) Stays lost f m bytes inside whole alike same = absurd alike
-move-agree hides (Saves a vs) Returns lost f m bytes inside whole alike same = absurd alike
-move-agree hides (Saves a vs) Flushes lost f m bytes inside whole alike same = absurd alike
+move-agree hides (Saves a vs) _ lost f m bytes inside whole alike same = absurd alike
 
 -- frames go by addresses alone
 move-frames : (hides : Bool) (v w : Move) (lost : List ℕ) (f : Frames) → AreMovesAlike hides lost v w → frames_after f w ≡ frames_after f v
-move-frames hides Stays w lost f alike = ap (frames_after f) alike
-move-frames hides Returns w lost f alike = ap (frames_after f) alike
-move-frames hides Flushes w lost f alike = ap (frames_after f) alike
 move-frames hides (Saves a vs) (Saves b ws) lost f alike = ap (saved f) alike.0
-move-frames hides (Saves a vs) Stays lost f alike = absurd alike
-move-frames hides (Saves a vs) Returns lost f alike = absurd alike
-move-frames hides (Saves a vs) Flushes lost f alike = absurd alike
+move-frames hides (Saves a vs) _ lost f alike = absurd alike
+move-frames hides _ w lost f alike = ap (frames_after f) alike
 
 -- ---- the state after an action
 

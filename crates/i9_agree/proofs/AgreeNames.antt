@@ -6,7 +6,7 @@ use Rattle.std.proofs.lemmas.Bool.Decides.{nat_tests}
 use Rattle.i9_isa.specs.declared.op.Op.{Op}
 use Rattle.i9_isa.specs.declared.op.Op.TheVariants.{Mov, Lda}
 use Rattle.i9_isa.specs.declared.size.Size.{Size}
-use Rattle.i9_isa.specs.declared.size.Size.TheVariants.{Byte, Half, Words}
+use Rattle.i9_isa.specs.declared.size.Size.TheVariants.{Byte}
 use Rattle.i9_isa.specs.declared.size.Direction.{Direction}
 use Rattle.i9_isa.specs.declared.size.Direction.TheVariants.{Load, Store}
 use Rattle.i9_isa.specs.declared.inst.Operand.{Operand}
@@ -28,7 +28,7 @@ use Rattle.i9_model.specs.Alike.{is_hard, AgreeWhere, shows, is_open, with_value
 use Rattle.i9_model.proofs.Lengths.{four_bytes}
 use Rattle.i9_agree.proofs.Agreeing.{shows-none, shows-first, shows-second, values-marked, writes-picked}
 use Rattle.i9_agree.proofs.AgreeMoves.{open-hard}
-use Rattle.i9_agree.proofs.AgreeActions.{AreShown, shown-first, shown-second, operand-same, value-same, address-same, legible-word, loaded-alike, alike-by, IsAllowed, assigning-alike, writing-alike, stored-alike-of}
+use Rattle.i9_agree.proofs.AgreeActions.{AreShown, shown-three, operand-same, value-same, address-same, legible-word, loaded-alike, alike-by, IsAllowed, assigning-alike, writing-alike, stored-alike-of}
 
 -- these are other values that agree with a state
 pub record AreOther (hides : Bool) (s : State) (r b h : ℕ → ℕ) : Type 0 where
@@ -48,20 +48,11 @@ ac-alike hides a b x y e alike = record {
   move = alike.move;
 }
 
-pub pc-alike : (hides : Bool) (a b : Action) (x : ℕ) → AreActionsAlike hides a b → AreActionsAlike hides (record a { pc = x }) (record b { pc = x })
-pc-alike hides a b x alike = record {
-  rest = ap (λ (c : Action). record c { pc = x }) alike.rest;
-  sets = alike.sets;
-  writes = alike.writes;
-  move = alike.move;
-}
-
 -- ---- loads, stores and atomics
 
 stored-marks : (size : Size) (s : State) (regs bytes reading : ℕ → ℕ) (o : Operand) → stored_marks size (with_values s regs bytes reading) o ≡ stored_marks size s o
 stored-marks Byte s regs bytes reading o = refl
-stored-marks Half s regs bytes reading o = refl
-stored-marks (Words n) s regs bytes reading o = refl
+stored-marks _ s regs bytes reading o = refl
 
 pub moving-agree : (hides : Bool) (d : Direction) (size : Size) (signed : Bool) (i : Inst) (s : State) (regs bytes reading : ℕ → ℕ) → AreOther hides s regs bytes reading
     → AreShown hides s (address_registers i.ea) → IsAllowed i.c (moved_marks d size i s) → AreActionsAlike hides (moving d size signed i s) (moving d size signed i (with_values s regs bytes reading))
@@ -142,14 +133,11 @@ answer-same hides i s regs bytes reading same shown =
     let na = words_read (row_of i.op).a in
     let nb = words_read (row_of i.op).b in
     let nc = words_read (row_of i.op).c in
-    let later = shown-second hides s (registers_of i.a na) (registers_of i.b nb ++ registers_of i.c nc) shown in
-    let a = shown-first hides s (registers_of i.a na) (registers_of i.b nb ++ registers_of i.c nc) shown in
-    let b = shown-first hides s (registers_of i.b nb) (registers_of i.c nc) later in
-    let c = shown-second hides s (registers_of i.b nb) (registers_of i.c nc) later in
+    let all = shown-three hides s (registers_of i.a na) (registers_of i.b nb) (registers_of i.c nc) shown in
     sym (results-used i.op (word_of t i.a 0) (word_of t i.a 1) (word_of t i.a 2) (word_of t i.a 3) (word_of t i.b 0) (word_of t i.b 1) (word_of t i.c 0) s.ac)
     ∙ results-args i.op _ _ _ _ _ _ _ _ _ _ _ _ _ _ s.ac
-    (used-same hides s regs bytes reading i.a na 0 same a) (used-same hides s regs bytes reading i.a na 1 same a) (used-same hides s regs bytes reading i.a na 2 same a) (used-same hides s regs bytes reading i.a na 3 same a)
-    (used-same hides s regs bytes reading i.b nb 0 same b) (used-same hides s regs bytes reading i.b nb 1 same b) (used-same hides s regs bytes reading i.c nc 0 same c)
+    (used-same hides s regs bytes reading i.a na 0 same all.0) (used-same hides s regs bytes reading i.a na 1 same all.0) (used-same hides s regs bytes reading i.a na 2 same all.0) (used-same hides s regs bytes reading i.a na 3 same all.0)
+    (used-same hides s regs bytes reading i.b nb 0 same all.1) (used-same hides s regs bytes reading i.b nb 1 same all.1) (used-same hides s regs bytes reading i.c nc 0 same all.2)
     ∙ results-used i.op (word_of s i.a 0) (word_of s i.a 1) (word_of s i.a 2) (word_of s i.a 3) (word_of s i.b 0) (word_of s i.b 1) (word_of s i.c 0) s.ac
 
 -- ---- questions too
@@ -172,24 +160,15 @@ AsksShown hides i s = asks (question_of i.op) ≡ true → AreShown hides s (sou
 asked-same : (hides : Bool) (i : Inst) (s : State) (regs bytes reading : ℕ → ℕ) → AgreeBeside hides s regs → AsksShown hides i s
     → (asked_of i.op (words_read (row_of i.op).a) (value (with_values s regs bytes reading) i.a) ≡ asked_of i.op (words_read (row_of i.op).a) (value s i.a))
     × (asked_of i.op (words_read (row_of i.op).b) (value (with_values s regs bytes reading) i.b) ≡ asked_of i.op (words_read (row_of i.op).b) (value s i.b))
-asked-same hides i s regs bytes reading same shown = by_asks (asks (question_of i.op)) shown
+asked-same hides i s regs bytes reading same shown = by_asks (asks (question_of i.op)) (words_read (row_of i.op).a) (words_read (row_of i.op).b) (words_read (row_of i.op).c) shown
   where
-    na : ℕ
-    na = words_read (row_of i.op).a
-
-    nb : ℕ
-    nb = words_read (row_of i.op).b
-
-    by_asks : (b : Bool) → (b ≡ true → AreShown hides s (sources i))
+    by_asks : (b : Bool) (na nb nc : ℕ) → (b ≡ true → AreShown hides s (registers_of i.a na ++ (registers_of i.b nb ++ registers_of i.c nc)))
         → (cond b (used na 0 (value (with_values s regs bytes reading) i.a)) 0 ≡ cond b (used na 0 (value s i.a)) 0)
         × (cond b (used nb 0 (value (with_values s regs bytes reading) i.b)) 0 ≡ cond b (used nb 0 (value s i.b)) 0)
-    by_asks false h = (refl, refl)
-    by_asks true h =
-        let rest = registers_of i.b nb ++ registers_of i.c (words_read (row_of i.op).c) in
-        let later = shown-second hides s (registers_of i.a na) rest (h refl) in (
-          used-same hides s regs bytes reading i.a na 0 same (shown-first hides s (registers_of i.a na) rest (h refl)),
-          used-same hides s regs bytes reading i.b nb 0 same (shown-first hides s (registers_of i.b nb) (registers_of i.c (words_read (row_of i.op).c)) later),
-        )
+    by_asks false na nb nc h = (refl, refl)
+    by_asks true na nb nc h =
+        let all = shown-three hides s (registers_of i.a na) (registers_of i.b nb) (registers_of i.c nc) (h refl) in
+        (used-same hides s regs bytes reading i.a na 0 same all.0, used-same hides s regs bytes reading i.b nb 0 same all.1)
 
 pub taken-same : (hides : Bool) (i : Inst) (s : State) (regs bytes reading : ℕ → ℕ) → AgreeBeside hides s regs → AsksShown hides i s
     → is_taken i (value (with_values s regs bytes reading) i.a) (value (with_values s regs bytes reading) i.b) s.ac ≡ is_taken i (value s i.a) (value s i.b) s.ac
@@ -257,31 +236,16 @@ resulting-agree hides i s regs bytes reading same other plain none allowed = by_
     marked_keeps false m rs e d h = let no : true ≡ false = sym (e ∙ d) ∙ h in absurd (cc no)
 
     hidden : (h m : Bool) → shows h m ≡ false → (h ≡ true) × (m ≡ true)
-    hidden true true e = (refl, refl)
-    hidden true false e = absurd cc
-    hidden false m e = absurd cc
+    hidden h m e = grind arith
 
     counts : (u : State) → keeps_marks i.op ≡ true → length (values_of (answer_in i u)) ≡ destination_words i.op
-    counts u keeps = by_tests (is_lda i.op) (keeps_marks i.op) other keeps (keeps-count i.op (word_of u i.a 0) (word_of u i.a 1) (word_of u i.a 2) (word_of u i.a 3) (word_of u i.b 0) (word_of u i.b 1) (word_of u i.c 0) u.ac)
-      where
-        by_tests : (l k : Bool) → l ≡ false → k ≡ true → cond l 0 (cond k (length (values_of (answer_in i u))) 0) ≡ cond l 0 (cond k (destination_words i.op) 0) → length (values_of (answer_in i u)) ≡ destination_words i.op
-        by_tests false true e d h = h
-        by_tests true k e d h = absurd cc
-        by_tests false false e d h = absurd cc
+    counts u keeps = rw (other, keeps) at (keeps-count i.op (word_of u i.a 0) (word_of u i.a 1) (word_of u i.a 2) (word_of u i.a 3) (word_of u i.b 0) (word_of u i.b 1) (word_of u i.c 0) u.ac)
 
     controls : (u : State) → keeps_marks i.op ≡ true → controls_of (answer_in i u) u.ac ≡ u.ac
-    controls u keeps = by_test (keeps_marks i.op) keeps (keeps-controls i.op (word_of u i.a 0) (word_of u i.a 1) (word_of u i.a 2) (word_of u i.a 3) (word_of u i.b 0) (word_of u i.b 1) (word_of u i.c 0) u.ac)
-      where
-        by_test : (k : Bool) → k ≡ true → cond k (controls_of (answer_in i u) u.ac) u.ac ≡ u.ac → controls_of (answer_in i u) u.ac ≡ u.ac
-        by_test true d h = h
-        by_test false d h = absurd cc
+    controls u keeps = rw keeps at (keeps-controls i.op (word_of u i.a 0) (word_of u i.a 1) (word_of u i.a 2) (word_of u i.a 3) (word_of u i.b 0) (word_of u i.b 1) (word_of u i.c 0) u.ac)
 
     here : keeps_marks i.op ≡ true → destination i ≡ i.c
-    here keeps = by_test (keeps_marks i.op) (words_written (row_of i.op).a) keeps (keeps-here i.op)
-      where
-        by_test : (k : Bool) (n : ℕ) → k ≡ true → cond k n 0 ≡ 0 → cond (n == 0) i.c i.a ≡ i.c
-        by_test true n d h = ap (λ (m : ℕ). cond (m == 0) i.c i.a) h
-        by_test false n d h = absurd cc
+    here keeps = ap (λ (n : ℕ). cond (n == 0) i.c i.a) (rw keeps at (keeps-here i.op))
 
     marks : result_marks i s ≡ replicate (destination_words i.op) (is_marked s (sources i))
     marks = ap (λ (b : Bool). cond b (marks_of s i.a (destination_words i.op)) (replicate (destination_words i.op) (is_marked s (sources i)))) plain

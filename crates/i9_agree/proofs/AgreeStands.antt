@@ -5,14 +5,14 @@ use Rattle.std.specs.List.{list_any}
 use Rattle.std.proofs.lemmas.List.Folds.{list_any-append}
 use Rattle.std.proofs.lemmas.Bool.{or_parts}
 use Rattle.i9_isa.specs.declared.op.Op.{Op}
-use Rattle.i9_isa.specs.declared.op.Op.TheVariants.{Mov, Atadd, Atmod, Call, Callx, Calls, Ret, Modpc, Sdma, Sysctl, Addi, Subi, Muli, Shli, Divo, Remo, Divi, Remi, Modi, Ediv, Concmpo, Concmpi, Spanbit, Scanbit}
+use Rattle.i9_isa.specs.declared.op.Op.TheVariants.{Mov, Atadd, Atmod, Calls, Ret, Modpc, Sdma, Sysctl, Addi, Subi, Muli, Shli, Divo, Remo, Divi, Remi, Modi, Ediv, Concmpo, Concmpi, Spanbit, Scanbit}
 use Rattle.i9_isa.specs.declared.size.Size.{Size}
 use Rattle.i9_isa.specs.declared.size.Direction.{Direction}
 use Rattle.i9_isa.specs.declared.size.Direction.TheVariants.{Load, Store}
 use Rattle.i9_isa.specs.declared.size.Transfer.{Transfer}
 use Rattle.i9_isa.specs.declared.inst.Inst.{Inst}
 use Rattle.i9_isa.specs.declared.inst.BadWord.{BadWord}
-use Rattle.i9_isa.specs.Transfers.{transfer_of, byte_count, register_count}
+use Rattle.i9_isa.specs.Transfers.{transfer_of, byte_count}
 use Rattle.i9_isa.specs.Words.{decoded}
 use Rattle.i9_model.specs.declared.layout.TheConstants.{FP, SP, PFP}
 use Rattle.i9_model.specs.declared.faults.TheConstants.{OPERATION, PROTECTION, TYPE, CONSTRAINT, RANGE, UNALIGNED, INVALID_OPERAND, LENGTH, MISMATCH}
@@ -24,9 +24,9 @@ use Rattle.i9_model.specs.Faults.{is_special, is_supervisor_only, uses_special, 
 use Rattle.i9_model.specs.Operands.{value, address}
 use Rattle.i9_model.specs.Results.{results_by}
 use Rattle.i9_model.specs.Branches.{question_of, asks}
-use Rattle.i9_model.specs.Step.{first_word, next_word, answer_in, Message, AsksNothing, AsksCheck, AsksInterrupt, AsksRestart, AsksGroup, message_of, argument_of, message_kind, asked_message}
-use Rattle.i9_model.specs.Stale.{word_mark, loaded_marks, registers_of, sources, address_registers, is_marked, moved_marks, marks_by_name, marks_by, restart_registers, record_registers, deciding, deciding_by, stored_out, goes_out, goes_out_by, reaches_special, misuses, touches_port, area_hazard}
-use Rattle.i9_model.specs.Access.{Access, NoAccess, Reads, Writes, Changes, SavesFrame, CallsSystem, ReturnsBy, Requests, ReadsTables, ReadsGroup, moved_access, message_access, access_by_name, access_by, access_of, data_of, hazard_in, hazard_of, fetch_hazard, second_hazard}
+use Rattle.i9_model.specs.Step.{first_word, next_word, answer_in, Message, AsksInterrupt, AsksRestart, AsksGroup, message_of, argument_of, message_kind, asked_message}
+use Rattle.i9_model.specs.Stale.{registers_of, sources, address_registers, is_marked, moved_marks, marks_by_name, marks_by, restart_registers, record_registers, deciding, deciding_by, stored_out, goes_out, goes_out_by, reaches_special, misuses, area_hazard}
+use Rattle.i9_model.specs.Access.{Access, Reads, Writes, Changes, SavesFrame, CallsSystem, ReturnsBy, Requests, ReadsTables, ReadsGroup, moved_access, message_access, access_by_name, access_by, access_of, data_of, hazard_in, hazard_of, fetch_hazard, second_hazard}
 use Rattle.i9_model.specs.Standing.{Meets, answer_fault, is_fault_name, range_fault, first_fault, raised_in, later_fault, by_access, by_later, by_raised, by_word, by_fetch, stands_at}
 use Rattle.i9_model.specs.Alike.{is_hard, AgreeWhere, with_other, with_memory, shows, with_values, AgreeBeside}
 use Rattle.i9_model.proofs.CallLaws.{first_none, second_none}
@@ -65,34 +65,21 @@ decides hides None i s regs bytes reading same = name-decides hides i.op i s reg
 
 -- ---- what reaches a special function register, and what goes out
 
-name-marks : (hides : Bool) (op : Op) (i : Inst) (s : State) (regs bytes reading : ℕ → ℕ) → AgreeBeside hides s regs → AreShown hides s (deciding op i s) → marks_by_name op i (with_values s regs bytes reading) ≡ marks_by_name op i s
-name-marks hides Atadd i s regs bytes reading same shown = ap (λ (v : ℕ). word_mark s.frames.soft (aligned v) ∷ []) (value-same hides s regs bytes reading i.a same shown)
-name-marks hides Atmod i s regs bytes reading same shown = ap (λ (v : ℕ). word_mark s.frames.soft (aligned v) ∷ []) (value-same hides s regs bytes reading i.a same shown)
-name-marks hides _ i s regs bytes reading same shown = refl
+name-marks : (hides : Bool) (op : Op) (i : Inst) (s : State) (regs bytes reading : ℕ → ℕ) → AgreeBeside hides s regs → AreShown hides s (deciding op i s)
+    → (marks_by_name op i (with_values s regs bytes reading) ≡ marks_by_name op i s) × (goes_out op i (with_values s regs bytes reading) ≡ goes_out op i s)
+name-marks hides Atadd i s regs bytes reading same shown = rw (value-same hides s regs bytes reading i.a same shown) (refl, refl)
+name-marks hides Atmod i s regs bytes reading same shown = rw (value-same hides s regs bytes reading i.a same shown) (refl, refl)
+name-marks hides _ i s regs bytes reading same shown = (refl, refl)
 
-moved-marks : (hides : Bool) (d : Direction) (size : Size) (i : Inst) (s : State) (regs bytes reading : ℕ → ℕ) → AgreeBeside hides s regs → AreShown hides s (address_registers i.ea) → moved_marks d size i (with_values s regs bytes reading) ≡ moved_marks d size i s
-moved-marks hides Load size i s regs bytes reading same shown = ap (loaded_marks size s.frames.soft) (address-same hides s regs bytes reading i.ea same shown)
-moved-marks hides Store size i s regs bytes reading same shown = refl
+moved-marks : (hides : Bool) (d : Direction) (size : Size) (i : Inst) (s : State) (regs bytes reading : ℕ → ℕ) → AgreeBeside hides s regs → AreShown hides s (address_registers i.ea)
+    → (moved_marks d size i (with_values s regs bytes reading) ≡ moved_marks d size i s) × (stored_out d size i (with_values s regs bytes reading) ≡ stored_out d size i s)
+moved-marks hides Load size i s regs bytes reading same shown = rw (address-same hides s regs bytes reading i.ea same shown) (refl, refl)
+moved-marks hides Store size i s regs bytes reading same shown = rw (address-same hides s regs bytes reading i.ea same shown) (refl, refl)
 
-marks-same : (hides : Bool) (o : Option Transfer) (i : Inst) (s : State) (regs bytes reading : ℕ → ℕ) → AgreeBeside hides s regs → AreShown hides s (deciding_by o i s) → marks_by o i (with_values s regs bytes reading) ≡ marks_by o i s
+marks-same : (hides : Bool) (o : Option Transfer) (i : Inst) (s : State) (regs bytes reading : ℕ → ℕ) → AgreeBeside hides s regs → AreShown hides s (deciding_by o i s)
+    → (marks_by o i (with_values s regs bytes reading) ≡ marks_by o i s) × (goes_out_by o i (with_values s regs bytes reading) ≡ goes_out_by o i s)
 marks-same hides (Some t) i s regs bytes reading same shown = moved-marks hides t.direction t.size i s regs bytes reading same shown
 marks-same hides None i s regs bytes reading same shown = name-marks hides i.op i s regs bytes reading same shown
-
-name-out : (hides : Bool) (op : Op) (i : Inst) (s : State) (regs bytes reading : ℕ → ℕ) → AgreeBeside hides s regs → AreShown hides s (deciding op i s) → goes_out op i (with_values s regs bytes reading) ≡ goes_out op i s
-name-out hides Atadd i s regs bytes reading same shown =
-    ap (λ (v : ℕ). (word_mark s.frames.soft (aligned v) || is_marked s (registers_of i.b 1)) && touches_port (aligned v) 4 || is_marked s (registers_of i.b 1) && is_special i.c) (value-same hides s regs bytes reading i.a same shown)
-name-out hides Atmod i s regs bytes reading same shown =
-    ap (λ (v : ℕ). (word_mark s.frames.soft (aligned v) || is_marked s (registers_of i.b 1 ++ registers_of i.c 1)) && touches_port (aligned v) 4 || is_marked s (registers_of i.b 1 ++ registers_of i.c 1) && is_special i.c) (value-same hides s regs bytes reading i.a same shown)
-name-out hides _ i s regs bytes reading same shown = refl
-
-moved-out : (hides : Bool) (d : Direction) (size : Size) (i : Inst) (s : State) (regs bytes reading : ℕ → ℕ) → AgreeBeside hides s regs → AreShown hides s (address_registers i.ea) → stored_out d size i (with_values s regs bytes reading) ≡ stored_out d size i s
-moved-out hides Load size i s regs bytes reading same shown = refl
-moved-out hides Store size i s regs bytes reading same shown =
-    ap (λ (a : ℕ). is_marked s (registers_of i.c (register_count size)) && touches_port a (byte_count size)) (address-same hides s regs bytes reading i.ea same shown)
-
-out-same : (hides : Bool) (o : Option Transfer) (i : Inst) (s : State) (regs bytes reading : ℕ → ℕ) → AgreeBeside hides s regs → AreShown hides s (deciding_by o i s) → goes_out_by o i (with_values s regs bytes reading) ≡ goes_out_by o i s
-out-same hides (Some t) i s regs bytes reading same shown = moved-out hides t.direction t.size i s regs bytes reading same shown
-out-same hides None i s regs bytes reading same shown = name-out hides i.op i s regs bytes reading same shown
 
 pub misuses-same : (hides : Bool) (i : Inst) (s : State) (regs bytes reading : ℕ → ℕ) → AgreeBeside hides s regs → misuses i (with_values s regs bytes reading) ≡ misuses i s
 unfolding misuses
@@ -102,9 +89,9 @@ misuses-same hides i s regs bytes reading same =
     let first = is_marked s (deciding_by o i s) in
     ap (λ (b : Bool). b || (reaches_special i t || goes_out_by o i t)) (decides hides o i s regs bytes reading same)
     ∙ either-same first (reaches_special i s || goes_out_by o i s) (reaches_special i t || goes_out_by o i t) (λ e.
-    let shown = shows-none hides first e in
-    ap (λ (bs : List Bool). (is_special i.c && list_any (λ (b : Bool). b) bs) || goes_out_by o i t) (marks-same hides o i s regs bytes reading same shown)
-    ∙ ap (λ (b : Bool). reaches_special i s || b) (out-same hides o i s regs bytes reading same shown))
+    let marks = marks-same hides o i s regs bytes reading same (shows-none hides first e) in
+    ap (λ (bs : List Bool). (is_special i.c && list_any (λ (b : Bool). b) bs) || goes_out_by o i t) marks.0
+    ∙ ap (λ (b : Bool). reaches_special i s || b) marks.1)
 
 -- what is not misused
 pub record IsAllowedIn (i : Inst) (s : State) : Type 0 where
@@ -149,26 +136,20 @@ flushed-hard : (hides : Bool) (s : State) (regs bytes reading : ℕ → ℕ) →
 flushed-hard hides s regs bytes reading same = λ x h. same.bytes x (open-flushed hides s.frames x (open-hard hides (flushed s.frames) x h))
 
 hazard-in-same : (hides : Bool) (x : Access) (s : State) (regs bytes reading : ℕ → ℕ) → AreOther hides s regs bytes reading → FpKnown s regs x → hazard_in (with_values s regs bytes reading) x ≡ hazard_in s x
-hazard-in-same hides NoAccess s regs bytes reading same known = refl
-hazard-in-same hides (Reads a n) s regs bytes reading same known = refl
-hazard-in-same hides (Writes a n) s regs bytes reading same known = refl
-hazard-in-same hides (Changes a n) s regs bytes reading same known = refl
 hazard-in-same hides SavesFrame s regs bytes reading same known = area-same hides s regs bytes reading same.regs false
 hazard-in-same hides (CallsSystem n) s regs bytes reading same known =
     ap (system_hazard_by (with_other s.memory bytes) s.frames s.tables.system_table n s.pc) (areas-same hides s regs bytes reading same.regs)
     ∙ system_hazard_by_same s.frames s.memory bytes s.tables.system_table n s.pc (area_hazard s) (hard-bytes hides s regs bytes reading same)
 hazard-in-same hides (ReturnsBy pfp) s regs bytes reading same known = ret-hazard s.frames pfp (s.regs FP) (regs FP) known
-hazard-in-same hides (Requests v) s regs bytes reading same known = refl
 hazard-in-same hides (ReadsTables prcb) s regs bytes reading same known = tables_hazard_same (flushed s.frames) s.memory bytes prcb (flushed-hard hides s regs bytes reading same)
-hazard-in-same hides (ReadsGroup group) s regs bytes reading same known = refl
+hazard-in-same hides _ s regs bytes reading same known = refl
 
 message-access : (hides : Bool) (m : Message) (i : Inst) (s : State) (regs bytes reading : ℕ → ℕ) → AgreeBeside hides s regs → AreShown hides s (registers_of i.a 1) → (m ≡ AsksRestart → AreShown hides s (registers_of i.b 1 ++ registers_of i.c 1))
     → (message_access m i (with_values s regs bytes reading) ≡ message_access m i s) × FpKnown s regs (message_access m i s)
-message-access hides AsksNothing i s regs bytes reading same shown more = (refl, tt)
-message-access hides AsksCheck i s regs bytes reading same shown more = (refl, tt)
 message-access hides AsksInterrupt i s regs bytes reading same shown more = (ap (λ (v : ℕ). Requests (v % 2 ^ 8)) (value-same hides s regs bytes reading i.a same shown), tt)
 message-access hides AsksRestart i s regs bytes reading same shown more = (ap (λ (v : ℕ). ReadsTables v) (value-same hides s regs bytes reading i.c same (shown-second hides s (registers_of i.b 1) (registers_of i.c 1) (more refl))), tt)
 message-access hides AsksGroup i s regs bytes reading same shown more = (ap (λ (v : ℕ). ReadsGroup (v % 2 ^ 8)) (value-same hides s regs bytes reading i.a same shown), tt)
+message-access hides _ i s regs bytes reading same shown more = (refl, tt)
 
 abbrev SameAccess : State → (ℕ → ℕ) → Access → Access → Type 0
 SameAccess s regs x y = (y ≡ x) × FpKnown s regs x
@@ -176,8 +157,6 @@ SameAccess s regs x y = (y ≡ x) × FpKnown s regs x
 name-access : (hides : Bool) (op : Op) (i : Inst) (s : State) (regs bytes reading : ℕ → ℕ) → AgreeBeside hides s regs → AreShown hides s (deciding op (named op i) s) → SameAccess s regs (access_by_name op (named op i) s) (access_by_name op (named op i) (with_values s regs bytes reading))
 name-access hides Atadd i s regs bytes reading same shown = (ap (λ (v : ℕ). Changes (aligned v) 4) (value-same hides s regs bytes reading i.a same shown), tt)
 name-access hides Atmod i s regs bytes reading same shown = (ap (λ (v : ℕ). Changes (aligned v) 4) (value-same hides s regs bytes reading i.a same shown), tt)
-name-access hides Call i s regs bytes reading same shown = (refl, tt)
-name-access hides Callx i s regs bytes reading same shown = (refl, tt)
 name-access hides Calls i s regs bytes reading same shown = (ap (λ (v : ℕ). CallsSystem v) (value-same hides s regs bytes reading i.a same (shown-first hides s (registers_of i.a 1) (registers_of i.b 0 ++ registers_of i.c 0) shown)), tt)
 name-access hides Ret i s regs bytes reading same shown = (
   ap (λ (p : ℕ). ReturnsBy p) (same PFP (shows-first hides (s.marks PFP) (is_marked s (record_registers s)) shown)),

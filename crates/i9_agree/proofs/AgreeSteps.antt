@@ -4,7 +4,7 @@ use Rattle.std.specs.Option.{option_map, option_and_then}
 use Rattle.std.specs.Prelude.{not, bit_and, max, map, ◌%◌, ◌==◌}
 use Rattle.std.specs.List.{range_with_len, list_any}
 use Rattle.i9_isa.specs.declared.op.Op.{Op}
-use Rattle.i9_isa.specs.declared.op.Op.TheVariants.{Calls, Ret, Sysctl, Lda, Atadd, Atmod, Bx, Balx, Bal, Call, Callx, Flushreg, Modac, Modtc, Modpc, Sdma}
+use Rattle.i9_isa.specs.declared.op.Op.TheVariants.{Calls, Ret, Sysctl, Atadd, Atmod}
 use Rattle.i9_isa.specs.declared.size.Size.{Size}
 use Rattle.i9_isa.specs.declared.size.Direction.{Direction}
 use Rattle.i9_isa.specs.declared.size.Direction.TheVariants.{Load, Store}
@@ -32,7 +32,7 @@ use Rattle.i9_model.specs.Boot.{table_word, setup_of, configured}
 use Rattle.i9_model.specs.Tables.{tables_hazard, group_address, group_hazard, group_words}
 use Rattle.i9_model.specs.Calls.{caller_in, record_address, in_supervisor_mode, leaves_supervisor, return_type}
 use Rattle.i9_model.specs.Controls.{Control, KeepsControls, Restarts, LoadsGroup, with_group, controlled, marks_after}
-use Rattle.i9_model.specs.Step.{Action, Flushes, Message, AsksNothing, AsksCheck, AsksInterrupt, AsksRestart, AsksGroup, passing, moving, entering, argument_of, asked_message, message_action, action_by_name, action_by, action_of, moved, flagged, acted, counted, Move, Stays, Saves, Returns, branching, resulting, answer_in, atomic_address, pushing, frames_after}
+use Rattle.i9_model.specs.Step.{Action, Flushes, Message, AsksNothing, AsksRestart, AsksGroup, passing, moving, entering, argument_of, asked_message, message_action, action_by_name, action_by, action_of, moved, flagged, acted, counted, Move, Stays, Saves, Returns, atomic_address, pushing, frames_after}
 use Rattle.i9_model.specs.declared.trace.Seen.{Seen}
 use Rattle.i9_model.specs.declared.trace.Trace.{Trace}
 use Rattle.i9_model.specs.Tracing.{trace_of}
@@ -44,7 +44,7 @@ use Rattle.i9_model.specs.declared.run.End.TheVariants.{Limit, Exit}
 use Rattle.i9_model.specs.Run.{Kind, Instruction, Faulted, Entered, Interrupted, Reached, action_by_kind, counts_of, record_of, exit_in, due_in, due_by, Ends, finish, next_by_standing, next_by_received, next_by_event, next_by_interrupt, next_by_choice, next_by_entry, entry_in, fault_at, next_in}
 use Rattle.i9_model.specs.declared.run.Due.{Due}
 use Rattle.i9_model.specs.Overlay.{overlay}
-use Rattle.i9_model.specs.Alike.{is_hard, AgreeWhere, with_other, with_memory, told, is_beyond, shows, is_open, with_values, AgreeBeside, Agree, AreWritesAlike, AreActionsAlike, told_words, access_by_kind, DoAgree, NextsAgree}
+use Rattle.i9_model.specs.Alike.{is_hard, AgreeWhere, with_other, with_memory, told, is_beyond, shows, is_open, with_values, AgreeBeside, Agree, AreWritesAlike, AreActionsAlike, access_by_kind, DoAgree, NextsAgree}
 use Rattle.i9_model.proofs.CallLaws.{first_none, second_none, enters_free_by}
 use Rattle.i9_model.proofs.ControlLaws.{by_group}
 use Rattle.i9_model.proofs.Readings.{read_same, inner_word_same, words_same}
@@ -61,7 +61,6 @@ use Rattle.i9_model.specs.declared.push.Push.{Push}
 use Rattle.i9_model.specs.Sound.{in_returns, IsSound}
 use Rattle.i9_model.specs.Faults.{is_special, planned_fault_by}
 use Rattle.i9_model.specs.Interrupts.{cleared, planned_interrupt_by}
-use Rattle.i9_model.specs.Branches.{asks, question_of}
 use Rattle.i9_model.specs.Stale.{picked, byte_marks, mark_of, marks_of, word_mark, stored_marks, saved_marks, registers_of, is_marked, record_registers, deciding, deciding_by, touches_port, stored_out, changed_out, goes_out, goes_out_by, misuses, area_hazard}
 use Rattle.i9_model.proofs.FrameLaws.{write_hazard-none, save_hazard-none, port_hazard-none, none_wrote}
 use Rattle.i9_model.proofs.Among.{bytes-among, among-bytes, among-address}
@@ -126,17 +125,19 @@ IsReadable s KeepsControls = Unit {0}
 IsReadable s (Restarts first prcb) = tables_hazard s.memory s.frames prcb ≡ None
 IsReadable s (LoadsGroup group) = group_hazard s.frames s.tables.control_table group ≡ None
 
-group_bytes : (a b c : Bool) (s : State) (group : ℕ) (ws : List ℕ) → (by_group a b c s group ws).memory.bytes ≡ s.memory.bytes
-group_bytes true b c s group ws = refl
-group_bytes false true c s group ws = refl
-group_bytes false false true s group ws = refl
-group_bytes false false false s group ws = refl
+-- a group of the control table changes nothing of these
+pub group-rest : (a b c : Bool) (s : State) (group : ℕ) (ws : List ℕ)
+    → let t = by_group a b c s group ws in (t.regs ≡ s.regs) × (t.marks ≡ s.marks) × (t.reading ≡ s.reading) × (t.memory.bytes ≡ s.memory.bytes) × (t.frames ≡ s.frames) × (t.tables ≡ s.tables)
+group-rest true b c s group ws = (refl, refl, refl, refl, refl, refl)
+group-rest false true c s group ws = (refl, refl, refl, refl, refl, refl)
+group-rest false false true s group ws = (refl, refl, refl, refl, refl, refl)
+group-rest false false false s group ws = (refl, refl, refl, refl, refl, refl)
 
 pub controlled_bytes : (c : Control) (s : State) → (controlled s c).memory.bytes ≡ s.memory.bytes
 unfolding started configured
 controlled_bytes KeepsControls s = refl
 controlled_bytes (Restarts first prcb) s = refl
-controlled_bytes (LoadsGroup group) s = group_bytes (eqb group 0) (eqb group 1) (eqb group 6) s group (group_words s.memory s.tables.control_table group)
+controlled_bytes (LoadsGroup group) s = (group-rest (eqb group 0) (eqb group 1) (eqb group 6) s group (group_words s.memory s.tables.control_table group)).3
 
 -- ---- tables are read after a flush that stores nothing
 
@@ -152,11 +153,9 @@ unfolding moved
 group_readable i s group none = ap (λ (f : Frames). group_hazard f s.tables.control_table group) (none_wrote (flushed s.frames)) ∙ none
 
 message_readable : (m : Message) (i : Inst) (s : State) → hazard_in s (message_access m i s) ≡ None → IsReadable (moved s (message_action m i s)) (message_action m i s).control
-message_readable AsksNothing i s none = tt
-message_readable AsksCheck i s none = tt
-message_readable AsksInterrupt i s none = tt
 message_readable AsksRestart i s none = restart_readable i s (value s i.b) (value s i.c) none
 message_readable AsksGroup i s none = group_readable i s (argument_of i s) none
+message_readable _ i s none = tt
 
 name_readable : (op : Op) (i : Inst) (s : State) → hazard_in s (access_by_name op i s) ≡ None → IsReadable (moved s (action_by_name op i s)) (action_by_name op i s).control
 name_readable Sysctl i s none = message_readable (asked_message i s) i s none
@@ -181,12 +180,6 @@ group-parts true b c s regs bytes reading group ws = refl
 group-parts false true c s regs bytes reading group ws = refl
 group-parts false false true s regs bytes reading group ws = refl
 group-parts false false false s regs bytes reading group ws = refl
-
-group-rest : (a b c : Bool) (s : State) (group : ℕ) (ws : List ℕ) → ((by_group a b c s group ws).regs ≡ s.regs) × ((by_group a b c s group ws).marks ≡ s.marks) × ((by_group a b c s group ws).reading ≡ s.reading) × ((by_group a b c s group ws).memory.bytes ≡ s.memory.bytes) × ((by_group a b c s group ws).frames ≡ s.frames)
-group-rest true b c s group ws = (refl, refl, refl, refl, refl)
-group-rest false true c s group ws = (refl, refl, refl, refl, refl)
-group-rest false false true s group ws = (refl, refl, refl, refl, refl)
-group-rest false false false s group ws = (refl, refl, refl, refl, refl)
 
 -- a state that agrees, by its values
 pub agree-by : (hides : Bool) (s t : State) (regs bytes reading : ℕ → ℕ) → t ≡ with_values s regs bytes reading → AreOther hides s regs bytes reading → Agree hides s t
@@ -324,14 +317,7 @@ atomic-inside i s datas data_marked less out none =
 
 message-inside : (m : Message) (i : Inst) (s : State) → AreInside (frames_after s.frames (message_action m i s).move) (message_action m i s).stale
 message-inside AsksNothing i s = λ x t. absurd cc
-message-inside AsksCheck i s = λ x t. absurd cc
-message-inside AsksInterrupt i s = λ x t. absurd cc
-message-inside AsksRestart i s = λ x t. absurd cc
-message-inside AsksGroup i s = λ x t. absurd cc
-
-other-inside : (b : Bool) (i : Inst) (s : State) → AreInside (frames_after s.frames (cond b (branching i s) (resulting i s (answer_in i s))).move) (cond b (branching i s) (resulting i s (answer_in i s))).stale
-other-inside true i s = λ x t. absurd cc
-other-inside false i s = λ x t. absurd cc
+message-inside _ i s = λ x t. absurd cc
 
 data-none : (s : State) (o : Operand) → is_marked s (registers_of o 1) ≡ false → mark_of s o 0 ≡ false
 data-none s o none = unmarked (mark_of s o 0) (shown-word true s o 1 0 (shows-none true _ none) (omega arith))
@@ -342,21 +328,8 @@ name-inside Atmod i s out none = atomic-inside i s (registers_of i.b 1 ++ regist
     let shown = shows-none true (is_marked s (registers_of i.b 1 ++ registers_of i.c 1)) e in
     or_from (mark_of s i.b 0) (mark_of s i.c 0) (unmarked (mark_of s i.b 0) (shown-word true s i.b 1 0 (shown-first true s (registers_of i.b 1) (registers_of i.c 1) shown) (omega arith)))
     (unmarked (mark_of s i.c 0) (shown-word true s i.c 1 0 (shown-second true s (registers_of i.b 1) (registers_of i.c 1) shown) (omega arith)))) out none
-name-inside Lda i s out none = λ x t. absurd cc
-name-inside Bx i s out none = λ x t. absurd cc
-name-inside Balx i s out none = λ x t. absurd cc
-name-inside Bal i s out none = λ x t. absurd cc
-name-inside Call i s out none = λ x t. absurd cc
-name-inside Callx i s out none = λ x t. absurd cc
-name-inside Calls i s out none = λ x t. absurd cc
-name-inside Ret i s out none = λ x t. absurd cc
-name-inside Flushreg i s out none = λ x t. absurd cc
-name-inside Modac i s out none = λ x t. absurd cc
-name-inside Modtc i s out none = λ x t. absurd cc
-name-inside Modpc i s out none = λ x t. absurd cc
-name-inside Sdma i s out none = λ x t. absurd cc
 name-inside Sysctl i s out none = message-inside (asked_message i s) i s
-name-inside op i s out none = other-inside (asks (question_of op)) i s
+name-inside _ i s out none = λ x t. absurd cc
 
 action-inside : (i : Inst) (s : State) → goes_out_by (transfer_of i.op) i s ≡ false → hazard_of i s ≡ None → AreInside (frames_after s.frames (action_of i s).move) (action_of i s).stale
 unfolding hazard_of action_of
@@ -390,8 +363,7 @@ last-alike hides marked (p ∷ ps) (q ∷ qs) x h none =
     by_place true e =
         let shown : shows hides (has marked p.0) ≡ true = shows-none hides (has marked p.0) (ap (has marked) (sym (eqb-true x p.0 e)) ∙ none) in
         ap (λ (v : ℕ). or_earlier (last_put ps x) (Some v)) (h.1 shown)
-last-alike hides marked [] (q ∷ qs) x h none = absurd h
-last-alike hides marked (p ∷ ps) [] x h none = absurd h
+last-alike hides marked _ _ x h none = absurd h
 
 -- no marked byte goes out
 port-unmarked : (f : Frames) (stale : List ℕ) (x : ℕ) → AreInside f stale → in_port_page x ≡ true → has stale x ≡ false
@@ -422,7 +394,7 @@ exit-same hides s regs bytes reading a b inside alike =
     (port-alike hides s a b (EXIT_WORD + 2) inside alike refl)
     (port-alike hides s a b (EXIT_WORD + 3) inside alike refl))
 
-due-in-same : (s : State) (regs bytes reading : ℕ → ℕ) (t : Option Trace) (f : Option End) → due_in (with_values s regs bytes reading) t f ≡ due_in s t f
+pub due-in-same : (s : State) (regs bytes reading : ℕ → ℕ) (t : Option Trace) (f : Option End) → due_in (with_values s regs bytes reading) t f ≡ due_in s t f
 due-in-same s regs bytes reading t (Some f) = refl
 due-in-same s regs bytes reading None None = refl
 due-in-same s regs bytes reading (Some t) None = refl
@@ -504,10 +476,7 @@ kind-due hides (Instruction i) s regs bytes reading inside alike =
     ap (due_in t b.trace) (exit-same hides s regs bytes reading a b inside alike)
     ∙ ap (λ (o : Option Trace). due_in t o (exit_in s a)) trace
     ∙ due-in-same s regs bytes reading a.trace (exit_in s a)
-kind-due hides (Faulted inst fault) s regs bytes reading inside alike = refl
-kind-due hides (Entered x) s regs bytes reading inside alike = refl
-kind-due hides (Interrupted c x) s regs bytes reading inside alike = refl
-kind-due hides (Reached x u) s regs bytes reading inside alike = refl
+kind-due hides _ s regs bytes reading inside alike = refl
 
 record-agree : (hides : Bool) (k : Kind) (s t : State) → IsKindAlike hides k s t → Agree hides s t → DoAgree hides (record_of k s) (record_of k t)
 record-agree hides k s t alike agree = record {
@@ -526,161 +495,142 @@ record-agree hides k s t alike agree = record {
 unmarked-inside : (f : Frames) → AreInside f []
 unmarked-inside f = λ x t. absurd cc
 
-faulting-alike : (hides : Bool) (inst : Option Inst) (fault : Fault) (words : ℕ) (s : State) (regs bytes reading : ℕ → ℕ) → told (Faulted inst fault) (with_values s regs bytes reading) ≡ told (Faulted inst fault) s → access_by_kind (Faulted inst fault) (with_values s regs bytes reading) ≡ access_by_kind (Faulted inst fault) s → IsKindAlike hides (Faulted inst fault) s (with_values s regs bytes reading)
-faulting-alike hides inst fault words s regs bytes reading told_same access = record {
-  words = told_same;
-  access = access;
-  action = alike-same hides (action_by_kind (Faulted inst fault) s) refl;
-  inside = record { whole = tt; lost = tt; stale = unmarked-inside s.frames };
-  readable = tt;
-}
-
-told-same : (hides : Bool) (s : State) (regs bytes reading : ℕ → ℕ) (words : ℕ) → AreOther hides s regs bytes reading → IsRead s words → told_words words (with_values s regs bytes reading) ≡ told_words words s
-told-same hides s regs bytes reading words same read = told_same s bytes words (hard-bytes hides s regs bytes reading same) read
-
-instruction-alike : (hides : Bool) (i : Inst) (s : State) (regs bytes reading : ℕ → ℕ) → AreOther hides s regs bytes reading → MayDo i s → IsRead s (words_of i) → IsKindAlike hides (Instruction i) s (with_values s regs bytes reading)
-unfolding moved
-instruction-alike hides i s regs bytes reading same may read = record {
-  words = told-same hides s regs bytes reading (words_of i) same read;
-  access = ap (λ (x : Access). Some x) (access-same hides i s regs bytes reading same.regs (allowed-by i s may.allowed).deciding).0;
-  action = traced-agree hides i s regs bytes reading same may;
-  inside = let here = action-contained i s may.allowed may.none in record { whole = here.whole; lost = here.lost; stale = here.stale };
-  readable = action_readable i s may.none;
-}
-
 push-contained : (s : State) (save : ℕ) → save_hazard s.frames save ≡ None → (x : ℕ) → has (picked wrapped save (byte_marks (saved_marks s))) x ≡ true → (is_beyond x ≡ false) × (in_bytes save FRAME_SIZE x ≡ true)
 push-contained s save safe = λ x t.
     let here = (saved-lost s save).inside x t in
     (within save FRAME_SIZE x here (port_hazard-none save FRAME_SIZE x (save_hazard-none s.frames save safe).1 here), here)
 
--- a push with bytes that are written
-pushing-writes : (hides : Bool) (s : State) (regs bytes reading : ℕ → ℕ) (p : Push) (back next pc : ℕ) (check : Bool) (i : Interrupts) (ps qs : List (ℕ × ℕ)) → qs ≡ ps → AgreeBeside hides s regs
-    → AreActionsAlike hides (record (pushing s p back next) { writes = ps; pc = pc; check = check; interrupts = i }) (record (pushing (with_values s regs bytes reading) p back next) { writes = qs; pc = pc; check = check; interrupts = i })
-pushing-writes hides s regs bytes reading p back next pc check i ps qs e same =
-    let push = pushing-alike hides s regs bytes reading p back next same in
-    subst (λ (ws : List (ℕ × ℕ)). AreActionsAlike hides (record (pushing s p back next) { writes = ps; pc = pc; check = check; interrupts = i }) (record (pushing (with_values s regs bytes reading) p back next) { writes = ws; pc = pc; check = check; interrupts = i })) (sym e)
-    (record { rest = refl; sets = push.sets; writes = writes-same hides [] ps; move = push.move })
-
-entered-alike : (hides : Bool) (e : Entry) (s : State) (regs bytes reading : ℕ → ℕ) → AreOther hides s regs bytes reading → save_hazard s.frames e.push.save ≡ None → IsKindAlike hides (Entered e) s (with_values s regs bytes reading)
-entered-alike hides e s regs bytes reading same safe = record {
-  words = refl;
-  access = refl;
-  action = pushing-writes hides s regs bytes reading e.push s.ip e.target e.pc s.check s.interrupts _ _ (ap (upwards (record_address e.push.frame)) (stored_words_same s.memory bytes (record_address e.push.frame) e.words)) same.regs;
-  inside = record { whole = refl; lost = push-contained s e.push.save safe; stale = unmarked-inside (frames_after s.frames (entering e s).move) };
-  readable = tt;
-}
-
-interrupted-alike : (hides : Bool) (c : Chosen) (e : Entry) (s : State) (regs bytes reading : ℕ → ℕ) → AreOther hides s regs bytes reading → InterruptsFree s c e → IsKindAlike hides (Interrupted c e) s (with_values s regs bytes reading)
-interrupted-alike hides c e s regs bytes reading same free = record {
-  words = refl;
-  access = refl;
-  action = pushing-writes hides s regs bytes reading e.push s.ip e.target e.pc false (cleared c.cause s.interrupts) _ _ (entry_writes_same s bytes c e (hard-bytes hides s regs bytes reading same) free) same.regs;
-  inside = record { whole = refl; lost = push-contained s e.push.save free.enters.save; stale = unmarked-inside (frames_after s.frames (interrupting c e s).move) };
-  readable = tt;
-}
-
-reached-alike : (hides : Bool) (e : Event) (u : Received) (s : State) (regs bytes reading : ℕ → ℕ) → IsKindAlike hides (Reached e u) s (with_values s regs bytes reading)
-reached-alike hides e u s regs bytes reading = record { words = refl; access = refl; action = alike-same hides (action_by_kind (Reached e u) s) refl; inside = record { whole = tt; lost = tt; stale = unmarked-inside s.frames }; readable = tt }
-
--- ---- what comes next
-
-standing-agree : (hides : Bool) (s : State) (regs bytes reading : ℕ → ℕ) (x : Standing) → Known s x → AreOther hides s regs bytes reading → ((x : ℕ) → in_returns s.frames.live x ≡ true → s.frames.marked x ≡ false)
-    → NextsAgree hides (next_by_standing s x) (next_by_standing (with_values s regs bytes reading) x)
-standing-agree hides s regs bytes reading (Meets a) k same known = refl
-standing-agree hides s regs bytes reading (Refused number) k same known =
-    record-agree hides (Faulted None (fault_at s number)) s (with_values s regs bytes reading) (faulting-alike hides None (fault_at s number) 1 s regs bytes reading (told-same hides s regs bytes reading 1 same k) refl) (agree-by hides s (with_values s regs bytes reading) regs bytes reading refl same)
-standing-agree hides s regs bytes reading (Faults i number) k same known =
-    record-agree hides (Faulted (Some i) (fault_at s number)) s (with_values s regs bytes reading) (faulting-alike hides (Some i) (fault_at s number) (words_of i) s regs bytes reading (told-same hides s regs bytes reading (words_of i) same k.0) (ap (λ (x : Access). Some x) (access-same hides i s regs bytes reading same.regs (allowed-by i s k.1).deciding).0)) (agree-by hides s (with_values s regs bytes reading) regs bytes reading refl same)
-standing-agree hides s regs bytes reading (Runs i) k same known =
-    record-agree hides (Instruction i) s (with_values s regs bytes reading) (instruction-alike hides i s regs bytes reading same (record { allowed = k.2; none = k.1; known = known }) k.0) (agree-by hides s (with_values s regs bytes reading) regs bytes reading refl same)
-
-entry-same : (hides : Bool) (s : State) (regs bytes reading : ℕ → ℕ) (fault : Fault) → AreOther hides s regs bytes reading → entry_in (with_values s regs bytes reading) fault ≡ entry_in s fault
-unfolding entry_in
-entry-same hides s regs bytes reading fault same =
-    ap (planned_fault_by (other_caller (caller_in s) bytes (regs FP) (regs SP)) s.tables.fault_table s.tables.system_table fault s.ac) (areas-same hides s regs bytes reading same.regs)
-    ∙ planned_fault_by_same (caller_in s) bytes s.tables.fault_table s.tables.system_table fault s.ac (regs FP) (regs SP) (area_hazard s) (hard-bytes hides s regs bytes reading same) (push-known hides s regs same.regs)
-
+-- an entry meets no hazard where it saves a frame
 entry-safe : (s : State) (fault : Fault) (e : Entry) → entry_in s fault ≡ Ok e → save_hazard s.frames e.push.save ≡ None
 unfolding entry_in
 entry-safe s fault e is = (enters_free_by (caller_in s) s.tables.fault_table s.tables.system_table fault s.ac (area_hazard s) e (area_save s) is).save
 
-entry-agree : (hides : Bool) (s : State) (regs bytes reading : ℕ → ℕ) (fault : Fault) (o : Result Entry FaultStop) → entry_in s fault ≡ o → AreOther hides s regs bytes reading → NextsAgree hides (next_by_entry s o) (next_by_entry (with_values s regs bytes reading) o)
-entry-agree hides s regs bytes reading fault (Ok e) is same =
-    record-agree hides (Entered e) s (with_values s regs bytes reading) (entered-alike hides e s regs bytes reading same (entry-safe s fault e is)) (agree-by hides s (with_values s regs bytes reading) regs bytes reading refl same)
-entry-agree hides s regs bytes reading fault (Err (stops.Hazard a)) is same = refl
-entry-agree hides s regs bytes reading fault (Err (stops.Dead code a)) is same = refl
+-- a state whose frames are sound, and one with other values that agree
+module _ (hides : Bool) (s : State) (regs bytes reading : ℕ → ℕ) (same : AreOther hides s regs bytes reading) (known : (x : ℕ) → in_returns s.frames.live x ≡ true → s.frames.marked x ≡ false) where
+  abbrev other : State
+  other = with_values s regs bytes reading
 
-received-same : (hides : Bool) (s : State) (regs bytes reading : ℕ → ℕ) (e : Event) → AreOther hides s regs bytes reading → received_in (with_values s regs bytes reading) e ≡ received_in s e
-unfolding received_in
-received-same hides s regs bytes reading e same = events_alone e ∙ received_same s bytes e (hard-bytes hides s regs bytes reading same)
-  where
-    events_alone : (e : Event) → received_in (with_values s regs bytes reading) e ≡ received_in (with_memory s bytes) e
-    events_alone (events.Pin x) = refl
-    events_alone (events.Low x) = refl
-    events_alone (events.High x) = refl
-    events_alone events.Nmi = refl
-    events_alone (events.Dma c) = refl
-    events_alone (events.Feed c given) = refl
-    events_alone (events.Show a n) = refl
+  hard : AgreeWhere (is_hard s.frames) s.memory bytes
+  hard = hard-bytes hides s regs bytes reading same
 
-reached-agree : (hides : Bool) (e : Event) (p : Result Received ℕ) (s : State) (regs bytes reading : ℕ → ℕ) → AreOther hides s regs bytes reading → NextsAgree hides (next_by_received s e p) (next_by_received (with_values s regs bytes reading) e p)
-reached-agree hides e (Ok u) s regs bytes reading same =
-    let t = with_values s regs bytes reading in
-    record-agree hides (Reached e u) s t (reached-alike hides e u s regs bytes reading) (agree-by hides s t regs bytes reading refl same)
-reached-agree hides e (Err a) s regs bytes reading same = refl
+  -- ---- records of each kind
 
-event-agree : (hides : Bool) (stands : Option Event) (s : State) (regs bytes reading : ℕ → ℕ) → AreOther hides s regs bytes reading → ((x : ℕ) → in_returns s.frames.live x ≡ true → s.frames.marked x ≡ false)
-    → NextsAgree hides (next_by_event stands s) (next_by_event stands (with_values s regs bytes reading))
-event-agree hides (Some e) s regs bytes reading same known =
-    let t = with_values s regs bytes reading in
-    subst (λ (p : Result Received ℕ). NextsAgree hides (next_by_received s e (received_in s e)) (next_by_received t e p)) (sym (received-same hides s regs bytes reading e same))
-    (reached-agree hides e (received_in s e) s regs bytes reading same)
-event-agree hides None s regs bytes reading same known =
-    let t = with_values s regs bytes reading in
-    subst (λ (x : Standing). NextsAgree hides (next_by_standing s (stands_at s)) (next_by_standing t x)) (sym (stands-same hides s regs bytes reading same)) (standing-agree hides s regs bytes reading (stands_at s) (known_here s) same known)
+  done-agree : (k : Kind) → IsKindAlike hides k s other → DoAgree hides (record_of k s) (record_of k other)
+  done-agree k alike = record-agree hides k s other alike (agree-by hides s other regs bytes reading refl same)
 
-interrupt-same : (hides : Bool) (s : State) (regs bytes reading : ℕ → ℕ) (c : Chosen) → AreOther hides s regs bytes reading → interrupt_in (with_values s regs bytes reading) c ≡ interrupt_in s c
-unfolding interrupt_in
-interrupt-same hides s regs bytes reading c same =
-    ap (planned_interrupt_by (other_caller (caller_in s) bytes (regs FP) (regs SP)) s.tables.interrupt_table s.tables.interrupt_stack c s.ac) (areas-same hides s regs bytes reading same.regs)
-    ∙ planned_by_same (caller_in s) bytes s.tables.interrupt_table s.tables.interrupt_stack c s.ac (regs FP) (regs SP) (area_hazard s) (hard-bytes hides s regs bytes reading same) (push-known hides s regs same.regs)
+  faulted-agree : (inst : Option Inst) (fault : Fault) → told (Faulted inst fault) other ≡ told (Faulted inst fault) s → access_by_kind (Faulted inst fault) other ≡ access_by_kind (Faulted inst fault) s
+      → DoAgree hides (record_of (Faulted inst fault) s) (record_of (Faulted inst fault) other)
+  faulted-agree inst fault words access = done-agree (Faulted inst fault) (record {
+    words = words;
+    access = access;
+    action = alike-same hides (action_by_kind (Faulted inst fault) s) refl;
+    inside = record { whole = tt; lost = tt; stale = unmarked-inside s.frames };
+    readable = tt;
+  })
 
-interrupt-agree : (hides : Bool) (s : State) (regs bytes reading : ℕ → ℕ) (c : Chosen) (o : Result Entry ℕ) → interrupt_in s c ≡ o → AreOther hides s regs bytes reading → NextsAgree hides (next_by_interrupt s c o) (next_by_interrupt (with_values s regs bytes reading) c o)
-interrupt-agree hides s regs bytes reading c (Ok e) is same =
-    record-agree hides (Interrupted c e) s (with_values s regs bytes reading) (interrupted-alike hides c e s regs bytes reading same (interrupts_free s c e is)) (agree-by hides s (with_values s regs bytes reading) regs bytes reading refl same)
-interrupt-agree hides s regs bytes reading c (Err a) is same = refl
+  instruction-agree : (i : Inst) → MayDo i s → IsRead s (words_of i) → DoAgree hides (record_of (Instruction i) s) (record_of (Instruction i) other)
+  unfolding moved
+  instruction-agree i may read = done-agree (Instruction i) (record {
+    words = told_same s bytes (words_of i) hard read;
+    access = ap (λ (x : Access). Some x) (access-same hides i s regs bytes reading same.regs (allowed-by i s may.allowed).deciding).0;
+    action = traced-agree hides i s regs bytes reading same may;
+    inside = let here = action-contained i s may.allowed may.none in record { whole = here.whole; lost = here.lost; stale = here.stale };
+    readable = action_readable i s may.none;
+  })
 
-choice-agree : (hides : Bool) (stands : Option Event) (s : State) (regs bytes reading : ℕ → ℕ) (o : Result (Option Chosen) ℕ) → AreOther hides s regs bytes reading → ((x : ℕ) → in_returns s.frames.live x ≡ true → s.frames.marked x ≡ false)
-    → NextsAgree hides (next_by_choice stands s o) (next_by_choice stands (with_values s regs bytes reading) o)
-choice-agree hides stands s regs bytes reading (Ok (Some c)) same known =
-    let t = with_values s regs bytes reading in
-    subst (λ (o : Result Entry ℕ). NextsAgree hides (next_by_interrupt s c (interrupt_in s c)) (next_by_interrupt t c o)) (sym (interrupt-same hides s regs bytes reading c same)) (interrupt-agree hides s regs bytes reading c (interrupt_in s c) refl same)
-choice-agree hides stands s regs bytes reading (Ok None) same known = event-agree hides stands s regs bytes reading same known
-choice-agree hides stands s regs bytes reading (Err a) same known = refl
+  -- a push with bytes that are written
+  pushing-writes : (p : Push) (back next pc : ℕ) (check : Bool) (i : Interrupts) (ps qs : List (ℕ × ℕ)) → qs ≡ ps
+      → AreActionsAlike hides (record (pushing s p back next) { writes = ps; pc = pc; check = check; interrupts = i }) (record (pushing other p back next) { writes = qs; pc = pc; check = check; interrupts = i })
+  pushing-writes p back next pc check i ps qs e =
+      let push = pushing-alike hides s regs bytes reading p back next same.regs in
+      rw e (record { rest = refl; sets = push.sets; writes = writes-same hides [] ps; move = push.move })
 
-choice-same : (hides : Bool) (s : State) (regs bytes reading : ℕ → ℕ) → AreOther hides s regs bytes reading → choice_in (with_values s regs bytes reading) ≡ choice_in s
-unfolding choice_in
-choice-same hides s regs bytes reading same = choice_same s bytes (hard-bytes hides s regs bytes reading same)
+  entered-agree : (e : Entry) → save_hazard s.frames e.push.save ≡ None → DoAgree hides (record_of (Entered e) s) (record_of (Entered e) other)
+  entered-agree e safe = done-agree (Entered e) (record {
+    words = refl;
+    access = refl;
+    action = pushing-writes e.push s.ip e.target e.pc s.check s.interrupts _ _ (ap (upwards (record_address e.push.frame)) (stored_words_same s.memory bytes (record_address e.push.frame) e.words));
+    inside = record { whole = refl; lost = push-contained s e.push.save safe; stale = unmarked-inside (frames_after s.frames (entering e s).move) };
+    readable = tt;
+  })
 
-length-agree : (hides b : Bool) (stands : Option Event) (s : State) (regs bytes reading : ℕ → ℕ) → AreOther hides s regs bytes reading → ((x : ℕ) → in_returns s.frames.live x ≡ true → s.frames.marked x ≡ false)
-    → NextsAgree hides (cond b (Ends (finish Limit)) (next_by_choice stands s (choice_in s))) (cond b (Ends (finish Limit)) (next_by_choice stands (with_values s regs bytes reading) (choice_in (with_values s regs bytes reading))))
-length-agree hides true stands s regs bytes reading same known = refl
-length-agree hides false stands s regs bytes reading same known =
-    let t = with_values s regs bytes reading in
-    subst (λ (o : Result (Option Chosen) ℕ). NextsAgree hides (next_by_choice stands s (choice_in s)) (next_by_choice stands t o)) (sym (choice-same hides s regs bytes reading same)) (choice-agree hides stands s regs bytes reading (choice_in s) same known)
+  interrupted-agree : (c : Chosen) (e : Entry) → InterruptsFree s c e → DoAgree hides (record_of (Interrupted c e) s) (record_of (Interrupted c e) other)
+  interrupted-agree c e free = done-agree (Interrupted c e) (record {
+    words = refl;
+    access = refl;
+    action = pushing-writes e.push s.ip e.target e.pc false (cleared c.cause s.interrupts) _ _ (entry_writes_same s bytes c e hard free);
+    inside = record { whole = refl; lost = push-contained s e.push.save free.enters.save; stale = unmarked-inside (frames_after s.frames (interrupting c e s).move) };
+    readable = tt;
+  })
 
-due-agree : (hides : Bool) (limit : ℕ) (due : Due) (stands : Option Event) (s : State) (regs bytes reading : ℕ → ℕ) → AreOther hides s regs bytes reading → ((x : ℕ) → in_returns s.frames.live x ≡ true → s.frames.marked x ≡ false)
-    → NextsAgree hides (next_in limit due stands s) (next_in limit due stands (with_values s regs bytes reading))
-due-agree hides limit (dues.End f) stands s regs bytes reading same known = refl
-due-agree hides limit (dues.Entry fault) stands s regs bytes reading same known =
-    let t = with_values s regs bytes reading in
-    subst (λ (o : Result Entry FaultStop). NextsAgree hides (next_by_entry s (entry_in s fault)) (next_by_entry t o)) (sym (entry-same hides s regs bytes reading fault same)) (entry-agree hides s regs bytes reading fault (entry_in s fault) refl same)
-due-agree hides limit dues.Nothing stands s regs bytes reading same known = length-agree hides (eqb s.count limit) stands s regs bytes reading same known
+  -- ---- what comes next
+
+  standing-agree : (x : Standing) → Known s x → NextsAgree hides (next_by_standing s x) (next_by_standing other x)
+  standing-agree (Meets a) k = refl
+  standing-agree (Refused number) k = faulted-agree None (fault_at s number) (told_same s bytes 1 hard k) refl
+  standing-agree (Faults i number) k =
+      faulted-agree (Some i) (fault_at s number) (told_same s bytes (words_of i) hard k.0) (ap (λ (x : Access). Some x) (access-same hides i s regs bytes reading same.regs (allowed-by i s k.1).deciding).0)
+  standing-agree (Runs i) k = instruction-agree i (record { allowed = k.2; none = k.1; known = known }) k.0
+
+  entry-same : (fault : Fault) → entry_in other fault ≡ entry_in s fault
+  unfolding entry_in
+  entry-same fault =
+      ap (planned_fault_by (other_caller (caller_in s) bytes (regs FP) (regs SP)) s.tables.fault_table s.tables.system_table fault s.ac) (areas-same hides s regs bytes reading same.regs)
+      ∙ planned_fault_by_same (caller_in s) bytes s.tables.fault_table s.tables.system_table fault s.ac (regs FP) (regs SP) (area_hazard s) hard (push-known hides s regs same.regs)
+
+  entry-agree : (fault : Fault) (o : Result Entry FaultStop) → entry_in s fault ≡ o → NextsAgree hides (next_by_entry s o) (next_by_entry other o)
+  entry-agree fault (Ok e) is = entered-agree e (entry-safe s fault e is)
+  entry-agree fault (Err (stops.Hazard a)) is = refl
+  entry-agree fault (Err (stops.Dead code a)) is = refl
+
+  received-same : (e : Event) → received_in other e ≡ received_in s e
+  unfolding received_in
+  received-same e = events_alone e ∙ received_same s bytes e hard
+    where
+      events_alone : (e : Event) → received_in other e ≡ received_in (with_memory s bytes) e
+      events_alone events.Nmi = refl
+      events_alone _ = refl
+
+  reached-agree : (e : Event) (p : Result Received ℕ) → NextsAgree hides (next_by_received s e p) (next_by_received other e p)
+  reached-agree e (Ok u) = done-agree (Reached e u) (record { words = refl; access = refl; action = alike-same hides (action_by_kind (Reached e u) s) refl; inside = record { whole = tt; lost = tt; stale = unmarked-inside s.frames }; readable = tt })
+  reached-agree e (Err a) = refl
+
+  event-agree : (stands : Option Event) → NextsAgree hides (next_by_event stands s) (next_by_event stands other)
+  event-agree (Some e) = rw (received-same e) (reached-agree e (received_in s e))
+  event-agree None = rw (stands-same hides s regs bytes reading same) (standing-agree (stands_at s) (known_here s))
+
+  interrupt-same : (c : Chosen) → interrupt_in other c ≡ interrupt_in s c
+  unfolding interrupt_in
+  interrupt-same c =
+      ap (planned_interrupt_by (other_caller (caller_in s) bytes (regs FP) (regs SP)) s.tables.interrupt_table s.tables.interrupt_stack c s.ac) (areas-same hides s regs bytes reading same.regs)
+      ∙ planned_by_same (caller_in s) bytes s.tables.interrupt_table s.tables.interrupt_stack c s.ac (regs FP) (regs SP) (area_hazard s) hard (push-known hides s regs same.regs)
+
+  interrupt-agree : (c : Chosen) (o : Result Entry ℕ) → interrupt_in s c ≡ o → NextsAgree hides (next_by_interrupt s c o) (next_by_interrupt other c o)
+  interrupt-agree c (Ok e) is = interrupted-agree c e (interrupts_free s c e is)
+  interrupt-agree c (Err a) is = refl
+
+  choice-agree : (stands : Option Event) (o : Result (Option Chosen) ℕ) → NextsAgree hides (next_by_choice stands s o) (next_by_choice stands other o)
+  choice-agree stands (Ok (Some c)) = rw (interrupt-same c) (interrupt-agree c (interrupt_in s c) refl)
+  choice-agree stands (Ok None) = event-agree stands
+  choice-agree stands (Err a) = refl
+
+  choice-same : choice_in other ≡ choice_in s
+  unfolding choice_in
+  choice-same = choice_same s bytes hard
+
+  length-agree : (b : Bool) (stands : Option Event) → NextsAgree hides (cond b (Ends (finish Limit)) (next_by_choice stands s (choice_in s))) (cond b (Ends (finish Limit)) (next_by_choice stands other (choice_in other)))
+  length-agree true stands = refl
+  length-agree false stands = rw choice-same (choice-agree stands (choice_in s))
+
+  due-agree : (limit : ℕ) (due : Due) (stands : Option Event) → NextsAgree hides (next_in limit due stands s) (next_in limit due stands other)
+  due-agree limit (dues.End f) stands = refl
+  due-agree limit (dues.Entry fault) stands = rw (entry-same fault) (entry-agree fault (entry_in s fault) refl)
+  due-agree limit dues.Nothing stands = length-agree (eqb s.count limit) stands
 
 -- what comes next in states that agree, where their frames are sound
 pub next-agree : (hides : Bool) (limit : ℕ) (due : Due) (stands : Option Event) (s t : State) → IsSound s.frames → Agree hides s t → NextsAgree hides (next_in limit due stands s) (next_in limit due stands t)
 next-agree hides limit due stands s t sound agree =
-    subst (λ (u : State). NextsAgree hides (next_in limit due stands s) (next_in limit due stands u)) (sym agree.rest) (due-agree hides limit due stands s t.regs t.memory.bytes t.reading (others hides s t agree) sound.known)
+    subst (λ (u : State). NextsAgree hides (next_in limit due stands s) (next_in limit due stands u)) (sym agree.rest) (due-agree hides s t.regs t.memory.bytes t.reading (others hides s t agree) sound.known limit due stands)
 
 -- ---- what is shown
 

@@ -21,24 +21,16 @@ pub shows-none : (hides b : Bool) → b ≡ false → shows hides b ≡ true
 shows-none hides b e = ap (shows hides) e ∙ shows-unmarked hides
 
 pub shows-first : (hides b c : Bool) → shows hides (b || c) ≡ true → shows hides b ≡ true
-shows-first false b c h = refl
-shows-first true false c h = refl
-shows-first true true c h = absurd cc
+shows-first hides b c h = grind arith
 
 pub shows-second : (hides b c : Bool) → shows hides (b || c) ≡ true → shows hides c ≡ true
-shows-second false b c h = refl
-shows-second true false c h = h
-shows-second true true c h = absurd cc
+shows-second hides b c h = grind arith
 
 pub shows-both : (hides b c : Bool) → shows hides b ≡ true → shows hides c ≡ true → shows hides (b || c) ≡ true
-shows-both false b c h k = refl
-shows-both true false c h k = k
-shows-both true true c h k = absurd cc
+shows-both hides b c h k = grind arith
 
 pub shows-less : (hides b c : Bool) → (b ≡ true → c ≡ true) → shows hides c ≡ true → shows hides b ≡ true
-shows-less false b c m h = refl
-shows-less true false c m h = refl
-shows-less true true c m h = absurd (let no : false ≡ true = sym (ap not (m refl)) ∙ h in cc no)
+shows-less hides b c m h = grind arith
 
 -- a register behind what is set
 pub shows-after : (hides : Bool) (marks : ℕ → Bool) (sets : List (ℕ × ℕ)) (marked : List ℕ) (r : ℕ) → shows hides (marks_after marks sets marked r) ≡ true → (shows hides (has marked r) ≡ true) × (is_put sets r ≡ false → shows hides (marks r) ≡ true)
@@ -57,10 +49,7 @@ shows-after hides marks sets marked r h = (
 pub values-append : (hides : Bool) (bs cs : List Bool) (vs ws xs ys : List ℕ) → AreValuesAlike hides bs vs ws → AreValuesAlike hides cs xs ys → AreValuesAlike hides (bs ++ cs) (vs ++ xs) (ws ++ ys)
 values-append hides [] cs [] [] xs ys h k = k
 values-append hides (b ∷ bs) cs (v ∷ vs) (w ∷ ws) xs ys h k = (h.0, values-append hides bs cs vs ws xs ys h.1 k)
-values-append hides [] cs (v ∷ vs) ws xs ys h k = absurd h
-values-append hides [] cs [] (w ∷ ws) xs ys h k = absurd h
-values-append hides (b ∷ bs) cs [] ws xs ys h k = absurd h
-values-append hides (b ∷ bs) cs (v ∷ vs) [] xs ys h k = absurd h
+values-append hides _ cs _ _ xs ys h k = absurd h
 
 -- one mark for all
 pub values-marked : (hides b : Bool) (n : ℕ) (vs ws : List ℕ) → length vs ≡ n → length ws ≡ n → (shows hides b ≡ true → ws ≡ vs) → AreValuesAlike hides (replicate n b) vs ws
@@ -90,15 +79,13 @@ writes-same hides marked (p ∷ ps) = (refl, (λ h. refl), writes-same hides mar
 pub writes-append : (hides : Bool) (marked : List ℕ) (ps qs xs ys : List (ℕ × ℕ)) → AreWritesAlike hides marked ps qs → AreWritesAlike hides marked xs ys → AreWritesAlike hides marked (ps ++ xs) (qs ++ ys)
 writes-append hides marked [] [] xs ys h k = k
 writes-append hides marked (p ∷ ps) (q ∷ qs) xs ys h k = (h.0, h.1, writes-append hides marked ps qs xs ys h.2 k)
-writes-append hides marked [] (q ∷ qs) xs ys h k = absurd h
-writes-append hides marked (p ∷ ps) [] xs ys h k = absurd h
+writes-append hides marked _ _ xs ys h k = absurd h
 
 -- more marks hide more
 writes-more : (hides : Bool) (some more : List ℕ) (ps qs : List (ℕ × ℕ)) → ((x : ℕ) → has some x ≡ true → has more x ≡ true) → AreWritesAlike hides some ps qs → AreWritesAlike hides more ps qs
 writes-more hides some more [] [] sub h = tt
 writes-more hides some more (p ∷ ps) (q ∷ qs) sub h = (h.0, (λ t. h.1 (shows-less hides (has some p.0) (has more p.0) (sub p.0) t)), writes-more hides some more ps qs sub h.2)
-writes-more hides some more [] (q ∷ qs) sub h = absurd h
-writes-more hides some more (p ∷ ps) [] sub h = absurd h
+writes-more hides some more _ _ sub h = absurd h
 
 -- values in a row with their marks
 pub writes-picked : (hides : Bool) (place : ℕ → ℕ) (n : ℕ) (bs : List Bool) (vs ws : List ℕ) → AreValuesAlike hides bs vs ws → AreWritesAlike hides (picked place n bs) (pairs_at place n vs) (pairs_at place n ws)
@@ -110,10 +97,7 @@ writes-picked hides place n (true ∷ bs) (v ∷ vs) (w ∷ ws) h =
       writes-more hides (picked place (n + 1) bs) (place n ∷ picked place (n + 1) bs) (pairs_at place (n + 1) vs) (pairs_at place (n + 1) ws) (λ x t. or_right (x == place n) (has (picked place (n + 1) bs) x) t) (writes-picked hides place (n + 1) bs vs ws h.1),
     )
 writes-picked hides place n (false ∷ bs) (v ∷ vs) (w ∷ ws) h = (refl, (λ t. h.0 (shows-unmarked hides)), writes-picked hides place (n + 1) bs vs ws h.1)
-writes-picked hides place n [] (v ∷ vs) ws h = absurd h
-writes-picked hides place n [] [] (w ∷ ws) h = absurd h
-writes-picked hides place n (b ∷ bs) [] ws h = absurd h
-writes-picked hides place n (b ∷ bs) (v ∷ vs) [] h = absurd h
+writes-picked hides place n _ _ _ h = absurd h
 
 -- the places are the same
 pub puts-same : (hides : Bool) (marked : List ℕ) (ps qs : List (ℕ × ℕ)) → AreWritesAlike hides marked ps qs → (x : ℕ) → is_put qs x ≡ is_put ps x
@@ -121,8 +105,7 @@ unfolding is_put
 puts-same hides marked [] [] h x = refl
 puts-same hides marked (p ∷ ps) (q ∷ qs) h x =
     ap (λ (y : ℕ). (x == y) || is_put qs x) h.0 ∙ ap (λ (b : Bool). (x == p.0) || b) (puts-same hides marked ps qs h.2 x)
-puts-same hides marked [] (q ∷ qs) h x = absurd h
-puts-same hides marked (p ∷ ps) [] h x = absurd h
+puts-same hides marked _ _ h x = absurd h
 
 -- ---- what they leave
 
@@ -137,8 +120,7 @@ written-alike hides marked f g (p ∷ ps) (q ∷ qs) x h t out =
     by_place : (e : Bool) → (x == p.0) ≡ e → is_put ps x ≡ false → cond e q.1 (g x) ≡ cond e p.1 (f x)
     by_place true e later = h.1 (ap (λ (y : ℕ). shows hides (has marked y)) (sym (eqb-true x p.0 e)) ∙ t)
     by_place false e later = out (or_from (x == p.0) (is_put ps x) e later)
-written-alike hides marked f g [] (q ∷ qs) x h t out = absurd h
-written-alike hides marked f g (p ∷ ps) [] x h t out = absurd h
+written-alike hides marked f g _ _ x h t out = absurd h
 
 abbrev kept_writes : List (ℕ × ℕ) → List (ℕ × ℕ)
 kept_writes ps = filter (λ (p : ℕ × ℕ). not (in_port_page p.0)) ps
@@ -152,8 +134,7 @@ kept-alike hides marked (p ∷ ps) (q ∷ qs) h =
     by_port : (b : Bool) → AreWritesAlike hides marked (kept_writes ps) (kept_writes qs) → AreWritesAlike hides marked (cond (not b) (p ∷ kept_writes ps) (kept_writes ps)) (cond (not b) (q ∷ kept_writes qs) (kept_writes qs))
     by_port true later = later
     by_port false later = (h.0, h.1, later)
-kept-alike hides marked [] (q ∷ qs) h = absurd h
-kept-alike hides marked (p ∷ ps) [] h = absurd h
+kept-alike hides marked _ _ h = absurd h
 
 -- beside the port page all writes are kept
 kept-put : (ps : List (ℕ × ℕ)) (x : ℕ) → in_port_page x ≡ false → is_put (kept_writes ps) x ≡ false → is_put ps x ≡ false

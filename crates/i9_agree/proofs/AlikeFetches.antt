@@ -49,8 +49,7 @@ first_word_same s bytes same none = word_same s.frames s.memory bytes s.ip 4 sam
 second_hazard_same : (s : State) (bytes : ℕ → ℕ) (r q : Result Inst BadWord) → AreOfWord r q → second_hazard (with_memory s bytes) q ≡ second_hazard s r
 second_hazard_same s bytes (Ok i) (Ok j) h = ap (λ (n : ℕ). cond (eqb n 2) (read_hazard s.frames (wrapped (s.ip + 4)) 4) None) h.0
 second_hazard_same s bytes (Err e) (Err d) h = refl
-second_hazard_same s bytes (Ok i) (Err d) h = absurd h
-second_hazard_same s bytes (Err e) (Ok j) h = absurd h
+second_hazard_same s bytes _ _ h = absurd h
 
 pub fetch_hazard_same : (s : State) (bytes : ℕ → ℕ) → AgreeWhere (is_hard s.frames) s.memory bytes → fetch_hazard (with_memory s bytes) ≡ fetch_hazard s
 unfolding fetch_hazard
@@ -78,8 +77,6 @@ one_or_two i = by_mode i.ea.mode
 -- where the second word isn't read it doesn't matter, and where it is, it is the same
 pub decoded_same : (s : State) (bytes : ℕ → ℕ) (r q : Result Inst BadWord) → AgreeWhere (is_hard s.frames) s.memory bytes → AreOfWord r q → second_hazard s r ≡ None → (next_word (with_memory s bytes) ≡ next_word s → q ≡ r) → q ≡ r
 decoded_same s bytes (Err e) (Err d) same h none next = ap (λ (x : BadWord). Err x) h
-decoded_same s bytes (Ok i) (Err d) same h none next = absurd h
-decoded_same s bytes (Err e) (Ok j) same h none next = absurd h
 decoded_same s bytes (Ok i) (Ok j) same h none next = elim (one_or_two i) [
   | inl one ↦ ap (λ (x : Inst). Ok x) (h.1 one)
   | inr two ↦
@@ -87,6 +84,7 @@ decoded_same s bytes (Ok i) (Ok j) same h none next = elim (one_or_two i) [
       let read : read_hazard s.frames a 4 ≡ None = sym (ap (λ (n : ℕ). cond (eqb n 2) (read_hazard s.frames a 4) None) two) ∙ none in
       next (word_same s.frames s.memory bytes a 4 same read (omega arith))
 ]
+decoded_same s bytes _ _ same h none next = absurd h
 
 -- ---- its words
 

@@ -89,19 +89,14 @@ saved_hard : (f : Frames) (a x : ℕ) → is_hard (saved f a) x ≡ true → is_
 saved_hard f a x h = by_cases (is_beyond x) (f.soft x) (in_bytes a FRAME_SIZE x) h
   where
     by_cases : (beyond soft here : Bool) → (beyond || not (here || soft)) ≡ true → (beyond || not soft) ≡ true
-    by_cases true soft here h = refl
-    by_cases false soft false h = h
-    by_cases false soft true h = absurd cc
+    by_cases beyond soft here h = grind arith
 
 -- and behind writes it was, or is written
 wrote_hard : (f : Frames) (ps : List (ℕ × ℕ)) (x : ℕ) → is_put ps x ≡ false → is_hard (wrote f ps) x ≡ true → is_hard f x ≡ true
 wrote_hard f ps x out h = by_cases (is_beyond x) (f.soft x) (is_put ps x) out h
   where
     by_cases : (beyond soft here : Bool) → here ≡ false → (beyond || not (soft && not here)) ≡ true → (beyond || not soft) ≡ true
-    by_cases true soft here o h = refl
-    by_cases false false here o h = refl
-    by_cases false true false o h = h
-    by_cases false true true o h = absurd cc
+    by_cases beyond soft here o h = grind arith
 
 port_hard : (f : Frames) (x : ℕ) → in_port_page x ≡ true → is_hard f x ≡ true
 port_hard f x p = ap (λ (b : Bool). (b || nat_le address_count x) || not (f.soft x)) p

@@ -1,5 +1,5 @@
 -- An action makes states that are alike of states that are alike.
-use Rattle.std.proofs.Common.{◌≡◌, ℕ, ◌*◌, Bool, true, false, cond, ◌&&◌, ◌||◌, List, [], ◌∷◌, length, drop, nat_le, refl, sym, ap, ◌∙◌}
+use Rattle.std.proofs.Common.{◌≡◌, ℕ, ◌*◌, Bool, true, false, cond, ◌&&◌, ◌||◌, List, [], ◌∷◌, length, drop, nat_le, refl, sym, ap, ◌∙◌, arith}
 use Rattle.std.specs.Prelude.{not}
 use Rattle.std.proofs.lemmas.Bool.{or_left, or_right}
 use Rattle.i9_model.specs.declared.layout.TheConstants.{FRAME_SIZE}
@@ -20,18 +20,13 @@ beside_wrote : (f : Frames) (ps : List (ℕ × ℕ)) (x : ℕ) → is_put ps x �
 beside_wrote f ps x out h = by_cases (is_beyond x) (f.soft x) (in_frames f.live x) (is_put ps x) out h
   where
     by_cases : (beyond soft live here : Bool) → here ≡ false → ((beyond || not (soft && not here)) || live) ≡ true → ((beyond || not soft) || live) ≡ true
-    by_cases true soft live here o h = refl
-    by_cases false false live here o h = refl
-    by_cases false true live false o h = h
-    by_cases false true live true o h = absurd cc
+    by_cases beyond soft live here o h = grind arith
 
 beside_saved : (f : Frames) (a x : ℕ) → in_bytes a FRAME_SIZE x ≡ false → is_compared (saved f a) x ≡ true → is_compared f x ≡ true
 beside_saved f a x out h = by_cases (is_beyond x) (f.soft x) (in_frames f.live x) (in_bytes a FRAME_SIZE x) out h
   where
     by_cases : (beyond soft live here : Bool) → here ≡ false → ((beyond || not (here || soft)) || (here || live)) ≡ true → ((beyond || not soft) || live) ≡ true
-    by_cases true soft live here o h = refl
-    by_cases false soft live false o h = h
-    by_cases false soft live true o h = absurd cc
+    by_cases beyond soft live here o h = grind arith
 
 pub after_return : (f : Frames) (x : ℕ) → is_compared (returned f) x ≡ true → is_compared f x ≡ true
 after_return f x h = by_live f.live (is_hard f x) h
@@ -45,11 +40,7 @@ after_flush : (f : Frames) (x : ℕ) → is_compared (flushed f) x ≡ true → 
 after_flush f x h = by_cases (is_beyond x) (f.soft x) (f.marked x) (in_frames f.live x) h
   where
     by_cases : (beyond soft m live : Bool) → ((beyond || not (soft && not (cond (not m) live false))) || false) ≡ true → ((beyond || not soft) || live) ≡ true
-    by_cases true soft m live h = refl
-    by_cases false false m live h = refl
-    by_cases false true false true h = refl
-    by_cases false true true live h = absurd cc
-    by_cases false true false false h = absurd cc
+    by_cases beyond soft m live h = grind arith
 
 port_compared : (f : Frames) (x : ℕ) → in_port_page x ≡ true → is_compared f x ≡ true
 port_compared f x p = or_left (is_hard f x) (in_frames f.live x) (or_left (is_beyond x) (not (f.soft x)) (or_left (in_port_page x) (nat_le address_count x) p))
@@ -77,20 +68,15 @@ move_alike (Saves save words) f m bytes whole same = λ x h.
 
 -- no move changes a configuration word
 pub move_mcon : (v : Move) (m : Memory) → (memory_after m v).mcon ≡ m.mcon
-move_mcon Stays m = refl
-move_mcon Returns m = refl
-move_mcon Flushes m = refl
 move_mcon (Saves save words) m = ap (λ (k : Memory). k.mcon) (words_as_bytes m save words)
+move_mcon _ m = refl
 
 -- bytes that are soft again are compared no more
 pub softened_compared : (f : Frames) (stale : List ℕ) (x : ℕ) → is_compared (softened f stale) x ≡ true → is_compared f x ≡ true
 softened_compared f stale x h = by_cases (is_beyond x) (has stale x) (f.soft x) (in_frames f.live x) h
   where
     by_cases : (beyond again soft live : Bool) → ((beyond || not (again || soft)) || live) ≡ true → ((beyond || not soft) || live) ≡ true
-    by_cases true again soft live h = refl
-    by_cases false false soft live h = h
-    by_cases false true false live h = refl
-    by_cases false true true live h = h
+    by_cases beyond again soft live h = grind arith
 
 -- a state after an action with other bytes, from the memory after its move
 abbrev with_moved : State → Action → Memory → State

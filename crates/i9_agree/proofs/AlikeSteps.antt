@@ -9,11 +9,9 @@ use Rattle.i9_model.specs.Writes.{address_count, wrapped}
 use Rattle.i9_model.specs.Memory.{console_byte, in_port_page, exit_word}
 use Rattle.i9_model.specs.State.{State, as_zero}
 use Rattle.i9_model.specs.Frames.{in_frames}
-use Rattle.i9_model.specs.Step.{Action, Flushes, Move, Stays, Saves, Returns}
-use Rattle.i9_model.specs.declared.trace.Trace.{Trace}
+use Rattle.i9_model.specs.Step.{Action, Move, Saves}
 use Rattle.i9_model.specs.Traced.{traced_action}
-use Rattle.i9_model.specs.declared.run.End.{End}
-use Rattle.i9_model.specs.Run.{Finish, Kind, Instruction, Faulted, Entered, Interrupted, Reached, Record, action_by_kind, action_done, point_of, exit_in, due_in, due_by, action_due, Next, Does, Ends, next_in, reached_by}
+use Rattle.i9_model.specs.Run.{Finish, Kind, Instruction, Reached, Record, action_by_kind, action_done, point_of, exit_in, due_by, action_due, Next, Does, Ends, next_in, reached_by}
 use Rattle.i9_model.specs.declared.run.Point.{Point}
 use Rattle.i9_model.specs.declared.run.Due.{Due}
 use Rattle.i9_model.specs.Overlay.{overlay}
@@ -21,7 +19,7 @@ use Rattle.i9_model.specs.PrintedText.{Shown, Drained, Journal, Bytes, view_of, 
 use Rattle.i9_model.specs.declared.view.View.{View}
 use Rattle.i9_model.specs.Alike.{is_compared, AgreeWhere, with_memory, AreAlike, AreRecordsAlike, AreNextAlike, with_values, Agree, AreValuesAlike, AreWritesAlike, AreMovesAlike, AreActionsAlike, DoAgree, NextsAgree}
 use Rattle.i9_model.specs.Sound.{IsSound}
-use Rattle.i9_agree.proofs.AgreeSteps.{next-agree}
+use Rattle.i9_agree.proofs.AgreeSteps.{next-agree, due-in-same}
 pub use Rattle.i9_agree.proofs.AgreeSteps.{IsReadable, controlled_bytes, restart_readable, group_readable}
 
 -- ---- as states that agree where marks do not hide
@@ -54,25 +52,17 @@ writes-are marked [] [] h = refl
 writes-are marked (p ∷ ps) (q ∷ qs) h =
     let one : q ≡ p = λ i. (h.0 i, h.1 refl i) in
     ap (λ (x : ℕ × ℕ). x ∷ qs) one ∙ ap (λ (xs : List (ℕ × ℕ)). p ∷ xs) (writes-are marked ps qs h.2)
-writes-are marked [] (q ∷ qs) h = absurd h
-writes-are marked (p ∷ ps) [] h = absurd h
+writes-are marked _ _ h = absurd h
 
 values-are : (bs : List Bool) (vs ws : List ℕ) → AreValuesAlike false bs vs ws → ws ≡ vs
 values-are [] [] [] h = refl
 values-are (b ∷ bs) (v ∷ vs) (w ∷ ws) h = ap (λ (x : ℕ). x ∷ ws) (h.0 refl) ∙ ap (λ (xs : List ℕ). v ∷ xs) (values-are bs vs ws h.1)
-values-are [] (v ∷ vs) ws h = absurd h
-values-are [] [] (w ∷ ws) h = absurd h
-values-are (b ∷ bs) [] ws h = absurd h
-values-are (b ∷ bs) (v ∷ vs) [] h = absurd h
+values-are _ _ _ h = absurd h
 
 moves-are : (lost : List ℕ) (v w : Move) → AreMovesAlike false lost v w → w ≡ v
-moves-are lost Stays w h = h
-moves-are lost Returns w h = h
-moves-are lost Flushes w h = h
 moves-are lost (Saves a vs) (Saves b ws) h = ap (λ (c : ℕ). Saves c ws) h.0 ∙ ap (λ (xs : List ℕ). Saves a xs) (values-are h.1.0 vs ws h.1.2)
-moves-are lost (Saves a vs) Stays h = absurd h
-moves-are lost (Saves a vs) Returns h = absurd h
-moves-are lost (Saves a vs) Flushes h = absurd h
+moves-are lost (Saves a vs) _ h = absurd h
+moves-are lost _ w h = h
 
 actions-are : (a b : Action) → AreActionsAlike false a b → b ≡ a
 actions-are a b h =
@@ -95,8 +85,7 @@ records-alike r q h = record {
 nexts-alike : (o p : Next) → NextsAgree false o p → AreNextAlike o p
 nexts-alike (Does r) (Does q) h = records-alike r q h
 nexts-alike (Ends f) (Ends g) h = h
-nexts-alike (Does r) (Ends g) h = absurd h
-nexts-alike (Ends f) (Does q) h = absurd h
+nexts-alike _ _ h = absurd h
 
 -- what comes next in states that are alike, where frames are sound
 pub next_alike : (limit : ℕ) (due : Due) (stands : Option Event) (s t : State) → IsSound s.frames → IsBlind s → AreAlike s t → AreNextAlike (next_in limit due stands s) (next_in limit due stands t)
@@ -106,19 +95,11 @@ next_alike limit due stands s t sound blind alike =
 -- what is due after the same action
 due_alike_by : (s : State) (bytes : ℕ → ℕ) (a : Action) → action_due (with_memory s bytes) a ≡ action_due s a
 unfolding exit_word
-due_alike_by s bytes a = due_same_in a.trace (exit_in s a)
-  where
-    due_same_in : (t : Option Trace) (f : Option End) → due_in (with_memory s bytes) t f ≡ due_in s t f
-    due_same_in t (Some f) = refl
-    due_same_in None None = refl
-    due_same_in (Some t) None = refl
+due_alike_by s bytes a = due-in-same s s.regs bytes s.reading a.trace (exit_in s a)
 
 due_same : (k : Kind) (s : State) (bytes : ℕ → ℕ) → action_by_kind k (with_memory s bytes) ≡ action_by_kind k s → due_by k (with_memory s bytes) ≡ due_by k s
 due_same (Instruction i) s bytes e = ap (action_due (with_memory s bytes)) e ∙ due_alike_by s bytes (traced_action i s)
-due_same (Faulted inst fault) s bytes e = refl
-due_same (Entered x) s bytes e = refl
-due_same (Interrupted c x) s bytes e = refl
-due_same (Reached x u) s bytes e = refl
+due_same _ s bytes e = refl
 
 -- ---- what is shown
 
@@ -156,28 +137,24 @@ alike_trans s t u p q = record {
 
 pub does_alike : (o p : Next) (q : Record) → AreNextAlike o p → p ≡ Does q → (r : Record) × (o ≡ Does r) × AreRecordsAlike r q
 does_alike (Does r) (Does x) q alike e = let same : x ≡ q = cc in (r, refl, subst (AreRecordsAlike r) same alike)
-does_alike (Does r) (Ends g) q alike e = absurd alike
-does_alike (Ends f) (Does x) q alike e = absurd alike
 does_alike (Ends f) (Ends g) q alike e = absurd cc
+does_alike _ _ q alike e = absurd alike
 
 pub ends_alike : (o p : Next) (g : Finish) → AreNextAlike o p → p ≡ Ends g → o ≡ Ends g
 ends_alike (Ends f) (Ends h) g alike e = let same : h ≡ g = cc in ap (λ (x : Finish). Ends x) (sym alike ∙ same)
-ends_alike (Does r) (Ends h) g alike e = absurd alike
-ends_alike (Ends f) (Does x) g alike e = absurd alike
 ends_alike (Does r) (Does x) g alike e = absurd cc
+ends_alike _ _ g alike e = absurd alike
 
 -- the other way round
 pub does_beside : (o p : Next) (r : Record) → AreNextAlike o p → o ≡ Does r → (q : Record) × (p ≡ Does q) × AreRecordsAlike r q
 does_beside (Does x) (Does q) r alike e = let same : x ≡ r = cc in (q, refl, subst (λ (y : Record). AreRecordsAlike y q) same alike)
-does_beside (Does x) (Ends g) r alike e = absurd alike
-does_beside (Ends f) (Does q) r alike e = absurd alike
 does_beside (Ends f) (Ends g) r alike e = absurd cc
+does_beside _ _ r alike e = absurd alike
 
 pub ends_beside : (o p : Next) (g : Finish) → AreNextAlike o p → o ≡ Ends g → p ≡ Ends g
 ends_beside (Ends f) (Ends h) g alike e = let same : f ≡ g = cc in ap (λ (x : Finish). Ends x) (alike ∙ same)
-ends_beside (Does r) (Ends h) g alike e = absurd alike
-ends_beside (Ends f) (Does x) g alike e = absurd alike
 ends_beside (Does r) (Does x) g alike e = absurd cc
+ends_beside _ _ g alike e = absurd alike
 
 -- ---- what records that are alike do, make due and print
 
@@ -204,32 +181,21 @@ overlays_alike s t a n alike = by_places (range_with_len 0 n)
         ap (λ (b : Option ℕ). b ∷ map (λ j. overlay t (wrapped (a + j))) ks) (overlay_alike s t (wrapped (a + k)) alike) ∙ ap (λ (bs : List (Option ℕ)). overlay s (wrapped (a + k)) ∷ bs) (by_places ks)
 
 bytes_alike : (e : Event) (s t : State) → AreAlike s t → bytes_lines e t ≡ bytes_lines e s
-bytes_alike (events.Pin x) s t alike = refl
-bytes_alike (events.Low x) s t alike = refl
-bytes_alike (events.High x) s t alike = refl
-bytes_alike events.Nmi s t alike = refl
-bytes_alike (events.Dma c) s t alike = refl
-bytes_alike (events.Feed c bytes) s t alike = refl
 bytes_alike (events.Show a n) s t alike = ap (λ (bs : List (Option ℕ)). Bytes a bs ∷ []) (overlays_alike s t a n alike)
+bytes_alike _ s t alike = refl
 
 journal_alike : (e : Event) (s t : State) → AreAlike s t → ◌≡◌ {A = List Shown} (Journal t.count e ∷ bytes_lines e t) (Journal s.count e ∷ bytes_lines e s)
 journal_alike e s t alike =
     ap (λ (u : State). Journal u.count e ∷ bytes_lines e t) alike.rest ∙ ap (λ (ls : List Shown). Journal s.count e ∷ ls) (bytes_alike e s t alike)
 
 events_alike : (k : Kind) (s t : State) → AreAlike s t → event_lines k t ≡ event_lines k s
-events_alike (Instruction i) s t alike = refl
-events_alike (Faulted inst fault) s t alike = refl
-events_alike (Entered e) s t alike = refl
-events_alike (Interrupted c e) s t alike = refl
 events_alike (Reached e u) s t alike = journal_alike e s t alike
+events_alike _ s t alike = refl
 
 -- which event was reached
 reached_same : (k : Kind) (s t : State) → AreAlike s t → reached_by k t ≡ reached_by k s
-reached_same (Instruction i) s t alike = refl
-reached_same (Faulted inst fault) s t alike = refl
-reached_same (Entered e) s t alike = refl
-reached_same (Interrupted c e) s t alike = refl
 reached_same (Reached e u) s t alike = ap (λ (v : State). timed_at v.count e ∷ []) alike.rest
+reached_same _ s t alike = refl
 
 pub reached_alike : (r q : Record) → AreRecordsAlike r q → reached_by q.kind q.before ≡ reached_by r.kind r.before
 reached_alike r q same = ap (λ (k : Kind). reached_by k q.before) same.kind ∙ reached_same r.kind r.before q.before same.before

@@ -17,11 +17,11 @@ use Rattle.i9_model.specs.Alike.{is_compared, with_other, with_memory, AreAlike}
 use Rattle.i9_model.specs.HeldFrames.{Cache, cache, spilled, over, overlaid, cache_moved, cache_acted, cache_configured, sets_in, renewed, cache_after, AreYoungest, IsCached}
 use Rattle.i9_model.specs.Free.{ComesAfterFlush, IsFree}
 use Rattle.i9_model.proofs.Stored.{with_none}
-use Rattle.i9_model.proofs.ControlLaws.{by_group, flagged-others, acted-frames}
+use Rattle.i9_model.proofs.ControlLaws.{flagged-others, acted-frames}
 use Rattle.i9_past.proofs.Comes.{next_comes}
 use Rattle.i9_agree.proofs.SoundRuns.{kind_clear, sound-after}
 use Rattle.i9_agree.proofs.AlikeMoves.{move_mcon, moved_alike}
-use Rattle.i9_agree.proofs.AlikeSteps.{controlled_bytes}
+use Rattle.i9_agree.proofs.AgreeSteps.{controlled_bytes, group-rest}
 use Rattle.i9_agree.proofs.Overlays.{words_mcon, over_mcon}
 use Rattle.i9_agree.proofs.HeldFrames.{move_keeps, acted_stands}
 
@@ -120,13 +120,6 @@ moved_cached n s a c d is sound young free e =
 
 -- ---- the number of sets
 
--- a group of the control table changes no word of the PRCB
-group_tables : (a b c : Bool) (s : State) (group : ℕ) (ws : List ℕ) → (by_group a b c s group ws).tables ≡ s.tables
-group_tables true b c s group ws = refl
-group_tables false true c s group ws = refl
-group_tables false false true s group ws = refl
-group_tables false false false s group ws = refl
-
 -- the number changes where the processor starts anew, and there alone
 pub sets_after : (asked : Option ℕ) (s : State) (a : Action) → ComesAfterFlush a.control a.move a.writes → sets_in asked (acted s a) ≡ renewed asked s.memory a.control (sets_in asked s)
 unfolding acted moved started
@@ -135,7 +128,7 @@ sets_after asked s a after = ap (sets_in asked) (flagged-others a.trace (control
     by_control : (k : Control) → ComesAfterFlush k a.move a.writes → sets_in asked (controlled (moved s a) k) ≡ renewed asked s.memory k (sets_in asked s)
     by_control KeepsControls e = refl
     by_control (LoadsGroup group) e =
-        ap (λ (t : Tables). unwrap_or asked t.sets) (group_tables (eqb group 0) (eqb group 1) (eqb group 6) (moved s a) group (group_words (moved s a).memory (moved s a).tables.control_table group))
+        ap (λ (t : Tables). unwrap_or asked t.sets) (group-rest (eqb group 0) (eqb group 1) (eqb group 6) (moved s a) group (group_words (moved s a).memory (moved s a).tables.control_table group)).5
     by_control (Restarts first prcb) e =
         ap (λ (m : Memory). unwrap_or asked (setup_of m first prcb).sets)
         (ap (λ (v : Move). with_writes (memory_after s.memory v) a.writes) e.0 ∙ ap (with_writes s.memory) e.1 ∙ with_none s.memory)

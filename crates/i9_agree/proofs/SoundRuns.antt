@@ -2,7 +2,7 @@
 use Rattle.std.proofs.Common.{◌≡◌, ℕ, ◌+◌, ◌*◌, ◌/◌, ◌%◌, Bool, true, false, cond, List, [], ◌∷◌, ◌++◌, length, find, Option, Some, None, refl, ap, sym, ◌∙◌, subst, arith}
 use Rattle.std.specs.Prelude.{◌==◌, ◌||◌}
 use Rattle.i9_isa.specs.declared.op.Op.{Op}
-use Rattle.i9_isa.specs.declared.op.Op.TheVariants.{Lda, Atadd, Atmod, Bx, Balx, Bal, Call, Callx, Calls, Ret, Flushreg, Modac, Modtc, Modpc, Sdma, Sysctl}
+use Rattle.i9_isa.specs.declared.op.Op.TheVariants.{Atadd, Atmod, Call, Callx, Calls, Ret, Flushreg, Sysctl}
 use Rattle.i9_isa.specs.declared.size.Size.{Size}
 use Rattle.i9_isa.specs.declared.size.Direction.{Direction}
 use Rattle.i9_isa.specs.declared.size.Direction.TheVariants.{Load, Store}
@@ -14,8 +14,7 @@ use Rattle.i9_model.specs.Memory.{Memory, with_writes, word_in, word_bytes}
 use Rattle.i9_model.specs.State.{State, Frames, started, boot}
 use Rattle.i9_model.specs.Hazards.{or_else, read_hazard, write_hazard, writes_hazard, port_hazard, save_hazard, return_place}
 use Rattle.i9_model.specs.Operands.{value, address}
-use Rattle.i9_model.specs.Step.{Move, Stays, Saves, Returns, Flushes, Action, bytes_of_words, stored_of, moving, merged, atomic_address, atomic, Message, AsksNothing, AsksCheck, AsksInterrupt, AsksRestart, AsksGroup, argument_of, asked_message, message_action, entering, action_by_name, action_by, action_of, frames_after, moved, acted, branching, answer_in, resulting}
-use Rattle.i9_model.specs.Branches.{asks, question_of}
+use Rattle.i9_model.specs.Step.{Move, Stays, Saves, Returns, Flushes, Action, bytes_of_words, stored_of, moving, merged, atomic_address, atomic, Message, AsksNothing, AsksInterrupt, AsksRestart, AsksGroup, argument_of, asked_message, message_action, entering, action_by_name, action_by, action_of, frames_after, moved, acted}
 use Rattle.i9_model.specs.Access.{Changes, message_access, moved_access, access_by_name, access_by, hazard_in, hazard_of}
 use Rattle.i9_model.specs.Sound.{in_returns, IsSound}
 use Rattle.std.proofs.lemmas.Bool.{or_left, or_from}
@@ -52,10 +51,8 @@ area_save s b none = second_none (push_mark s b) (save_hazard s.frames (rounded_
 
 -- a frame is saved without a hazard
 abbrev pub IsSafe : Frames → Move → Type 0
-IsSafe f Stays = Unit {0}
 IsSafe f (Saves save words) = save_hazard f save ≡ None
-IsSafe f Returns = Unit {0}
-IsSafe f Flushes = Unit {0}
+IsSafe f _ = Unit {0}
 
 pub record IsClear (s : State) (a : Action) : Type 0 where
   pub save : IsSafe s.frames a.move
@@ -113,11 +110,10 @@ request_free m f table v none =
     (byte_free f (table + (PENDING_VECTORS + v / 8)) (with_bit (m.bytes (pending_place table v)) (v % 8)) (second_none first second written))
 
 message_clear : (m : Message) (i : Inst) (s : State) → hazard_in s (message_access m i s) ≡ None → IsClear s (message_action m i s)
-message_clear AsksNothing i s none = record { save = tt; free = record { whole = tt; free = no_writes s.frames; controls = tt } }
-message_clear AsksCheck i s none = record { save = tt; free = record { whole = tt; free = no_writes s.frames; controls = tt } }
 message_clear AsksInterrupt i s none = record { save = tt; free = record { whole = tt; free = request_free s.memory s.frames s.tables.interrupt_table (argument_of i s) none; controls = tt } }
 message_clear AsksRestart i s none = record { save = tt; free = record { whole = tt; free = no_writes (frames_after s.frames Flushes); controls = (refl, refl) } }
 message_clear AsksGroup i s none = record { save = tt; free = record { whole = tt; free = no_writes (frames_after s.frames Flushes); controls = (refl, refl) } }
+message_clear _ i s none = record { save = tt; free = record { whole = tt; free = no_writes s.frames; controls = tt } }
 
 calls_save : (i : Inst) (s : State) → hazard_in s (access_by_name Calls i s) ≡ None → IsSafe s.frames (action_by_name Calls i s).move
 calls_save i s none =
@@ -224,33 +220,14 @@ IsLostOf _ lost = lost ≡ []
 
 message_lost : (m : Message) (i : Inst) (s : State) → IsLostOf (message_action m i s).move (message_action m i s).lost
 message_lost AsksNothing i s = refl
-message_lost AsksCheck i s = refl
-message_lost AsksInterrupt i s = refl
-message_lost AsksRestart i s = refl
-message_lost AsksGroup i s = refl
-
-other_lost : (b : Bool) (i : Inst) (s : State) → IsLostOf (cond b (branching i s) (resulting i s (answer_in i s))).move (cond b (branching i s) (resulting i s (answer_in i s))).lost
-other_lost true i s = refl
-other_lost false i s = refl
+message_lost _ i s = refl
 
 name_lost : (op : Op) (i : Inst) (s : State) → IsLostOf (action_by_name op i s).move (action_by_name op i s).lost
-name_lost Lda i s = refl
-name_lost Atadd i s = refl
-name_lost Atmod i s = refl
-name_lost Bx i s = refl
-name_lost Balx i s = refl
-name_lost Bal i s = refl
 name_lost Call i s = saved-lost s _
 name_lost Callx i s = saved-lost s _
 name_lost Calls i s = saved-lost s _
-name_lost Ret i s = refl
-name_lost Flushreg i s = refl
-name_lost Modac i s = refl
-name_lost Modtc i s = refl
-name_lost Modpc i s = refl
-name_lost Sdma i s = refl
 name_lost Sysctl i s = message_lost (asked_message i s) i s
-name_lost op i s = other_lost (asks (question_of op)) i s
+name_lost _ i s = refl
 
 moving_lost : (d : Direction) (size : Size) (signed : Bool) (i : Inst) (s : State) → IsLostOf (moving d size signed i s).move (moving d size signed i s).lost
 moving_lost Load size signed i s = refl
@@ -273,9 +250,6 @@ kind_lost (Reached e u) s = refl
 
 -- they are in the frame that is saved, which lies beside the others
 pub sound-lost : (v : Move) (f : Frames) (lost : List ℕ) → IsSafe f v → IsLostOf v lost → IsSound (frames_after f v) → IsSound (with_marked (frames_after f v) lost)
-sound-lost Stays f lost safe none sound = subst (λ (l : List ℕ). IsSound (with_marked f l)) (sym none) sound
-sound-lost Returns f lost safe none sound = subst (λ (l : List ℕ). IsSound (with_marked (frames_after f Returns) l)) (sym none) sound
-sound-lost Flushes f lost safe none sound = subst (λ (l : List ℕ). IsSound (with_marked (frames_after f Flushes) l)) (sym none) sound
 sound-lost (Saves a ws) f lost safe is sound = sound-marked (saved f a) lost (λ x t. (here x t, apart x t)) sound
   where
     here : (x : ℕ) → has lost x ≡ true → in_frames (a ∷ f.live) x ≡ true
@@ -289,6 +263,7 @@ sound-lost (Saves a ws) f lost safe is sound = sound-marked (saved f a) lost (λ
     apart x t =
         let out = write_hazard-none f a FRAME_SIZE x (save_hazard-none f a safe).0 (is.inside x t) in
         or_from (in_bytes (return_place a) 4 x) (in_returns f.live x) (is.beside x t) (beside (in_returns f.live x) (in_frames f.live x) (returns-live f.live x) out)
+sound-lost v f lost safe none sound = subst (λ (l : List ℕ). IsSound (with_marked (frames_after f v) l)) (sym none) sound
 
 sound-acted : (s : State) (a : Action) → IsClear s a → IsLostOf a.move a.lost → IsSound s.frames → IsSound (acted s a).frames
 unfolding moved writes_hazard

@@ -30,11 +30,8 @@ tally g = record { count = λ rs. (state_after g rs).count; reached = reached_af
 
 -- where no event stands, none is reached
 none_reached : (limit : ℕ) (due : Due) (s u : State) (k : Kind) → MayCome limit due None s k → reached_by k u ≡ []
-none_reached limit due s u (Instruction i) may = refl
-none_reached limit due s u (Faulted inst fault) may = refl
-none_reached limit due s u (Entered e) may = refl
-none_reached limit due s u (Interrupted c e) may = refl
 none_reached limit due s u (Reached e does) may = absurd (let no = may.2 in cc no)
+none_reached limit due s u _ may = refl
 
 reaches_none : (g : Given) (rs : List Record) (r : Record) → next_with g None rs ≡ Does r → reached_after (r ∷ rs) ≡ reached_after rs
 reaches_none g rs r e =
@@ -91,20 +88,18 @@ abbrev Heeds : Next → Next → State → Event → Type 0
 Heeds with_event without s e = (with_event ≡ without) ⊎ (with_event ≡ reaching s e)
 
 choice_heeds : (s : State) (e : Event) (o : Result (Option Chosen) ℕ) → Heeds (next_by_choice (Some e) s o) (next_by_choice None s o) s e
-choice_heeds s e (Ok (Some c)) = inl refl
 choice_heeds s e (Ok None) = inr refl
-choice_heeds s e (Err a) = inl refl
+choice_heeds s e _ = inl refl
 
 length_heeds : (b : Bool) (x o : Next) (s : State) (e : Event) → Heeds x o s e → Heeds (cond b (Ends (finish Limit)) x) (cond b (Ends (finish Limit)) o) s e
 length_heeds true x o s e h = inl refl
 length_heeds false x o s e h = h
 
 due_heeds : (limit : ℕ) (due : Due) (s : State) (e : Event) → Heeds (next_in limit due (Some e) s) (next_in limit due None s) s e
-due_heeds limit (dues.End f) s e = inl refl
-due_heeds limit (dues.Entry fault) s e = inl refl
 due_heeds limit dues.Nothing s e =
     length_heeds (eqb s.count limit) (next_by_choice (Some e) s (choice_in s)) (next_by_choice None s (choice_in s)) s e
     (choice_heeds s e (choice_in s))
+due_heeds limit _ s e = inl refl
 
 -- it is reached by a record, or with the end
 abbrev IsReached : Given → List Record → Event → Next → Type 0
@@ -146,20 +141,18 @@ abbrev Displaces : Next → Next → Type 0
 Displaces with_event without = (with_event ≡ without) ⊎ ((r : Record) → without ≡ Does r → counts_of r.kind ≡ 1)
 
 choice_displaces : (s : State) (e : Event) (o : Result (Option Chosen) ℕ) → Displaces (next_by_choice (Some e) s o) (next_by_choice None s o)
-choice_displaces s e (Ok (Some c)) = inl refl
 choice_displaces s e (Ok None) = inr (λ r without. standing_counts s (stands_at s) r without)
-choice_displaces s e (Err a) = inl refl
+choice_displaces s e _ = inl refl
 
 length_displaces : (b : Bool) (x o : Next) → Displaces x o → Displaces (cond b (Ends (finish Limit)) x) (cond b (Ends (finish Limit)) o)
 length_displaces true x o h = inl refl
 length_displaces false x o h = h
 
 due_displaces : (limit : ℕ) (due : Due) (s : State) (e : Event) → Displaces (next_in limit due (Some e) s) (next_in limit due None s)
-due_displaces limit (dues.End f) s e = inl refl
-due_displaces limit (dues.Entry fault) s e = inl refl
 due_displaces limit dues.Nothing s e =
     length_displaces (eqb s.count limit) (next_by_choice (Some e) s (choice_in s)) (next_by_choice None s (choice_in s))
     (choice_displaces s e (choice_in s))
+due_displaces limit _ s e = inl refl
 
 -- the count after a record
 count_after : (g : Given) (o : Option Event) (rs : List Record) (r : Record) → next_with g o rs ≡ Does r

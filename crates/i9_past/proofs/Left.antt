@@ -7,7 +7,7 @@ use Rattle.i9_isa.specs.declared.inst.Inst.{Inst}
 use Rattle.i9_isa.specs.declared.op.Op.{Op}
 use Rattle.i9_isa.specs.declared.op.Op.TheVariants.{Lda, Atadd, Atmod, Bx, Balx, Bal, Call, Callx, Calls, Ret, Flushreg, Modac, Modtc, Modpc, Sdma, Sysctl}
 use Rattle.i9_isa.specs.declared.inst.Operand.{Operand}
-use Rattle.i9_isa.specs.declared.inst.Operand.TheVariants.{Reg, Lit, Sfr}
+use Rattle.i9_isa.specs.declared.inst.Operand.TheVariants.{Reg, Sfr}
 use Rattle.i9_isa.specs.declared.size.Size.{Size}
 use Rattle.i9_isa.specs.declared.size.Direction.{Direction}
 use Rattle.i9_isa.specs.declared.size.Direction.TheVariants.{Load, Store}
@@ -36,7 +36,7 @@ use Rattle.i9_model.specs.ScheduleText.{event_where, has_come_at, has_come_by, s
 use Rattle.i9_model.specs.Memory.{word_in}
 use Rattle.i9_model.specs.Branches.{asks, question_of}
 use Rattle.i9_model.specs.Operands.{with_pending, with_mask, interrupts_assigned, address}
-use Rattle.i9_model.specs.Step.{Action, Message, AsksNothing, AsksCheck, AsksInterrupt, AsksRestart, AsksGroup, asked_message, message_action, following, loaded, atomic_address, branching, resulting, answer_in, values_of, destination, moving, action_by_name, action_by, action_of, entering, moved, acted}
+use Rattle.i9_model.specs.Step.{Action, Message, AsksNothing, asked_message, message_action, following, loaded, atomic_address, branching, resulting, answer_in, values_of, destination, moving, action_by_name, action_by, action_of, entering, moved, acted}
 use Rattle.i9_model.specs.Stale.{legible, area_hazard}
 use Rattle.i9_model.specs.Dma.{Unit, next_unit}
 use Rattle.i9_model.specs.Before.{Received, choice_in, interrupt_in, interrupting, moving_unit, received_by, received_in, receiving}
@@ -232,10 +232,8 @@ special_nmi false true v i = refl
 special_nmi false false v i = refl
 
 operand_posts : (o : Operand) (vs : List ℕ) (i : Interrupts) → (interrupts_assigned o vs i).nmi ≡ i.nmi
-operand_posts (Reg r) vs i = refl
-operand_posts (Lit n) vs i = refl
-operand_posts (Sfr k) [] i = refl
 operand_posts (Sfr k) (v ∷ vs) i = special_nmi (k == 0) (k == 1) v i
+operand_posts _ vs i = refl
 
 -- a destination gets values
 assigning_posts : (o : Operand) (vs : List ℕ) (a : Action) (s : State) → a.interrupts ≡ interrupts_assigned o vs s.interrupts → PostsFew a s
@@ -246,10 +244,7 @@ quiet_posts a s is = assigning_posts (Reg 0) [] a s is
 
 message_posts : (m : Message) (i : Inst) (s : State) → PostsFew (message_action m i s) s
 message_posts AsksNothing i s = quiet_posts (message_action AsksNothing i s) s refl
-message_posts AsksCheck i s = quiet_posts (message_action AsksCheck i s) s refl
-message_posts AsksInterrupt i s = quiet_posts (message_action AsksInterrupt i s) s refl
-message_posts AsksRestart i s = quiet_posts (message_action AsksRestart i s) s refl
-message_posts AsksGroup i s = quiet_posts (message_action AsksGroup i s) s refl
+message_posts m i s = quiet_posts (message_action m i s) s refl
 
 other_posts : (b : Bool) (i : Inst) (s : State) → PostsFew (cond b (branching i s) (resulting i s (answer_in i s))) s
 other_posts true i s = quiet_posts (branching i s) s refl
@@ -362,8 +357,7 @@ event_less plan place o e there is =
 
 pending_small : (d : Due) → pending d ≤ 32
 pending_small dues.Nothing = omega arith
-pending_small (dues.End f) = omega arith
-pending_small (dues.Entry fault) = omega arith
+pending_small _ = omega arith
 
 -- the events that are left after a record
 abbrev pub plan_after : List Timed → ℕ → Record → List Timed

@@ -1,5 +1,5 @@
 -- What an instruction does has trace events only where trace enable is set.
-use Rattle.std.proofs.Common.{◌≡◌, Bool, true, false, cond, Option, Some, None, refl, sym, ap, ◌∙◌}
+use Rattle.std.proofs.Common.{◌≡◌, Bool, false, cond, Option, Some, None, refl, sym, ap, ◌∙◌}
 use Rattle.std.specs.Prelude.{◌&&◌}
 use Rattle.i9_isa.specs.declared.op.Op.{Op}
 use Rattle.i9_isa.specs.declared.op.Op.TheVariants.{Sysctl}
@@ -11,25 +11,17 @@ use Rattle.i9_isa.specs.declared.size.Transfer.{Transfer}
 use Rattle.i9_isa.specs.Transfers.{transfer_of}
 use Rattle.i9_model.specs.declared.trace.Trace.{Trace}
 use Rattle.i9_model.specs.State.{State}
-use Rattle.i9_model.specs.Branches.{asks, question_of}
-use Rattle.i9_model.specs.Step.{Message, AsksNothing, AsksCheck, AsksInterrupt, AsksRestart, AsksGroup, moving, branching, resulting, answer_in, asked_message, message_action, action_by_name, action_by, action_of, acted}
+use Rattle.i9_model.specs.Step.{Message, AsksNothing, moving, asked_message, message_action, action_by_name, action_by, action_of, acted}
 use Rattle.i9_model.specs.Traced.{is_traced, seen_of, traced_action}
 use Rattle.i9_model.specs.Tracing.{is_raised, trace_made, trace_of}
 
 message_untraced : (m : Message) (i : Inst) (s : State) → (message_action m i s).trace ≡ None
 message_untraced AsksNothing i s = refl
-message_untraced AsksCheck i s = refl
-message_untraced AsksInterrupt i s = refl
-message_untraced AsksRestart i s = refl
-message_untraced AsksGroup i s = refl
-
-other_untraced : (b : Bool) (i : Inst) (s : State) → (cond b (branching i s) (resulting i s (answer_in i s))).trace ≡ None
-other_untraced true i s = refl
-other_untraced false i s = refl
+message_untraced _ i s = refl
 
 name_untraced : (op : Op) (i : Inst) (s : State) → (action_by_name op i s).trace ≡ None
 name_untraced Sysctl i s = message_untraced (asked_message i s) i s
-name_untraced op i s = other_untraced (asks (question_of op)) i s
+name_untraced _ i s = refl
 
 moving_untraced : (d : Direction) (size : Size) (signed : Bool) (i : Inst) (s : State) → (moving d size signed i s).trace ≡ None
 moving_untraced Load size signed i s = refl

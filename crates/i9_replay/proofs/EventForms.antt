@@ -31,24 +31,21 @@ ok_or_ok None k x h = absurd cc
 
 pin_case : (version : ℕ) (ws : Words) (e : Event) → pin_of ws ≡ Some e → IsEvent version (codes "pin") ws e
 unfolding pin_of
-pin_case version [] e h = absurd cc
 pin_case version (x ∷ []) e h =
     option_and_then_some (λ n. Some (Pin n)) (decimal_in 0 last_pin x) e h (λ n number is. subst (λ (v : Event). IsEvent version (codes "pin") (x ∷ []) v) (same_some (Pin n) e is) (is_pin x n number))
-pin_case version (x ∷ y ∷ ws) e h = absurd cc
+pin_case version _ e h = absurd cc
 
 low_case : (version : ℕ) (ws : Words) (e : Event) → version ≡ levels_version → low_of ws ≡ Some e → IsEvent version (codes "low") ws e
 unfolding low_of
-low_case version [] e levels h = absurd cc
 low_case version (x ∷ []) e levels h =
     option_and_then_some (λ n. Some (Low n)) (decimal_in 0 last_pin x) e h (λ n number is. subst (λ (v : Event). IsEvent version (codes "low") (x ∷ []) v) (same_some (Low n) e is) (is_low x n levels number))
-low_case version (x ∷ y ∷ ws) e levels h = absurd cc
+low_case version _ e levels h = absurd cc
 
 high_case : (version : ℕ) (ws : Words) (e : Event) → version ≡ levels_version → high_of ws ≡ Some e → IsEvent version (codes "high") ws e
 unfolding high_of
-high_case version [] e levels h = absurd cc
 high_case version (x ∷ []) e levels h =
     option_and_then_some (λ n. Some (High n)) (decimal_in 0 last_pin x) e h (λ n number is. subst (λ (v : Event). IsEvent version (codes "high") (x ∷ []) v) (same_some (High n) e is) (is_high x n levels number))
-high_case version (x ∷ y ∷ ws) e levels h = absurd cc
+high_case version _ e levels h = absurd cc
 
 nmi_case : (version : ℕ) (ws : Words) (e : Event) → nmi_of ws ≡ Some e → IsEvent version (codes "nmi") ws e
 unfolding nmi_of
@@ -57,30 +54,25 @@ nmi_case version (x ∷ ws) e h = absurd cc
 
 dma_case : (version : ℕ) (ws : Words) (e : Event) → dma_of ws ≡ Some e → IsEvent version (codes "dma") ws e
 unfolding dma_of
-dma_case version [] e h = absurd cc
 dma_case version (x ∷ []) e h =
     option_and_then_some (λ n. Some (Dma n)) (decimal_in 0 last_channel x) e h (λ n number is. subst (λ (v : Event). IsEvent version (codes "dma") (x ∷ []) v) (same_some (Dma n) e is) (is_dma x n number))
-dma_case version (x ∷ y ∷ ws) e h = absurd cc
+dma_case version _ e h = absurd cc
 
 feed_case : (version : ℕ) (ws : Words) (e : Event) → feed_of ws ≡ Some e → IsEvent version (codes "feed") ws e
 unfolding feed_of
-feed_case version [] e h = absurd cc
-feed_case version (x ∷ []) e h = absurd cc
 feed_case version (x ∷ y ∷ []) e h =
     option_and_then_some (λ n. option_and_then (λ bytes. Some (Feed n (record { items = bytes }))) (bytes_in y)) (decimal_in 0 last_channel x) e h (λ n number more.
     option_and_then_some (λ bytes. Some (Feed n (record { items = bytes }))) (bytes_in y) e more (λ bytes unit is.
     subst (λ (v : Event). IsEvent version (codes "feed") (x ∷ y ∷ []) v) (same_some (Feed n (record { items = bytes })) e is) (is_feed x y n bytes number unit)))
-feed_case version (x ∷ y ∷ z ∷ ws) e h = absurd cc
+feed_case version _ e h = absurd cc
 
 show_case : (version : ℕ) (ws : Words) (e : Event) → show_of ws ≡ Some e → IsEvent version (codes "show") ws e
 unfolding show_of
-show_case version [] e h = absurd cc
-show_case version (x ∷ []) e h = absurd cc
 show_case version (x ∷ y ∷ []) e h =
     option_and_then_some (λ a. option_and_then (λ l. Some (Show a l)) (decimal_in 1 most_shown y)) (address_of x) e h (λ a address more.
     option_and_then_some (λ l. Some (Show a l)) (decimal_in 1 most_shown y) e more (λ l size is.
     subst (λ (v : Event). IsEvent version (codes "show") (x ∷ y ∷ []) v) (same_some (Show a l) e is) (is_show x y a l address size)))
-show_case version (x ∷ y ∷ z ∷ ws) e h = absurd cc
+show_case version _ e h = absurd cc
 
 -- a name is one text, or what the other names give counts
 by_name : (version : ℕ) (name text : List ℕ) (ws : Words) (e : Event) (own : Option Event) (others : Result Event ℕ) → (own ≡ Some e → IsEvent version text ws e) → (others ≡ Ok e → IsEvent version name ws e)
@@ -121,12 +113,11 @@ behind_case : (version : ℕ) (first : List ℕ) (time : List ℕ → Option Whe
     → ((k name : List ℕ) (operands : Words) (w : When) (e : Event) → time k ≡ Some w → IsEvent version name operands e → IsTimed version (first ∷ k ∷ name ∷ operands) (timed_when w e))
     → (rest : Words) (t : Timed) → timed_by version time rest ≡ Ok t → IsTimed version (first ∷ rest) t
 unfolding timed_by
-behind_case version first time says [] t h = absurd cc
-behind_case version first time says (k ∷ []) t h = absurd cc
 behind_case version first time says (k ∷ name ∷ operands) t h =
     and_then_ok (event_of version name operands) (λ e. and_then (ok_or (time k) bad_operand) (λ w. Ok (timed_when w e))) t h (λ e event more.
     and_then_ok (ok_or (time k) bad_operand) (λ w. Ok (timed_when w e)) t more (λ w is_time is.
     subst (λ (x : Timed). IsTimed version (first ∷ k ∷ name ∷ operands) x) (same_ok (timed_when w e) t is) (says k name operands w e (ok_or_ok (time k) bad_operand w is_time) (event_case version name operands e event))))
+behind_case version first time says _ t h = absurd cc
 
 -- a number was read for a time
 number_read : (form : ℕ → When) (o : Option ℕ) (w : When) → option_map form o ≡ Some w → (n : ℕ) × (o ≡ Some n) × (form n ≡ w)

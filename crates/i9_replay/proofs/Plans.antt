@@ -11,7 +11,7 @@ use Rattle.i9_text.specs.FirstFault.{SaysAll}
 use Rattle.i9_model.specs.Events.{Words, within, number_in, bytes_in, IsInRange, IsUnit, IsEvent, is_pin, is_low, is_high, is_nmi, is_dma, is_feed, is_show, last_pin, last_channel, last_address, most_shown}
 use Rattle.i9_model.specs.ScheduleText.{last_count, last_turn, most_events, earlier_fault, order_fault, fault_after, fault_of_count, first_fault, levels_version, IsVersion, IsOfVersion, AreOfVersion, version_in, SoFar, nothing_yet, Contents, Says, says_nothing, says_version, says_event, IsTimed, is_at, is_turn, IsSchedule, time_of, at_time, is_counted, AreCounted, IsTimedInRange, InOrder, IsPlan}
 use Rattle.i9_model.specs.declared.event.Event.{Event}
-use Rattle.i9_model.specs.declared.event.Event.TheVariants.{Pin, Low, High, Nmi, Dma, Feed, Show}
+use Rattle.i9_model.specs.declared.event.Event.TheVariants.{Low, High}
 use Rattle.i9_model.specs.declared.event.When.{When}
 use Rattle.i9_model.specs.declared.event.When.TheVariants.{At, Turn}
 use Rattle.i9_model.specs.declared.event.Timed.{Timed}
@@ -37,10 +37,7 @@ feed_cases : (n : ℕ) → (n == 2 || n == 4 || n == 8 || n == 32) ≡ true → 
 feed_cases n h = grind (arith)
 
 feed_length : (n m : ℕ) → ((m ≡ 2) ⊎ (m ≡ 4)) ⊎ ((m ≡ 8) ⊎ (m ≡ 32)) → m ≡ 2 * n → IsUnit n
-feed_length n m (inl (inl e)) len = inl (inl (omega arith))
-feed_length n m (inl (inr e)) len = inl (inr (omega arith))
-feed_length n m (inr (inl e)) len = inr (inl (omega arith))
-feed_length n m (inr (inr e)) len = inr (inr (omega arith))
+feed_length n m digits len = grind arith
 
 ok_some : {A E : Type 0} (r : Result A E) (x : A) → result_ok r ≡ Some x → r ≡ Ok x
 ok_some (Ok y) x h = let e : y ≡ x = cc in ap Ok e
@@ -72,13 +69,9 @@ timed_in_range version ws t (is_turn k name operands n e h is) = record { time =
 -- ---- and of its version
 
 event_of_version : (version : ℕ) (name : List ℕ) (ws : Words) (e : Event) → IsEvent version name ws e → IsOfVersion version e
-event_of_version version name ws e (is_pin x n h) = tt
 event_of_version version name ws e (is_low x n levels h) = levels
 event_of_version version name ws e (is_high x n levels h) = levels
-event_of_version version name ws e is_nmi = tt
-event_of_version version name ws e (is_dma c n h) = tt
-event_of_version version name ws e (is_feed c x n bs h g) = tt
-event_of_version version name ws e (is_show a l m n h g) = tt
+event_of_version version name ws e _ = tt
 
 timed_of_version : (version : ℕ) (ws : Words) (t : Timed) → IsTimed version ws t → IsOfVersion version t.event
 timed_of_version version ws t (is_at k name operands n e h is) = event_of_version version name operands e is
@@ -86,13 +79,9 @@ timed_of_version version ws t (is_turn k name operands n e h is) = event_of_vers
 
 -- the version of levels has all events
 levels_have : (version : ℕ) (e : Event) → IsOfVersion version e → IsOfVersion levels_version e
-levels_have version (Pin x) h = tt
 levels_have version (Low x) h = refl
 levels_have version (High x) h = refl
-levels_have version Nmi h = tt
-levels_have version (Dma c) h = tt
-levels_have version (Feed c bytes) h = tt
-levels_have version (Show a l) h = tt
+levels_have version _ h = tt
 
 levels_have_all : (version : ℕ) (ts : List Timed) → AreOfVersion version ts → AreOfVersion levels_version ts
 levels_have_all version [] h = tt
@@ -126,8 +115,7 @@ last_at x ts y h = let e : length (x ∷ ts) - 1 ≡ length ts = omega arith in 
 order_times : (w v : When) → is_counted w ≡ is_counted v → at_time w ≤ at_time v → order_fault w v ≡ None
 order_times (At m) (At n) same h = rw (le-ltb _ _ h) refl
 order_times (Turn m) (Turn n) same h = rw (le-ltb _ _ h) refl
-order_times (At m) (Turn n) same h = absurd (cc same)
-order_times (Turn m) (At n) same h = absurd (cc same)
+order_times _ _ same h = absurd (cc same)
 
 number_order : (m n : ℕ) → earlier_fault m n ≡ None → m ≤ n
 number_order m n h = elim (cases_lt n m) [
@@ -138,8 +126,7 @@ number_order m n h = elim (cases_lt n m) [
 times_order : (w v : When) → order_fault w v ≡ None → (at_time w ≤ at_time v) × (is_counted v ≡ is_counted w)
 times_order (At m) (At n) h = (number_order m n h, refl)
 times_order (Turn m) (Turn n) h = (number_order m n h, refl)
-times_order (At m) (Turn n) h = absurd (cc h)
-times_order (Turn m) (At n) h = absurd (cc h)
+times_order _ _ h = absurd (cc h)
 
 first_none : (a b : Option ℕ) → first_fault a b ≡ None → (a ≡ None) × (b ≡ None)
 first_none None b h = (refl, h)

@@ -1,5 +1,5 @@
 -- A journal's line says its event at its count.
-use Rattle.std.proofs.Common.{◌≡◌, ℕ, suc, ◌*◌, ◌^◌, ◌<◌, ◌≤◌, true, false, ltb, eqb, List, [], ◌∷◌, length, Option, None, Some, Ok, refl, arith, inl, inr, lit<, lit≤, get_or, ◌==◌, ◌||◌}
+use Rattle.std.proofs.Common.{◌≡◌, ℕ, suc, ◌*◌, ◌^◌, ◌<◌, ◌≤◌, true, false, ltb, eqb, List, [], ◌∷◌, length, Option, None, Some, Ok, refl, arith, lit<, lit≤, get_or, ◌==◌, ◌||◌}
 use Rattle.std.specs.List.{join_with_byte, AllByRecursion}
 use Rattle.std.specs.Fmt.{decimal}
 use Rattle.std.proofs.lemmas.Bool.{le-ltb}
@@ -36,10 +36,7 @@ bytes_word bs some h =
     IsWord-digits (encode_upper bs) 16 (lit≤ tt) (omega (arith, length-encode_with upper_digits bs)) (AllDigits-encode_upper bs (each_byte bs h))
 
 some_bytes : (n : ℕ) → IsUnit n → 0 < n
-some_bytes n (inl (inl e)) = omega arith
-some_bytes n (inl (inr e)) = omega arith
-some_bytes n (inr (inl e)) = omega arith
-some_bytes n (inr (inr e)) = omega arith
+some_bytes n unit = grind arith
 
 address_word : (a : ℕ) → IsWord (word_text a)
 address_word a = IsWord-digits (word_text a) 16 (lit≤ tt) (omega (arith, word_length a)) (word_digits a)
@@ -63,10 +60,7 @@ address_digits a small =
     rw (number_of-word a (omega (arith, small)), below, above) refl
 
 feed_test : (n : ℕ) (m : ℕ) → IsUnit n → m ≡ 2 * n → (m == 2 || m == 4 || m == 8 || m == 32) ≡ true
-feed_test n m (inl (inl e)) len = let f : m ≡ 2 = omega arith in rw f refl
-feed_test n m (inl (inr e)) len = let f : m ≡ 4 = omega arith in rw f refl
-feed_test n m (inr (inl e)) len = let f : m ≡ 8 = omega arith in rw f refl
-feed_test n m (inr (inr e)) len = let f : m ≡ 32 = omega arith in rw f refl
+feed_test n m unit len = grind arith
 
 bytes_in-encode : (bs : List ℕ) → IsUnit (length bs) → IsBytes bs → bytes_in (encode_upper bs) ≡ Some bs
 unfolding bytes_in

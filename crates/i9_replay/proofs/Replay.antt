@@ -69,11 +69,7 @@ passes_out b = passes_line (codes "#out " ++ byte_text b) (plain-append (codes "
 
 pub plain_drained : (k : Point) → is_plain (drained_text k) ≡ true
 plain_drained points.Flush = refl
-plain_drained points.Sync = refl
-plain_drained points.Event = refl
-plain_drained points.Int = refl
-plain_drained points.Fault = refl
-plain_drained points.End = refl
+plain_drained _ = refl
 
 passes_point : (k : Point) (v : View) → Passes (point_text k v)
 unfolding point_text
