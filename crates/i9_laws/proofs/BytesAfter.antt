@@ -3,7 +3,7 @@ use Rattle.std.proofs.Common.{◌≡◌, ℕ, ◌+◌, ◌-◌, ◌%◌, ◌^◌
 use Rattle.std.specs.Prelude.{slice_index, ◌==◌, ◌||◌}
 use Rattle.std.proofs.lemmas.Nat.{and_le_l, or_of_8, pow_below}
 use Rattle.i9_isa.specs.declared.op.Op.{Op}
-use Rattle.i9_isa.specs.declared.op.Op.TheVariants.{Atadd, Atmod, Sysctl, Lda, Bx, Balx, Bal, Call, Callx, Calls, Ret, Flushreg, Modac, Modtc, Modpc}
+use Rattle.i9_isa.specs.declared.op.Op.TheVariants.{Atadd, Atmod, Sysctl}
 use Rattle.i9_isa.specs.declared.size.Size.{Size}
 use Rattle.i9_isa.specs.declared.size.Size.TheVariants.{Byte, Half, Words}
 use Rattle.i9_isa.specs.declared.size.Direction.{Direction}
@@ -32,7 +32,7 @@ use Rattle.i9_model.specs.Calls.{record_address}
 use Rattle.i9_model.specs.Interrupts.{with_bit, without_bit, vector_priority, priority_place, pending_place, request_writes, left_pending, priority_writes, taken_writes, clearing_writes, record_writes}
 use Rattle.i9_model.specs.Tables.{group_words}
 use Rattle.i9_model.specs.Controls.{Control, KeepsControls, Restarts, LoadsGroup, controlled}
-use Rattle.i9_model.specs.Step.{Move, Stays, Saves, Returns, Flushes, Action, stored_of, bytes_of_words, moving, merged, atomic, atomic_address, branching, resulting, answer_in, Message, AsksNothing, AsksCheck, AsksInterrupt, AsksRestart, AsksGroup, asked_message, argument_of, message_action, action_by_name, action_by, action_of, memory_after, moved, acted}
+use Rattle.i9_model.specs.Step.{Move, Stays, Saves, Returns, Flushes, Action, stored_of, bytes_of_words, moving, merged, atomic, atomic_address, branching, resulting, answer_in, Message, AsksInterrupt, asked_message, argument_of, message_action, action_by_name, action_by, action_of, memory_after, moved, acted}
 use Rattle.i9_model.specs.Dma.{unit_length, unit_bytes}
 use Rattle.i9_model.specs.Before.{Received}
 use Rattle.i9_model.specs.Run.{Given, Record, Kind, Instruction, Faulted, Entered, Interrupted, Reached, action_by_kind, due_after, event_after, state_after, IsPast}
@@ -100,11 +100,8 @@ clearing_stores Soft m table v h =
     (without_bit_byte (m.bytes at) (v % 8) (h at), tt)
 
 message_stores : (m : Message) (i : Inst) (s : State) → AreBytes s.memory → ArePut 256 (message_action m i s).writes
-message_stores AsksNothing i s h = tt
-message_stores AsksCheck i s h = tt
 message_stores AsksInterrupt i s h = request_stores s.memory s.tables.interrupt_table (argument_of i s) h
-message_stores AsksRestart i s h = tt
-message_stores AsksGroup i s h = tt
+message_stores m i s h = tt
 
 -- ---- a record
 
@@ -113,20 +110,8 @@ other_stores true i s = tt
 other_stores false i s = tt
 
 name_stores : (op : Op) (i : Inst) (s : State) → AreBytes s.memory → ArePut 256 (action_by_name op i s).writes
-name_stores Lda i s h = tt
 name_stores Atadd i s h = atomic_stores i s (mark_of s i.b 0) (λ old. wrapped (old + value s i.b))
 name_stores Atmod i s h = atomic_stores i s (mark_of s i.b 0 || mark_of s i.c 0) (λ old. merged old (value s i.b) (value s i.c))
-name_stores Bx i s h = tt
-name_stores Balx i s h = tt
-name_stores Bal i s h = tt
-name_stores Call i s h = tt
-name_stores Callx i s h = tt
-name_stores Calls i s h = tt
-name_stores Ret i s h = tt
-name_stores Flushreg i s h = tt
-name_stores Modac i s h = tt
-name_stores Modtc i s h = tt
-name_stores Modpc i s h = tt
 name_stores Sysctl i s h = message_stores (asked_message i s) i s h
 name_stores op i s h = other_stores (asks (question_of op)) i s
 
