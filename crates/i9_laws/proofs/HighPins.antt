@@ -1,7 +1,6 @@
 -- Along every run of a plan without levels all pins stay high, so the pending word is the kept one.
-use Rattle.std.proofs.Common.{◌≡◌, ℕ, zero, suc, ◌+◌, Bool, true, false, cond, List, [], ◌∷◌, length, Option, Some, None, refl, subst, arith}
+use Rattle.std.proofs.Common.{◌≡◌, ℕ, ◌+◌, Bool, true, false, cond, List, Option, Some, None, refl, subst, arith}
 use Rattle.std.specs.Prelude.{◌&&◌, ◌-◌}
-use Rattle.std.specs.List.{slice_get}
 use Rattle.std.proofs.lemmas.Nat.{and_le_l, and_le_r}
 use Rattle.std.specs.Int.Bits.{or_add_and}
 use Rattle.i9_isa.specs.Words.{field}
@@ -11,38 +10,15 @@ use Rattle.i9_model.specs.declared.interrupts.Cause.TheVariants as causes
 use Rattle.i9_model.specs.declared.event.Event.{Event}
 use Rattle.i9_model.specs.declared.event.Event.TheVariants.{Pin, Low, High, Nmi, Dma, Feed, Show}
 use Rattle.i9_model.specs.declared.event.Timed.{Timed}
-use Rattle.i9_model.specs.ScheduleText.{first_version, IsOfVersion, AreOfVersion, has_come_at, event_at}
+use Rattle.i9_model.specs.ScheduleText.{first_version, IsOfVersion, AreOfVersion}
 use Rattle.i9_model.specs.State as states
 use Rattle.i9_model.specs.State.{State, Interrupts}
 use Rattle.i9_model.specs.Pins.{level_word, pending_word}
 use Rattle.i9_model.specs.Interrupts.{posted, cleared}
 use Rattle.i9_model.specs.Dma.{is_last, posts_at_end}
-use Rattle.i9_model.specs.Run.{Given, Record, reached_after, event_after, state_after, IsPast}
-use Rattle.i9_laws.proofs.EventCases.{IsByUnit, IsByEvent}
+use Rattle.i9_model.specs.Run.{Given, Record, event_after, state_after, IsPast}
+use Rattle.i9_laws.proofs.EventCases.{event_planned, IsByUnit, IsByEvent}
 use Rattle.i9_laws.proofs.InterruptsAlong.{AreKeeping, interrupts_after}
-
--- ---- the event that stands is of the version of its plan
-
-pub plan_of_version : (version : ℕ) (plan : List Timed) (place : ℕ) (t : Timed) → AreOfVersion version plan → slice_get plan place ≡ Some t
-    → IsOfVersion version t.event
-plan_of_version version [] place t all is = absurd cc
-plan_of_version version (x ∷ plan) zero t all is = let same : x ≡ t = cc in subst (λ (y : Timed). IsOfVersion version y.event) same all.0
-plan_of_version version (x ∷ plan) (suc place) t all is = plan_of_version version plan place t all.1 is
-
-event_of_version : (version : ℕ) (g : Given) (rs : List Record) (e : Event) → AreOfVersion version g.plan → event_after g rs ≡ Some e
-    → IsOfVersion version e
-event_of_version version g rs e plan is = by_place (slice_get g.plan place) refl is
-  where
-    place : ℕ
-    place = length (reached_after rs)
-
-    by_time : (t : Timed) (b : Bool) → IsOfVersion version t.event → cond b (Some t.event) None ≡ Some e → IsOfVersion version e
-    by_time t true of h = let same : t.event ≡ e = cc in subst (IsOfVersion version) same of
-    by_time t false of h = absurd cc
-
-    by_place : (o : Option Timed) → slice_get g.plan place ≡ o → event_at (state_after g rs).count o ≡ Some e → IsOfVersion version e
-    by_place None at h = absurd cc
-    by_place (Some t) at h = by_time t (has_come_at (state_after g rs).count t.when) (plan_of_version version g.plan place t plan at) h
 
 -- ---- all pins are high
 
@@ -85,7 +61,12 @@ keeping_high = record {
 
 pub high_after : (g : Given) (rs : List Record) → AreOfVersion first_version g.plan → IsPast g rs → (state_after g rs).interrupts.low ≡ 0
 high_after g rs plan past =
-    interrupts_after AreHigh (IsOfVersion first_version) keeping_high g rs (λ qs e is. event_of_version first_version g qs e plan is) past
+    interrupts_after AreHigh (IsOfVersion first_version) keeping_high g rs of past
+  where
+    of : (qs : List Record) (e : Event) → event_after g qs ≡ Some e → IsOfVersion first_version e
+    of qs e is =
+        let there = event_planned (λ (t : Timed). IsOfVersion first_version t.event) g qs e plan is in
+        subst (IsOfVersion first_version) there.2 there.1
 
 -- ---- the pending word then
 

@@ -350,10 +350,7 @@ kind_flags (Instruction i) s h =
     let seen = seen_of i s a in
     trace_kept (is_traced s && is_raised left.tc i seen left.breaks) (trace_made left.tc i seen left.breaks)
     (made_kept left.tc i seen left.breaks after.tc)
-kind_flags (Faulted inst fault) s h = tt
-kind_flags (Entered e) s h = tt
-kind_flags (Interrupted c e) s h = tt
-kind_flags (Reached e u) s h = tt
+kind_flags _ s h = tt
 
 -- ---- a run
 

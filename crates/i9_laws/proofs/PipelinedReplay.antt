@@ -1,8 +1,8 @@
 -- The events that a run reached whose results land late, each at its count, are those of a schedule; its printed text says
 -- them, and with them and any number of sets it is the same run.
-use Rattle.std.proofs.Common.{◌≡◌, ℕ, zero, suc, ◌<◌, ◌≤◌, true, List, [], ◌∷◌, ◌++◌, length, Option, Some, None, refl, sym, ◌∙◌, subst, inl, inr, length-append, arith, ap}
-use Rattle.std.specs.List.{slice_get, AllByRecursion}
-use Rattle.i9_laws.proofs.HighPins.{plan_of_version}
+use Rattle.std.proofs.Common.{◌≡◌, ℕ, ◌<◌, ◌≤◌, true, List, [], ◌∷◌, ◌++◌, length, Option, Some, None, refl, sym, ◌∙◌, subst, inl, inr, length-append, arith, ap}
+use Rattle.std.specs.List.{AllByRecursion}
+use Rattle.i9_laws.proofs.EventCases.{planned}
 use Rattle.i9_replay.proofs.Plans.{AreOfVersion-push, AllTimedInRange-push, InOrder-push, last_time, last_time-push}
 use Rattle.i9_past.proofs.Unique.{does_is, ends_is}
 use Rattle.i9_model.specs.declared.event.Event.{Event}
@@ -21,15 +21,6 @@ use Rattle.i9_course.proofs.PipelinedRuns.{records_of-steps, next_of_steps, late
 use Rattle.i9_course.proofs.PipelinedSame.{run_again, run_sets, in_counted}
 use Rattle.i9_laws.proofs.RunsAgain.{SaysReached, text_says}
 use Rattle.std.proofs.lemmas.List.{append-nil}
-
--- ---- an event of a plan
-
--- an event at a place of a plan
-planned : (ts : List Timed) (k : ℕ) (t : Timed) → AllByRecursion IsTimedInRange ts → slice_get ts k ≡ Some t
-    → IsTimedInRange t × (k < length ts)
-planned [] k t each is = absurd cc
-planned (x ∷ ts) zero t each is = let same : x ≡ t = cc in (subst IsTimedInRange same each.0, omega arith)
-planned (x ∷ ts) (suc k) t each is = let p = planned ts k t each.1 is in (p.0, omega (arith, p.1))
 
 -- ---- along a pipelined run
 
@@ -81,10 +72,10 @@ stands g rs e plan at =
     let past = records_of (steps rs) in
     let there =
     standing_by_place g.plan (length (reached_after past)) (state_after g past).count (instruction_turn g (steps rs)) e at in
-    let p = planned g.plan (length (reached_after past)) there.0 plan.each there.1 in (
+    let p = planned IsTimedInRange g.plan (length (reached_after past)) there.0 plan.each there.1 in (
       subst IsInRange there.2 p.0.event,
       subst (λ (qs : List Record). length (reached_after qs) < length g.plan) (records_of-steps rs) p.1,
-      λ version of. subst (IsOfVersion version) there.2 (plan_of_version version g.plan (length (reached_after past)) there.0 of there.1),
+      λ version of. subst (IsOfVersion version) there.2 (planned (λ (t : Timed). IsOfVersion version t.event) g.plan (length (reached_after past)) there.0 of there.1).0,
     )
 
 fits : (g : Given) (rs : List Record) → IsPlan g.plan → g.length ≤ MAX_LENGTH → IsPipelinedPast g rs → Fits g rs

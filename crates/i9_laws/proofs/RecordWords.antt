@@ -22,7 +22,7 @@ use Rattle.i9_model.specs.Faults.{fault_record, entry_of}
 use Rattle.i9_model.specs.Step.{bytes_of_words, saved_locals, entering, moved, acted}
 use Rattle.i9_model.specs.Interrupts.{without_bit, vector_priority, priority_place, pending_place, left_pending, taken_writes, clearing_writes, record_writes}
 use Rattle.i9_model.specs.Before.{interrupt_in, interrupting}
-use Rattle.i9_model.specs.Run.{Kind, Instruction, Faulted, Entered, Interrupted, Reached, action_by_kind, entry_in}
+use Rattle.i9_model.specs.Run.{Kind, Entered, Interrupted, action_by_kind, entry_in}
 use Rattle.i9_past.proofs.Comes.{MayCome}
 use Rattle.i9_model.proofs.CallLaws.{second_none}
 use Rattle.i9_model.proofs.FrameBytes.{stored_at, byte_of_words}
@@ -175,8 +175,6 @@ interrupting_writes s c e kept ok beside =
 
 pub entry_writes_controls : (limit : ℕ) (due : Due) (stands : Option Event) (k : Kind) (s : State) → IsKept s → MayCome limit due stands s k
     → IsTrue (is_entry k) → LeavesRecord k s → HasControls s (acted s (action_by_kind k s))
-entry_writes_controls limit due stands (Instruction i) s kept may h left = absurd cc
-entry_writes_controls limit due stands (Faulted inst fault) s kept may h left = absurd cc
 entry_writes_controls limit due stands (Entered e) s kept may h left = entering_writes s may.0 e kept may.2
 entry_writes_controls limit due stands (Interrupted c e) s kept may h left = interrupting_writes s c e kept may.3 left
-entry_writes_controls limit due stands (Reached e u) s kept may h left = absurd cc
+entry_writes_controls limit due stands _ s kept may h left = absurd cc

@@ -137,17 +137,15 @@ record_pc false pc w = refl
 
 kind_pc : (k : Kind) (s u : State) → IsTrue (is_call k) → returned_pc u.memory (type_of k s) (u.regs FP) u.pc ≡ pc_back k s u
 kind_pc (Instruction i) s u h = name_pc i.op i s u
-kind_pc (Faulted inst fault) s u h = absurd cc
 kind_pc (Entered e) s u h = record_pc (in_supervisor_mode u.pc) u.pc (bit_and (saved_pc u.memory (u.regs FP)) PC_MASK)
 kind_pc (Interrupted c e) s u h = record_pc (in_supervisor_mode u.pc) u.pc (bit_and (saved_pc u.memory (u.regs FP)) PC_MASK)
-kind_pc (Reached e does) s u h = absurd cc
+kind_pc _ s u h = absurd cc
 
 kind_ac : (k : Kind) (s u : State) → IsTrue (is_call k) → returned_ac u.memory (type_of k s) (u.regs FP) u.ac ≡ ac_back k u
 kind_ac (Instruction i) s u h = name_ac i.op i s u
-kind_ac (Faulted inst fault) s u h = absurd cc
 kind_ac (Entered e) s u h = refl
 kind_ac (Interrupted c e) s u h = refl
-kind_ac (Reached e does) s u h = absurd cc
+kind_ac _ s u h = absurd cc
 
 controls_back : (k : Kind) (s u : State) → IsTrue (is_call k) → u.regs PFP ≡ rounded_down (s.regs FP) + type_of k s → type_of k s < 8
     → ((acted u (ret_action u)).pc ≡ pc_back k s u) × ((acted u (ret_action u)).ac ≡ ac_back k u)
@@ -172,10 +170,7 @@ return_after (Instruction i) u h = ap (λ (a : Action). counted 1 (acted u (reco
     by_name : (op : Op) → i.op ≡ op → IsTrue (is_return_name op) → action_by (transfer_of i.op) i u ≡ ret_action u
     by_name Ret e t = ap (λ (o : Op). action_by (transfer_of o) i u) e ∙ ap (λ (o : Op). action_by_name o i u) e
     by_name _ e t = absurd cc
-return_after (Faulted inst fault) u h = absurd cc
-return_after (Entered e) u h = absurd cc
-return_after (Interrupted c e) u h = absurd cc
-return_after (Reached e does) u h = absurd cc
+return_after _ u h = absurd cc
 
 -- it meets no hazard
 return_free : (limit : ℕ) (due : Due) (stands : Option Event) (k : Kind) (u : State) → IsTrue (is_return k)
@@ -190,18 +185,12 @@ return_free limit due stands (Instruction i) u h may = by_name i.op refl h
         ∙ sym (ap (λ (o : Op). hazard_in u (access_by (transfer_of o) i u)) e)
         ∙ may.2
     by_name _ e t = absurd cc
-return_free limit due stands (Faulted inst fault) u h may = absurd cc
-return_free limit due stands (Entered e) u h may = absurd cc
-return_free limit due stands (Interrupted c e) u h may = absurd cc
-return_free limit due stands (Reached e does) u h may = absurd cc
+return_free limit due stands _ u h may = absurd cc
 
 -- no call returns to an address with low bits
 address_even : (k : Kind) (s : State) → IsKept s → return_address k s % 4 ≡ 0
 address_even (Instruction i) s h = following_even s (words_of i) h
-address_even (Faulted inst fault) s h = h.ip
-address_even (Entered e) s h = h.ip
-address_even (Interrupted c e) s h = h.ip
-address_even (Reached e u) s h = h.ip
+address_even _ s h = h.ip
 
 -- ---- a run
 
@@ -300,18 +289,14 @@ entry_is_call (Interrupted c e) h = h
 entry_is_call (Reached e u) h = absurd cc
 
 entry_pc : (k : Kind) (s u : State) → IsTrue (is_entry k) → pc_back k s u ≡ pc_of_record u
-entry_pc (Instruction i) s u h = absurd cc
-entry_pc (Faulted inst fault) s u h = absurd cc
 entry_pc (Entered e) s u h = refl
 entry_pc (Interrupted c e) s u h = refl
-entry_pc (Reached e does) s u h = absurd cc
+entry_pc _ s u h = absurd cc
 
 entry_ac : (k : Kind) (u : State) → IsTrue (is_entry k) → ac_back k u ≡ ac_of_record u
-entry_ac (Instruction i) u h = absurd cc
-entry_ac (Faulted inst fault) u h = absurd cc
 entry_ac (Entered e) u h = refl
 entry_ac (Interrupted c e) u h = refl
-entry_ac (Reached e does) u h = absurd cc
+entry_ac _ u h = absurd cc
 
 pub entry_back : (g : Given) (rs between : List Record) (call back : Record) → IsPast g (back ∷ between ++ call ∷ rs)
     → IsTrue (is_entry call.kind) → IsTrue (is_return back.kind) → back.before.regs PFP ≡ call.after.regs PFP

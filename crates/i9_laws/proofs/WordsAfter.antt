@@ -33,7 +33,7 @@ use Rattle.i9_model.specs.Branches.{asks, question_of, is_taken}
 use Rattle.i9_model.specs.Calls.{popped}
 use Rattle.i9_model.specs.Controls.{Control, KeepsControls, Restarts, LoadsGroup, controlled}
 use Rattle.i9_model.specs.Tables.{group_words}
-use Rattle.i9_model.specs.Step.{Move, Stays, Saves, Returns, Flushes, Action, saved_local, saved_locals, pushing, call_action, calls_action, ret_action, first_word, next_word, loaded, moving, merged, atomic, atomic_address, following, answer_in, destination, values_of, branching, resulting, Message, AsksNothing, AsksCheck, AsksInterrupt, AsksRestart, AsksGroup, asked_message, message_action, push_sets, system_call, entering, action_by_name, action_by, action_of, moved, acted}
+use Rattle.i9_model.specs.Step.{Move, Stays, Saves, Action, saved_local, saved_locals, pushing, call_action, calls_action, ret_action, first_word, next_word, loaded, moving, merged, atomic, atomic_address, following, answer_in, destination, values_of, branching, resulting, Message, AsksNothing, AsksCheck, AsksInterrupt, AsksRestart, AsksGroup, asked_message, message_action, push_sets, system_call, entering, action_by_name, action_by, action_of, moved, acted}
 use Rattle.i9_model.specs.declared.run.Due.{Due}
 use Rattle.i9_model.specs.declared.interrupts.TheConstants.{LINE_MASK}
 use Rattle.i9_model.specs.declared.dma.TheConstants.{COMMAND_MASK}
@@ -52,7 +52,7 @@ use Rattle.i9_laws.proofs.Entered.{call_by, entry_by, entry_for, interrupt_made}
 use Rattle.i9_laws.proofs.KeptBits.{IsKept, kept_after}
 use Rattle.i9_laws.proofs.KeptLines.{HasLines, lines_after}
 use Rattle.i9_laws.proofs.BytesAfter.{done_stores, moved_bytes, image_bytes, boot_bytes}
-use Rattle.i9_laws.proofs.Decoded.{IsSmall, HasSmall, decoded_small, IsRead, next_read}
+use Rattle.i9_laws.proofs.Decoded.{IsSmall, HasSmall, decoded_small, runs_decoded, IsTurn, next_turn}
 use Rattle.i9_laws.proofs.StoredWords.{ArePut, put_append, put_pairs, below_map, written_below, half_below, word_below, words_below}
 use Rattle.i9_laws.proofs.ResultWords.{AreWords, either_word, results_words}
 
@@ -77,16 +77,13 @@ left_bytes (f ∷ live) s h = h.bytes
 
 -- a frame is saved whole, at an address
 abbrev pub SavesWords : Move → Type 0
-SavesWords Stays = Unit {0}
 SavesWords (Saves save words) = IsWord save × (length words ≡ LOCALS) × AreWords words
-SavesWords Returns = Unit {0}
-SavesWords Flushes = Unit {0}
+SavesWords _ = Unit {0}
 
 -- start-up goes to an address
 abbrev StartsWord : Control → Type 0
-StartsWord KeepsControls = Unit {0}
 StartsWord (Restarts first prcb) = IsWord first
-StartsWord (LoadsGroup group) = Unit {0}
+StartsWord _ = Unit {0}
 
 -- what an action sets and saves, and where control goes
 record AreDone (sets : List (ℕ × ℕ)) (v : Move) (c : Control) (to : ℕ) : Type 0 where
@@ -314,9 +311,9 @@ interrupting_words s c e h ok =
     subst (λ (x : Entry). DoesWords (interrupting c x s)) (interrupt_made s c e ok).0
     (record { registers = pushes.registers; saves = pushes.saves; starts = tt; next = pushes.next })
 
-kind_words : (limit : ℕ) (due : Due) (stands : Option Event) (k : Kind) (s : State) → MayCome limit due stands s k → IsRead s k
+kind_words : (limit : ℕ) (due : Due) (stands : Option Event) (k : Kind) (s : State) → MayCome limit due stands s k → IsTurn stands s k
     → HasWords s → HasLines s → IsKept s → DoesWords (action_by_kind k s)
-kind_words limit due stands (Instruction i) s may d h l k = instruction_words i s h l k (decoded_small (first_word s) (next_word s) i d)
+kind_words limit due stands (Instruction i) s may d h l k = instruction_words i s h l k (decoded_small (first_word s) (next_word s) i (runs_decoded s i d.1))
 kind_words limit due stands (Faulted inst fault) s may d h l k = setting tt (omega arith)
 kind_words limit due stands (Entered e) s may d h l k = entering_words s may.0 e h may.2
 kind_words limit due stands (Interrupted c e) s may d h l k = interrupting_words s c e h may.3
@@ -374,8 +371,8 @@ done_words g r rs plan past h =
     let s = state_after g rs in
     let event = event_after g rs in
     let comes = next_comes g.length (due_after rs) event s r past.1 in
-    let read = next_read g.length (due_after rs) event s r past.1 in
-    kind_words g.length (due_after rs) event r.kind s comes.1 read h (lines_after g rs plan past.0) (kept_after g rs past.0)
+    let turn = next_turn g.length (due_after rs) event s r past.1 in
+    kind_words g.length (due_after rs) event r.kind s comes.1 turn h (lines_after g rs plan past.0) (kept_after g rs past.0)
 
 pub words_after : (g : Given) (rs : List Record) → HasBytes g.image → IsPlan g.plan → IsPast g rs → HasWords (state_after g rs)
 words_after g [] image plan past = boot_words g.image image
