@@ -8,7 +8,7 @@ use Rattle.i9_model.specs.declared.interrupts.TheConstants.{FIRST_DMA_LINE}
 use Rattle.i9_model.specs.declared.interrupts.Cause.{Cause}
 use Rattle.i9_model.specs.declared.interrupts.Cause.TheVariants as causes
 use Rattle.i9_model.specs.declared.event.Event.{Event}
-use Rattle.i9_model.specs.declared.event.Event.TheVariants.{Pin, Low, High, Nmi, Dma, Feed, Show}
+use Rattle.i9_model.specs.declared.event.Event.TheVariants.{Low, High, Nmi, Dma, Feed}
 use Rattle.i9_model.specs.declared.event.Timed.{Timed}
 use Rattle.i9_model.specs.ScheduleText.{first_version, IsOfVersion, AreOfVersion}
 use Rattle.i9_model.specs.State as states
@@ -33,13 +33,11 @@ unit_high s c given h = (h, posted_at_end (is_last (s.dma.channels c) && posts_a
     posted_at_end false = h
 
 event_high : (s : State) (e : Event) → IsOfVersion first_version e → s.interrupts.low ≡ 0 → IsByEvent (λ u. u.interrupts.low ≡ 0) s e
-event_high s (Pin x) of h = h
 event_high s (Low x) of h = absurd (cc of)
 event_high s (High x) of h = absurd (cc of)
-event_high s Nmi of h = h
 event_high s (Dma c) of h = unit_high s c None h
 event_high s (Feed c bytes) of h = unit_high s c (Some bytes.items) h
-event_high s (Show a n) of h = h
+event_high s _ of h = h
 
 cleared_high : (c : Cause) (i : Interrupts) (d : states.Dma) → AreHigh i d → AreHigh (cleared c i) d
 cleared_high causes.Nmi i d h = h

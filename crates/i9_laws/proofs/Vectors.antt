@@ -1,5 +1,5 @@
 -- An interrupt that is chosen has a vector below 256, and so a priority below 32.
-use Rattle.std.proofs.Common.{◌≡◌, ℕ, ◌+◌, ◌-◌, ◌*◌, ◌/◌, ◌%◌, ◌^◌, ◌<◌, Bool, true, false, cond, List, [], ◌∷◌, ◌++◌, map, find, Some, Ok, subst, ap, ◌∙◌, arith, bit_and}
+use Rattle.std.proofs.Common.{◌≡◌, ℕ, ◌+◌, ◌-◌, ◌*◌, ◌/◌, ◌%◌, ◌^◌, ◌<◌, Bool, true, false, cond, List, [], ◌∷◌, map, find, Some, Ok, subst, ap, ◌∙◌, arith, bit_and}
 use Rattle.std.specs.Prelude.{◌&&◌, ◌==◌, filter, flat_map}
 use Rattle.std.specs.List.{AllByRecursion, range_with_len}
 use Rattle.std.proofs.lemmas.Nat.{and_mod, and_mask, and_shr}
@@ -13,15 +13,12 @@ use Rattle.i9_model.specs.Interrupts.{vector_priority, passes, line_vector, belo
 use Rattle.i9_model.specs.Before.{choice_in}
 use Rattle.i9_model.proofs.CallLaws.{unless_ok}
 use Rattle.i9_laws.specs.Kept.{IsWithin}
+use Rattle.i9_laws.proofs.StoredWords.{all_append}
 
 -- ---- lists
 
 abbrev AreSmall : List Chosen → Type 0
 AreSmall cs = AllByRecursion (λ c. c.vector < 256) cs
-
-small_append : (xs ys : List Chosen) → AreSmall xs → AreSmall ys → AreSmall (xs ++ ys)
-small_append [] ys one two = two
-small_append (x ∷ xs) ys one two = (one.0, small_append xs ys one.1 two)
 
 -- numbers below a limit
 abbrev AreUnder : ℕ → List ℕ → Type 0
@@ -29,7 +26,7 @@ AreUnder n vs = AllByRecursion (λ v. v < n) vs
 
 small_parts : (f : ℕ → List Chosen) (n : ℕ) (vs : List ℕ) → ((v : ℕ) → v < n → AreSmall (f v)) → AreUnder n vs → AreSmall (flat_map f vs)
 small_parts f n [] each under = tt
-small_parts f n (v ∷ vs) each under = small_append (f v) (flat_map f vs) (each v under.0) (small_parts f n vs each under.1)
+small_parts f n (v ∷ vs) each under = all_append (λ c. c.vector < 256) (f v) (flat_map f vs) (each v under.0) (small_parts f n vs each under.1)
 
 -- numbers downwards are below the number above them
 under_below : (top : ℕ) (js : List ℕ) → 0 < top → AreUnder top (map (λ j. top - 1 - j) js)
@@ -56,7 +53,7 @@ soft_small (v ∷ vs) under = (under.0, soft_small vs under.1)
 priority_small : (maps : List ℕ) (p : ℕ) → p < 32 → AreSmall (choices_at maps p)
 priority_small maps p h =
     let vs = vectors_under p h in
-    small_append (flat_map (lines_with maps) (vectors_of p)) (map (choice Soft) (vectors_of p))
+    all_append (λ c. c.vector < 256) (flat_map (lines_with maps) (vectors_of p)) (map (choice Soft) (vectors_of p))
     (small_parts (lines_with maps) 256 (vectors_of p) (λ v less. lines_small v (filter (λ k. line_vector maps k == v) (range_with_len 0 LINES)) less) vs)
     (soft_small (vectors_of p) vs)
 

@@ -33,7 +33,7 @@ use Rattle.i9_model.specs.Branches.{asks, question_of, is_taken}
 use Rattle.i9_model.specs.Calls.{popped}
 use Rattle.i9_model.specs.Controls.{Control, KeepsControls, Restarts, LoadsGroup, controlled}
 use Rattle.i9_model.specs.Tables.{group_words}
-use Rattle.i9_model.specs.Step.{Move, Stays, Saves, Action, saved_local, saved_locals, pushing, call_action, calls_action, ret_action, first_word, next_word, loaded, moving, merged, atomic, atomic_address, following, answer_in, destination, values_of, branching, resulting, Message, AsksNothing, AsksCheck, AsksInterrupt, AsksRestart, AsksGroup, asked_message, message_action, push_sets, system_call, entering, action_by_name, action_by, action_of, moved, acted}
+use Rattle.i9_model.specs.Step.{Move, Stays, Saves, Action, saved_local, saved_locals, pushing, call_action, calls_action, ret_action, first_word, next_word, loaded, moving, merged, atomic, atomic_address, following, answer_in, destination, values_of, branching, resulting, Message, AsksRestart, asked_message, message_action, push_sets, system_call, entering, action_by_name, action_by, action_of, moved, acted}
 use Rattle.i9_model.specs.declared.run.Due.{Due}
 use Rattle.i9_model.specs.declared.interrupts.TheConstants.{LINE_MASK}
 use Rattle.i9_model.specs.declared.dma.TheConstants.{COMMAND_MASK}
@@ -53,7 +53,7 @@ use Rattle.i9_laws.proofs.KeptBits.{IsKept, kept_after}
 use Rattle.i9_laws.proofs.KeptLines.{HasLines, lines_after}
 use Rattle.i9_laws.proofs.BytesAfter.{done_stores, moved_bytes, image_bytes, boot_bytes}
 use Rattle.i9_laws.proofs.Decoded.{IsSmall, HasSmall, decoded_small, runs_decoded, IsTurn, next_turn}
-use Rattle.i9_laws.proofs.StoredWords.{ArePut, put_append, put_pairs, below_map, written_below, half_below, word_below, words_below}
+use Rattle.i9_laws.proofs.StoredWords.{ArePut, all_append, put_pairs, below_map, written_below, half_below, word_below, words_below}
 use Rattle.i9_laws.proofs.ResultWords.{AreWords, either_word, results_words}
 
 -- registers and the instruction address are words, and bytes are bytes, soft ones as they are read too
@@ -142,7 +142,7 @@ assigned_words (Sfr k) vs h = tt
 
 frame_words : (locals : List ℕ) (fp : ℕ) → AreWords locals → IsWord fp → ArePut (2 ^ 32) (frame_sets locals fp)
 frame_words locals fp h k =
-    put_append (2 ^ 32) (pairs_at (λ r. r) 0 locals) ((FP, fp) ∷ []) (put_pairs (2 ^ 32) (λ r. r) 0 locals h) (k, tt)
+    all_append (λ p. p.1 < 2 ^ 32) (pairs_at (λ r. r) 0 locals) ((FP, fp) ∷ []) (put_pairs (2 ^ 32) (λ r. r) 0 locals h) (k, tt)
 
 -- ---- loads and stores
 
@@ -226,12 +226,9 @@ atomic_words i s marked change h =
     setting (one_set i.c (word_in (legible s) a) (word_below (legible s) a (legible_bytes s h))) (behind_word i s)
 
 message_words : (m : Message) (i : Inst) (s : State) → HasWords s → HasLines s → HasSmall i → DoesWords (message_action m i s)
-message_words AsksNothing i s h l small = setting tt (behind_word i s)
-message_words AsksCheck i s h l small = setting tt (behind_word i s)
-message_words AsksInterrupt i s h l small = setting tt (behind_word i s)
 message_words AsksRestart i s h l small =
     record { registers = tt; saves = tt; starts = value_word s i.b h l small.b; next = behind_word i s }
-message_words AsksGroup i s h l small = record { registers = tt; saves = tt; starts = tt; next = behind_word i s }
+message_words _ i s h l small = record { registers = tt; saves = tt; starts = tt; next = behind_word i s }
 
 -- a call to an address
 call_words : (i : Inst) (s : State) (to : ℕ) → HasWords s → IsWord to → DoesWords (call_action i s to)
@@ -398,4 +395,4 @@ pub parts_bytes : (ps : List Part) → AreParts ps → HasBytes (pairs_of ps)
 unfolding pairs_of
 parts_bytes [] h = tt
 parts_bytes (p ∷ ps) h =
-    put_append 256 (pairs_of_part p) (pairs_of ps) (put_pairs 256 wrapped p.address p.bytes h.0.bytes) (parts_bytes ps h.1)
+    all_append (λ p. p.1 < 256) (pairs_of_part p) (pairs_of ps) (put_pairs 256 wrapped p.address p.bytes h.0.bytes) (parts_bytes ps h.1)
