@@ -8,7 +8,7 @@ use Rattle.i9_model.specs.declared.interrupts.TheConstants.{FIRST_DMA_LINE}
 use Rattle.i9_model.specs.declared.interrupts.Cause.{Cause}
 use Rattle.i9_model.specs.declared.interrupts.Cause.TheVariants as causes
 use Rattle.i9_model.specs.declared.event.Event.{Event}
-use Rattle.i9_model.specs.declared.event.Event.TheVariants.{Low, High, Nmi, Dma, Feed}
+use Rattle.i9_model.specs.declared.event.Event.TheVariants.{Low, High, Dma, Feed}
 use Rattle.i9_model.specs.declared.event.Timed.{Timed}
 use Rattle.i9_model.specs.ScheduleText.{first_version, IsOfVersion, AreOfVersion}
 use Rattle.i9_model.specs.State as states

@@ -47,7 +47,6 @@ pub record AreKeeping (P : Interrupts → states.Dma → Type 0) (Fits : Event �
   pub events : (s : State) (e : Event) → Fits e → P s.interrupts s.dma → IsByEvent (λ u. P u.interrupts u.dma) s e
 
 module _ (P : Interrupts → states.Dma → Type 0) (Fits : Event → Type 0) (keeping : AreKeeping P Fits) where
-
   abbrev Has : State → Type 0
   Has s = P s.interrupts s.dma
 

@@ -1,9 +1,9 @@
 -- A return undoes the call whose frame is the first live one.
-use Rattle.std.proofs.Common.{◌≡◌, ◌≢◌, ℕ, zero, suc, ◌+◌, ◌%◌, ◌<◌, ◌≤◌, Bool, true, false, cond, List, [], ◌∷◌, ◌++◌, get_or, Option, Some, None, refl, sym, ap, ◌∙◌, subst, arith, bit_and}
+use Rattle.std.proofs.Common.{◌≡◌, ◌≢◌, ℕ, ◌+◌, ◌%◌, ◌<◌, ◌≤◌, Bool, true, false, cond, List, [], ◌∷◌, ◌++◌, get_or, Option, Some, None, refl, sym, ap, ◌∙◌, subst, arith, bit_and}
 use Rattle.std.specs.Prelude.{IsTrue, ◌==◌, ◌&&◌, not}
 use Rattle.std.proofs.lemmas.Bool.{ne_eqb, eqb-true}
 use Rattle.std.proofs.lemmas.List.FromFn.{get_or-map-range_with_len}
-use Rattle.i9_laws.proofs.Undoing.{either}
+use Rattle.i9_laws.proofs.Undoing.{either, left_controls}
 use Rattle.i9_isa.specs.declared.op.Op.{Op}
 use Rattle.i9_isa.specs.declared.op.Op.TheVariants.{Calls, Ret}
 use Rattle.i9_isa.specs.declared.inst.Inst.{Inst}
@@ -18,7 +18,7 @@ use Rattle.i9_model.specs.State.{State, Frames, frame_sets}
 use Rattle.i9_model.specs.Frames.{rounded_down}
 use Rattle.i9_model.specs.Hazards.{port_hazard, frame_hazard, return_hazard}
 use Rattle.i9_model.specs.Access.{access_by_name, access_by, hazard_in, hazard_of}
-use Rattle.i9_model.specs.Calls.{in_supervisor_mode, trace_enable, without_supervisor, call_type, return_type, takes_record, leaves_supervisor, saved_pc, controls_hazard, returned_pc, returned_ac, ret_hazard, popped}
+use Rattle.i9_model.specs.Calls.{in_supervisor_mode, trace_enable, without_supervisor, call_type, return_type, saved_pc, controls_hazard, returned_pc, returned_ac, ret_hazard, popped}
 use Rattle.i9_model.specs.Step.{Move, Action, saved_local, saved_locals, system_call, ret_action, action_by_name, action_by, action_of, moved, flagged, acted, counted}
 use Rattle.i9_model.specs.declared.trace.Trace.{Trace}
 use Rattle.i9_model.specs.Traced.{traced_action}
@@ -97,17 +97,6 @@ first_live f pfp fp save rest live none =
     by_test a false e h = absurd cc
 
 -- ---- the controls
-
--- types 010 and 011 leave supervisor mode, and no record is read
-left_controls : (pc w ac x t : ℕ) (b : Bool) → t < 2
-    → (cond (not b) pc (cond (takes_record (2 + t)) w (cond (leaves_supervisor (2 + t)) (without_supervisor pc ((2 + t) % 2)) pc))
-    ≡ cond b (without_supervisor pc t) pc)
-    × (cond (takes_record (2 + t)) x ac ≡ ac)
-left_controls pc w ac x zero true h = (refl, refl)
-left_controls pc w ac x zero false h = (refl, refl)
-left_controls pc w ac x (suc zero) true h = (refl, refl)
-left_controls pc w ac x (suc zero) false h = (refl, refl)
-left_controls pc w ac x (suc (suc t)) b h = absurd (omega (arith, h))
 
 -- the controls after a return of a type in the state u
 abbrev Leaves : State → ℕ → ℕ → ℕ → Type 0
