@@ -40,7 +40,7 @@ use Rattle.i9_model.proofs.ControlLaws.{by_group, flagged-others}
 use Rattle.i9_past.proofs.Comes.{MayCome, next_comes}
 use Rattle.i9_laws.specs.Kept.{HasBytes}
 use Rattle.i9_laws.proofs.EventCases.{event_range, IsByUnit, IsByEvent, received_as}
-use Rattle.i9_laws.proofs.StoredWords.{ArePut, AreBelow, all_append, put_pairs, below_map, below_take, stored_below, word_bytes_below, half_bytes_below, words_bytes_below, with_words_below}
+use Rattle.i9_laws.proofs.StoredWords.{ArePut, AreBelow, all_append, put_pairs, all_map, below_take, stored_below, word_bytes_below, half_bytes_below, words_bytes_below, with_words_below}
 
 abbrev pub AreBytes : Memory → Type 0
 AreBytes m = (x : ℕ) → m.bytes x < 256
@@ -140,7 +140,7 @@ AreGiven (Some given) = (k : ℕ) → slice_index given k < 256
 
 moved_stores : (m : Memory) (c : Channel) (given : Option (List ℕ)) → AreGiven given → AreBytes m → AreBelow 256 (unit_bytes m c given)
 unfolding unit_bytes
-moved_stores m c None bytes h = below_map 256 m.bytes (places c.source (unit_length c)) h
+moved_stores m c None bytes h = all_map (λ v. v < 256) m.bytes (places c.source (unit_length c)) h
 moved_stores m c (Some given) bytes h = below_take 256 (unit_length c) given bytes
 
 unit_stores : (s : State) (c : ℕ) (given : Option (List ℕ)) → AreGiven given → AreBytes s.memory → IsByUnit ReceivesBytes s c given

@@ -24,9 +24,9 @@ pub put_pairs : (limit : ℕ) (place : ℕ → ℕ) (n : ℕ) (vs : List ℕ) �
 put_pairs limit place n [] h = tt
 put_pairs limit place n (v ∷ vs) h = (h.0, put_pairs limit place (n + 1) vs h.1)
 
-pub below_map : (limit : ℕ) (f : ℕ → ℕ) (xs : List ℕ) → ((x : ℕ) → f x < limit) → AreBelow limit (map f xs)
-below_map limit f [] h = tt
-below_map limit f (x ∷ xs) h = (h x, below_map limit f xs h)
+pub all_map : {A B : Type 0} (P : B → Type 0) (f : A → B) (xs : List A) → ((x : A) → P (f x)) → AllByRecursion P (map f xs)
+all_map P f [] h = tt
+all_map P f (x ∷ xs) h = (h x, all_map P f xs h)
 
 pub below_take : (limit n : ℕ) (vs : List ℕ) → ((k : ℕ) → slice_index vs k < limit) → AreBelow limit (take n vs)
 below_take limit zero vs h = tt
@@ -116,4 +116,4 @@ word_below m a h =
 pub words_below : (m : Memory) (a n : ℕ) → ((x : ℕ) → m.bytes x < 256) → AreBelow (2 ^ 32) (words_in m a n)
 words_below m a n h =
     let word = λ (k : ℕ). word_in m (wrapped (a + 4 * k)) in
-    below_map (2 ^ 32) word (range_with_len 0 n) (λ k. word_below m (wrapped (a + 4 * k)) h)
+    all_map (λ v. v < 2 ^ 32) word (range_with_len 0 n) (λ k. word_below m (wrapped (a + 4 * k)) h)

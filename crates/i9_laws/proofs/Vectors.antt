@@ -13,7 +13,7 @@ use Rattle.i9_model.specs.Interrupts.{vector_priority, passes, line_vector, belo
 use Rattle.i9_model.specs.Before.{choice_in}
 use Rattle.i9_model.proofs.CallLaws.{unless_ok}
 use Rattle.i9_laws.specs.Kept.{IsWithin}
-use Rattle.i9_laws.proofs.StoredWords.{all_append}
+use Rattle.i9_laws.proofs.StoredWords.{all_append, all_map}
 
 -- ---- lists
 
@@ -28,23 +28,10 @@ small_parts : (f : ℕ → List Chosen) (n : ℕ) (vs : List ℕ) → ((v : ℕ)
 small_parts f n [] each under = tt
 small_parts f n (v ∷ vs) each under = all_append (λ c. c.vector < 256) (f v) (flat_map f vs) (each v under.0) (small_parts f n vs each under.1)
 
--- numbers downwards are below the number above them
-under_below : (top : ℕ) (js : List ℕ) → 0 < top → AreUnder top (map (λ j. top - 1 - j) js)
-under_below top [] some = tt
-under_below top (j ∷ js) some = (omega (arith, some), under_below top js some)
-
 vectors_under : (p : ℕ) → p < 32 → AreUnder 256 (vectors_of p)
-vectors_under p h = wider (below (8 * p + 8) 8) (under_below (8 * p + 8) (range_with_len 0 8) (omega arith))
-  where
-    wider : (vs : List ℕ) → AreUnder (8 * p + 8) vs → AreUnder 256 vs
-    wider [] under = tt
-    wider (v ∷ vs) under = let less = under.0 in (omega (arith, less, h), wider vs under.1)
+vectors_under p h = all_map (λ v. v < 256) (λ j. 8 * p + 8 - 1 - j) (range_with_len 0 8) (λ j. omega (arith, h))
 
 -- ---- what may be chosen
-
-lines_small : (v : ℕ) (ks : List ℕ) → v < 256 → AreSmall (map (λ k. choice (Line k) v) ks)
-lines_small v [] h = tt
-lines_small v (k ∷ ks) h = (h, lines_small v ks h)
 
 soft_small : (vs : List ℕ) → AreUnder 256 vs → AreSmall (map (choice Soft) vs)
 soft_small [] under = tt
@@ -54,13 +41,13 @@ priority_small : (maps : List ℕ) (p : ℕ) → p < 32 → AreSmall (choices_at
 priority_small maps p h =
     let vs = vectors_under p h in
     all_append (λ c. c.vector < 256) (flat_map (lines_with maps) (vectors_of p)) (map (choice Soft) (vectors_of p))
-    (small_parts (lines_with maps) 256 (vectors_of p) (λ v less. lines_small v (filter (λ k. line_vector maps k == v) (range_with_len 0 LINES)) less) vs)
+    (small_parts (lines_with maps) 256 (vectors_of p) (λ v less. all_map (λ c. c.vector < 256) (λ k. choice (Line k) v) (filter (λ k. line_vector maps k == v) (range_with_len 0 LINES)) (λ k. less)) vs)
     (soft_small (vectors_of p) vs)
 
 choices_small : (maps : List ℕ) → AreSmall (choices maps)
 choices_small maps =
     small_parts (choices_at maps) 32 (below (HIGHEST_PRIORITY + 1) HIGHEST_PRIORITY) (priority_small maps)
-    (under_below (HIGHEST_PRIORITY + 1) (range_with_len 0 HIGHEST_PRIORITY) (omega arith))
+    (all_map (λ p. p < 32) (λ j. HIGHEST_PRIORITY + 1 - 1 - j) (range_with_len 0 HIGHEST_PRIORITY) (λ j. omega arith))
 
 -- ---- what is chosen
 

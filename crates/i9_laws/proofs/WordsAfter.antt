@@ -53,7 +53,7 @@ use Rattle.i9_laws.proofs.KeptBits.{IsKept, kept_after}
 use Rattle.i9_laws.proofs.KeptLines.{HasLines, lines_after}
 use Rattle.i9_laws.proofs.BytesAfter.{done_stores, moved_bytes, image_bytes, boot_bytes}
 use Rattle.i9_laws.proofs.Decoded.{IsSmall, HasSmall, decoded_small, runs_decoded, IsTurn, next_turn}
-use Rattle.i9_laws.proofs.StoredWords.{ArePut, all_append, put_pairs, below_map, written_below, half_below, word_below, words_below}
+use Rattle.i9_laws.proofs.StoredWords.{ArePut, all_append, put_pairs, all_map, written_below, half_below, word_below, words_below}
 use Rattle.i9_laws.proofs.ResultWords.{AreWords, either_word, results_words}
 
 -- registers and the instruction address are words, and bytes are bytes, soft ones as they are read too
@@ -129,7 +129,7 @@ higher_is_word s (Lit n) k h = omega arith
 higher_is_word s (Sfr j) k h = omega arith
 
 sources_words : (s : State) (o : Operand) (n : ℕ) → HasWords s → HasLines s → IsSmall o → AreWords (source_words s o n)
-sources_words s o n h l small = below_map (2 ^ 32) (word_of s o) (range_with_len 0 n) (λ k. by_place k (k == 0))
+sources_words s o n h l small = all_map IsWord (word_of s o) (range_with_len 0 n) (λ k. by_place k (k == 0))
   where
     by_place : (k : ℕ) (b : Bool) → IsWord (cond b (value s o) (higher_word s o k))
     by_place k true = value_word s o h l small
@@ -188,7 +188,7 @@ sets_pushed : (p : Push) → IsPushed p → ArePut (2 ^ 32) (push_sets p)
 sets_pushed p h = frame_words (p.pfp ∷ p.sp ∷ replicate 14 0) p.frame (h.pfp, (h.sp, zero_words 14)) h.frame
 
 local_words : (s : State) (back : ℕ) → HasWords s → IsWord back → AreWords (saved_locals s back)
-local_words s back h k = below_map (2 ^ 32) (saved_local s back) (range_with_len 0 LOCALS) (λ r. by_register r (r == RIP))
+local_words s back h k = all_map IsWord (saved_local s back) (range_with_len 0 LOCALS) (λ r. by_register r (r == RIP))
   where
     by_register : (r : ℕ) (b : Bool) → IsWord (cond b back (s.regs r))
     by_register r true = k
