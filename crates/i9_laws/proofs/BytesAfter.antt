@@ -94,7 +94,8 @@ clearing_stores : (c : Cause) (m : Memory) (table v : ℕ) → AreBytes m → Ar
 unfolding taken_writes
 clearing_stores Soft m table v h =
     let at = pending_place table v in
-    all_append (λ p. p.1 < 256) (priority_writes m table v) ((at, left_pending m table v) ∷ []) (priority_stores m table v h)
+    all_append (λ p. p.1 < 256) (priority_writes m table v) ((at, left_pending m table v) ∷ [])
+    (priority_stores m table v h)
     (without_bit_byte (m.bytes at) (v % 8) (h at), tt)
 clearing_stores _ m table v h = tt
 

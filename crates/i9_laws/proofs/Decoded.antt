@@ -73,11 +73,13 @@ IsTurn stands s (Instruction i) = (stands ≡ None) × (stands_at s ≡ Runs i)
 IsTurn stands s (Faulted inst fault) = stands ≡ None
 IsTurn stands s _ = Unit {0}
 
-turn_by : (stands : Option Event) (s : State) (k : Kind) (r : Record) → IsTurn stands s k → Does (record_of k s) ≡ Does r
+turn_by : (stands : Option Event) (s : State) (k : Kind) (r : Record) → IsTurn stands s k
+    → Does (record_of k s) ≡ Does r
     → IsTurn stands s r.kind
 turn_by stands s k r d e = let same : record_of k s ≡ r = cc in subst (λ (q : Record). IsTurn stands s q.kind) same d
 
-standing_turn : (s : State) (x : Standing) (r : Record) → stands_at s ≡ x → next_by_standing s x ≡ Does r → IsTurn None s r.kind
+standing_turn : (s : State) (x : Standing) (r : Record) → stands_at s ≡ x → next_by_standing s x ≡ Does r
+    → IsTurn None s r.kind
 standing_turn s (Meets a) r is e = absurd cc
 standing_turn s (Refused number) r is e = turn_by None s (Faulted None (fault_at s number)) r refl e
 standing_turn s (Faults i number) r is e = turn_by None s (Faulted (Some i) (fault_at s number)) r refl e
@@ -103,19 +105,22 @@ interrupt_turn : (stands : Option Event) (s : State) (c : Chosen) (o : Result En
 interrupt_turn stands s c (Ok x) r e = turn_by stands s (Interrupted c x) r tt e
 interrupt_turn stands s c (Err a) r e = absurd cc
 
-choice_turn : (stands : Option Event) (s : State) (o : Result (Option Chosen) ℕ) (r : Record) → next_by_choice stands s o ≡ Does r
+choice_turn : (stands : Option Event) (s : State) (o : Result (Option Chosen) ℕ) (r : Record)
+    → next_by_choice stands s o ≡ Does r
     → IsTurn stands s r.kind
 choice_turn stands s (Ok (Some c)) r e = interrupt_turn stands s c (interrupt_in s c) r e
 choice_turn stands s (Ok None) r e = event_turn stands s r e
 choice_turn stands s (Err a) r e = absurd cc
 
-pub next_turn : (limit : ℕ) (due : Due) (stands : Option Event) (s : State) (r : Record) → next_in limit due stands s ≡ Does r
+pub next_turn : (limit : ℕ) (due : Due) (stands : Option Event) (s : State) (r : Record)
+    → next_in limit due stands s ≡ Does r
     → IsTurn stands s r.kind
 next_turn limit (dues.End f) stands s r e = absurd cc
 next_turn limit (dues.Entry fault) stands s r e = entry_turn stands s (entry_in s fault) r e
 next_turn limit dues.Nothing stands s r e = by_length (eqb s.count limit) e
   where
-    by_length : (b : Bool) → cond b (Ends (finish Limit)) (next_by_choice stands s (choice_in s)) ≡ Does r → IsTurn stands s r.kind
+    by_length : (b : Bool) → cond b (Ends (finish Limit)) (next_by_choice stands s (choice_in s)) ≡ Does r
+        → IsTurn stands s r.kind
     by_length true h = absurd cc
     by_length false h = choice_turn stands s (choice_in s) r h
 

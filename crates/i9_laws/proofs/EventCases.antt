@@ -17,14 +17,16 @@ use Rattle.i9_agree.proofs.Units.{unit_moved}
 -- ---- ranges
 
 -- an event at a place of a plan has what all of them have, and the place is below the length
-pub planned : (P : Timed → Type 0) (plan : List Timed) (place : ℕ) (t : Timed) → AllByRecursion P plan → slice_get plan place ≡ Some t
+pub planned : (P : Timed → Type 0) (plan : List Timed) (place : ℕ) (t : Timed) → AllByRecursion P plan
+    → slice_get plan place ≡ Some t
     → P t × (place < length plan)
 planned P [] place t all is = absurd cc
 planned P (x ∷ plan) zero t all is = let same : x ≡ t = cc in (subst P same all.0, omega arith)
 planned P (x ∷ plan) (suc place) t all is = let p = planned P plan place t all.1 is in (p.0, omega (arith, p.1))
 
 -- so has one that stands
-pub event_planned : (P : Timed → Type 0) (g : Given) (rs : List Record) (e : Event) → AllByRecursion P g.plan → event_after g rs ≡ Some e
+pub event_planned : (P : Timed → Type 0) (g : Given) (rs : List Record) (e : Event) → AllByRecursion P g.plan
+    → event_after g rs ≡ Some e
     → (t : Timed) × P t × (t.event ≡ e)
 event_planned P g rs e all is =
     let place = length (reached_after rs) in
@@ -33,7 +35,8 @@ event_planned P g rs e all is =
 
 -- and it is in its range
 pub event_range : (g : Given) (rs : List Record) (e : Event) → IsPlan g.plan → event_after g rs ≡ Some e → IsInRange e
-event_range g rs e plan is = let there = event_planned IsTimedInRange g rs e plan.each is in subst IsInRange there.2 there.1.event
+event_range g rs e plan is =
+    let there = event_planned IsTimedInRange g rs e plan.each is in subst IsInRange there.2 there.1.event
 
 -- ---- cases
 

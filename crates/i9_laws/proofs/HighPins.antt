@@ -25,14 +25,16 @@ use Rattle.i9_laws.proofs.InterruptsAlong.{AreKeeping, interrupts_after}
 abbrev AreHigh : Interrupts → states.Dma → Type 0
 AreHigh i d = i.low ≡ 0
 
-unit_high : (s : State) (c : ℕ) (given : Option (List ℕ)) → s.interrupts.low ≡ 0 → IsByUnit (λ u. u.interrupts.low ≡ 0) s c given
+unit_high : (s : State) (c : ℕ) (given : Option (List ℕ)) → s.interrupts.low ≡ 0
+    → IsByUnit (λ u. u.interrupts.low ≡ 0) s c given
 unit_high s c given h = (h, posted_at_end (is_last (s.dma.channels c) && posts_at_end (s.dma.channels c)))
   where
     posted_at_end : (b : Bool) → (cond b (posted s.interrupts (FIRST_DMA_LINE + c)) s.interrupts).low ≡ 0
     posted_at_end true = h
     posted_at_end false = h
 
-event_high : (s : State) (e : Event) → IsOfVersion first_version e → s.interrupts.low ≡ 0 → IsByEvent (λ u. u.interrupts.low ≡ 0) s e
+event_high : (s : State) (e : Event) → IsOfVersion first_version e → s.interrupts.low ≡ 0
+    → IsByEvent (λ u. u.interrupts.low ≡ 0) s e
 event_high s (Low x) of h = absurd (cc of)
 event_high s (High x) of h = absurd (cc of)
 event_high s (Dma c) of h = unit_high s c None h

@@ -41,7 +41,8 @@ pub record AreKeeping (P : Interrupts → states.Dma → Type 0) (Fits : Event �
   pub command : (v : ℕ) (i : Interrupts) (d : states.Dma) → P i d → P i (with_command d v)
   pub sets : (c : ℕ) (channel : Channel) (i : Interrupts) (d : states.Dma) → P i d → P i (set_up d c channel)
   pub clears : (c : Cause) (i : Interrupts) (d : states.Dma) → P i d → P (cleared c i) d
-  pub maps : (maps : List ℕ) (icon : ℕ) (i : Interrupts) (d : states.Dma) → P i d → P (record i { maps = maps; icon = icon }) d
+  pub maps : (maps : List ℕ) (icon : ℕ) (i : Interrupts) (d : states.Dma) → P i d
+      → P (record i { maps = maps; icon = icon }) d
   pub starts : (u : Setup) (i : Interrupts) (d : states.Dma) → P i d → P (start_interrupts u i.low) no_dma
   pub boots : (u : Setup) → P (start_interrupts u 0) no_dma
   pub events : (s : State) (e : Event) → Fits e → P s.interrupts s.dma → IsByEvent (λ u. P u.interrupts u.dma) s e
@@ -55,7 +56,8 @@ module _ (P : Interrupts → states.Dma → Type 0) (Fits : Event → Type 0) (k
 
   -- ---- an instruction
 
-  special_has : (a b : Bool) (v : ℕ) (i : Interrupts) (d : states.Dma) → P i d → P (cond a (with_pending i v) (cond b (with_mask i v) i)) d
+  special_has : (a b : Bool) (v : ℕ) (i : Interrupts) (d : states.Dma) → P i d
+      → P (cond a (with_pending i v) (cond b (with_mask i v) i)) d
   special_has true b v i d h = keeping.pending v i d h
   special_has false true v i d h = keeping.mask v i d h
   special_has false false v i d h = h
@@ -65,18 +67,21 @@ module _ (P : Interrupts → states.Dma → Type 0) (Fits : Event → Type 0) (k
   command_has false v i d h = h
 
   -- a destination gets values
-  assigning_has : (o : Operand) (vs : List ℕ) (s : State) → Has s → P (interrupts_assigned o vs s.interrupts) (dma_assigned o vs s.dma)
+  assigning_has : (o : Operand) (vs : List ℕ) (s : State) → Has s
+      → P (interrupts_assigned o vs s.interrupts) (dma_assigned o vs s.dma)
   assigning_has (Reg r) vs s h = h
   assigning_has (Lit n) vs s h = h
   assigning_has (Sfr k) [] s h = h
   assigning_has (Sfr k) (v ∷ vs) s h =
-      special_has (k == 0) (k == 1) v s.interrupts (with_dma_special k v s.dma) (command_has (k == 2) v s.interrupts s.dma h)
+      special_has (k == 0) (k == 1) v s.interrupts (with_dma_special k v s.dma)
+      (command_has (k == 2) v s.interrupts s.dma h)
 
   message_has : (m : Message) (i : Inst) (s : State) → Has s → Leaves (message_action m i s)
   message_has AsksNothing i s h = h
   message_has m i s h = h
 
-  other_has : (b : Bool) (i : Inst) (s : State) → Has s → Leaves (cond b (branching i s) (resulting i s (answer_in i s)))
+  other_has : (b : Bool) (i : Inst) (s : State) → Has s
+      → Leaves (cond b (branching i s) (resulting i s (answer_in i s)))
   other_has true i s h = h
   other_has false i s h = assigning_has (destination i) (values_of (answer_in i s)) s h
 
@@ -99,7 +104,8 @@ module _ (P : Interrupts → states.Dma → Type 0) (Fits : Event → Type 0) (k
   name_has Sysctl i s h = message_has (asked_message i s) i s h
   name_has op i s h = other_has (asks (question_of op)) i s h
 
-  moving_has : (d : Direction) (size : Size) (signed : Bool) (i : Inst) (s : State) → Has s → Leaves (moving d size signed i s)
+  moving_has : (d : Direction) (size : Size) (signed : Bool) (i : Inst) (s : State) → Has s
+      → Leaves (moving d size signed i s)
   moving_has Load size signed i s h = assigning_has i.c (loaded size signed (legible s) (address s i.ea)) s h
   moving_has Store size signed i s h = h
 
@@ -113,7 +119,8 @@ module _ (P : Interrupts → states.Dma → Type 0) (Fits : Event → Type 0) (k
 
   -- ---- what comes next, and the state after it
 
-  kind_has : (limit : ℕ) (due : Due) (stands : Option Event) (k : Kind) (s : State) → ((e : Event) → stands ≡ Some e → Fits e)
+  kind_has : (limit : ℕ) (due : Due) (stands : Option Event) (k : Kind) (s : State)
+      → ((e : Event) → stands ≡ Some e → Fits e)
       → MayCome limit due stands s k → Has s → Leaves (action_by_kind k s)
   kind_has limit due stands (Instruction i) s fits may h = instruction_has i s h
   kind_has limit due stands (Faulted inst fault) s fits may h = h
@@ -147,11 +154,13 @@ module _ (P : Interrupts → states.Dma → Type 0) (Fits : Event → Type 0) (k
   unfolding boot started
   boot_has image = keeping.boots (boot_setup (image_memory image))
 
-  pub interrupts_after : (g : Given) (rs : List Record) → ((qs : List Record) (e : Event) → event_after g qs ≡ Some e → Fits e)
+  pub interrupts_after : (g : Given) (rs : List Record)
+      → ((qs : List Record) (e : Event) → event_after g qs ≡ Some e → Fits e)
       → IsPast g rs → Has (state_after g rs)
   interrupts_after g [] fits past = boot_has g.image
   interrupts_after g (r ∷ rs) fits past =
       let s = state_after g rs in
       let comes = next_comes g.length (due_after rs) (event_after g rs) s r past.1 in
-      let leaves = kind_has g.length (due_after rs) (event_after g rs) r.kind s (fits rs) comes.1 (interrupts_after g rs fits past.0) in
+      let leaves = kind_has g.length (due_after rs) (event_after g rs) r.kind s (fits rs) comes.1
+      (interrupts_after g rs fits past.0) in
       subst (λ (q : Record). Has q.after) (sym comes.0) (acted_has s (action_by_kind r.kind s) leaves)

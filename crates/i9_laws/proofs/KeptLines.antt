@@ -77,7 +77,8 @@ ended_command true w c small h =
     masked_or COMMAND_MASK (without_bit w c) (2 ^ k) (without_command w c h) (channel_bit k (omega (arith, small)))
 ended_command false w c small h = h
 
-set_up_lines : (c : ℕ) (channel : Channel) (i : Interrupts) (d : states.Dma) → AreLines i d → AreLines i (set_up d c channel)
+set_up_lines : (c : ℕ) (channel : Channel) (i : Interrupts) (d : states.Dma) → AreLines i d
+    → AreLines i (set_up d c channel)
 unfolding set_up
 set_up_lines c channel i d h =
     let command = without_command (without_bit d.dmac c) (FIRST_ENDED_PLACE + c) (without_command d.dmac c h.command) in
@@ -127,4 +128,5 @@ keeping_lines = record {
 }
 
 pub lines_after : (g : Given) (rs : List Record) → IsPlan g.plan → IsPast g rs → HasLines (state_after g rs)
-lines_after g rs plan past = interrupts_after AreLines IsInRange keeping_lines g rs (λ qs e is. event_range g qs e plan is) past
+lines_after g rs plan past =
+    interrupts_after AreLines IsInRange keeping_lines g rs (λ qs e is. event_range g qs e plan is) past

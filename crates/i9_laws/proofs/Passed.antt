@@ -76,7 +76,8 @@ none_passed g (r ∷ rs) plan counted past =
     let s = state_after g rs in
     let place = length (reached_after rs) in
     let order = none_passed g rs plan counted past.0 in
-    let counts = kind_counts (event_after g rs) s r.kind (next_turn g.length (due_after rs) (event_after g rs) s r past.1) in
+    let counts = kind_counts (event_after g rs) s r.kind
+    (next_turn g.length (due_after rs) (event_after g rs) s r past.1) in
     let comes = next_comes g.length (due_after rs) (event_after g rs) s r past.1 in
     let count : r.after.count ≡ s.count + counts_of r.kind =
     ap (λ (q : Record). q.after.count) comes.0 ∙ ap (λ (n : ℕ). n + counts_of r.kind) (acted-count s (action_by_kind r.kind s)) in

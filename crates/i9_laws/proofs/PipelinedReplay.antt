@@ -42,8 +42,11 @@ Fits g rs = FitsTo g (reached_after rs) × (last_time 0 (reached_after rs) ≤ (
 same_fits : (g : Given) (rs : List Record) (r : Record) → Fits g rs → reached_after (r ∷ rs) ≡ reached_after rs
     → (state_after g rs).count ≤ r.after.count → Fits g (r ∷ rs)
 same_fits g rs r f same grows =
-    let last = f.1 in
-    (subst (FitsTo g) (sym same) f.0, subst (λ (ts : List Timed). last_time 0 ts ≤ r.after.count) (sym same) (omega (arith, last, grows)))
+    let last = f.1 in (
+      subst (FitsTo g) (sym same) f.0,
+      subst (λ (ts : List Timed). last_time 0 ts ≤ r.after.count) (sym same)
+          (omega (arith, last, grows)),
+    )
 
 -- the event that stands is one of the plan, at the place behind those that were reached
 stands : (g : Given) (rs : List Record) (e : Event) → IsPlan g.plan → event_ahead g (steps rs) ≡ Some e
@@ -55,12 +58,14 @@ stands g rs e plan at =
     let p = planned IsTimedInRange g.plan (length (reached_after past)) there.0 plan.each there.1 in (
       subst IsInRange there.2 p.0.event,
       subst (λ (qs : List Record). length (reached_after qs) < length g.plan) (records_of-steps rs) p.1,
-      λ version of. subst (IsOfVersion version) there.2 (planned (λ (t : Timed). IsOfVersion version t.event) g.plan (length (reached_after past)) there.0 of there.1).0,
+      λ version of. subst (IsOfVersion version) there.2
+          (planned (λ (t : Timed). IsOfVersion version t.event) g.plan (length (reached_after past)) there.0 of there.1).0,
     )
 
 -- and one more behind them, which stands
 push_fits : (g : Given) (rs : List Record) (e : Event) → IsPlan g.plan → g.length ≤ MAX_LENGTH → IsPipelinedPast g rs
-    → event_ahead g (steps rs) ≡ Some e → Fits g rs → FitsTo g (reached_after rs ++ timed_at (state_after g rs).count e ∷ [])
+    → event_ahead g (steps rs) ≡ Some e → Fits g rs
+    → FitsTo g (reached_after rs ++ timed_at (state_after g rs).count e ∷ [])
 push_fits g rs e plan short past at f =
     let ts = reached_after rs in
     let t = timed_at (state_after g rs).count e in
@@ -77,7 +82,8 @@ push_fits g rs e plan short past at f =
     }
 
 fits : (g : Given) (rs : List Record) → IsPlan g.plan → g.length ≤ MAX_LENGTH → IsPipelinedPast g rs → Fits g rs
-fits g [] plan short past = (record { each = tt; order = tt; few = omega arith; version = λ version of. tt }, omega arith)
+fits g [] plan short past =
+    (record { each = tt; order = tt; few = omega arith; version = λ version of. tt }, omega arith)
 fits g (r ∷ rs) plan short past =
     by_event (fits g rs plan short past.0) (event_ahead g (steps rs)) refl (sym (next_of_steps g rs) ∙ late_next g rs r past)
   where
@@ -92,7 +98,8 @@ fits g (r ∷ rs) plan short past =
               let grown = subst (λ (x : Record). reached_after (x ∷ rs) ≡ reached_after rs ++ t ∷ []) (does_is found.0 r (sym found.1 ∙ is)) found.2 in
               let more = push_fits g rs e plan short past.0 at before in
               let last = λ (ts : List Timed). last_time 0 ts ≤ r.after.count in
-              let before_it = subst (λ (n : ℕ). n ≤ r.after.count) (sym (last_time-push 0 (reached_after rs) t)) grows in
+              let before_it = subst (λ (n : ℕ). n ≤ r.after.count) (sym (last_time-push 0 (reached_after rs) t))
+              grows in
               (subst (FitsTo g) (sym grown) more, subst last (sym grown) before_it)
           | inr (inr ends) ↦ absurd (cc (sym ends.1 ∙ is))
         ]
@@ -113,7 +120,8 @@ end_fits g rs f plan short past ends = by_event (event_ahead g (steps rs)) refl 
         subst (λ (x : Option Event). FitsTo g (reached_after rs ++ reached_last count x)) (sym none)
         (fits_none g rs (fits g rs plan short past))
 
-    by_event : (o : Option Event) → event_ahead g (steps rs) ≡ o → next_with g o rs ≡ Ends f → FitsTo g (reached_in g rs f)
+    by_event : (o : Option Event) → event_ahead g (steps rs) ≡ o → next_with g o rs ≡ Ends f
+        → FitsTo g (reached_in g rs f)
     by_event None at is = silent ((heedful g).silent rs f is)
     by_event (Some e) at is = elim ((heedful g).heard rs e) [
       | inl same ↦ silent ((heedful g).silent rs f (sym same ∙ is))
@@ -130,10 +138,12 @@ run_fits : (g : Given) (rs : List Record) (f : Finish) → IsPlan g.plan → g.l
 run_fits g rs f plan short run = elim (run_cases g rs f run) [
   | inl plain ↦ end_fits g rs f plan short run.past (run_ends g rs f plain run).1
   | inr fault ↦
-      subst (λ (k : Finish). FitsTo g (reached_in g rs k)) (sym fault.1) (fits_none g rs (fits g rs plan short run.past))
+      subst (λ (k : Finish). FitsTo g (reached_in g rs k)) (sym fault.1)
+      (fits_none g rs (fits g rs plan short run.past))
 ]
 
-fit_plan : (g : Given) (rs : List Record) (f : Finish) → IsPlan g.plan → FitsTo g (reached_in g rs f) → IsPlan (reached_in g rs f)
+fit_plan : (g : Given) (rs : List Record) (f : Finish) → IsPlan g.plan → FitsTo g (reached_in g rs f)
+    → IsPlan (reached_in g rs f)
 fit_plan g rs f plan fit =
     let few = fit.few in
     let most = plan.few in

@@ -83,8 +83,10 @@ record_stands m n after a ws k same low free four h small stays =
     ∙ byte_of_words m a ws k j low (omega (arith, four, h)) l)
 
 -- so a state whose frame pointer is that of a push, and whose memory has the bytes of its record, has the controls
-controls_stand : (s t : State) (push : Push) (ws : List ℕ) → IsKept s → length ws ≡ 4 → get_or ws 0 0 ≡ s.pc → get_or ws 1 0 ≡ s.ac
-    → t.regs FP ≡ push.frame → t.memory.mcon ≡ s.memory.mcon → port_hazard (record_address push.frame) RECORD_SIZE ≡ None
+controls_stand : (s t : State) (push : Push) (ws : List ℕ) → IsKept s → length ws ≡ 4 → get_or ws 0 0 ≡ s.pc
+    → get_or ws 1 0 ≡ s.ac
+    → t.regs FP ≡ push.frame → t.memory.mcon ≡ s.memory.mcon
+    → port_hazard (record_address push.frame) RECORD_SIZE ≡ None
     → ((x : ℕ) → in_bytes (record_address push.frame) RECORD_SIZE x ≡ true
     → t.memory.bytes x ≡ stored (with_words s.memory push.save (saved_locals s s.ip)).bytes (record_writes s.memory push ws) x)
     → HasControls s t
@@ -97,7 +99,9 @@ controls_stand s t push ws kept four pc ac fp regions free stays =
     let pc_word = within_word PC_MASK s.pc (omega arith) kept.pc in
     let ac_word = within_word AC_MASK s.ac (omega arith) kept.ac in
     record {
-      pc = ap (saved_pc t.memory) fp ∙ sym (ap (word_in t.memory) start) ∙ stands 0 (omega arith) (omega (arith, pc, pc_word)) ∙ pc;
+      pc =
+          ap (saved_pc t.memory) fp ∙ sym (ap (word_in t.memory) start) ∙ stands 0 (omega arith)
+          (omega (arith, pc, pc_word)) ∙ pc;
       ac = ap (saved_ac t.memory) fp ∙ stands 1 (omega arith) (omega (arith, ac, ac_word)) ∙ ac;
     }
 
@@ -110,7 +114,8 @@ entering_writes s fault e kept ok =
     let regions = words_mcon s.memory push.save (saved_locals s s.ip) in
     let fp : (acted s (entering (entry_of fault s.pc s.ac made.0) s)).regs FP ≡ push.frame =
     frame_pointer s.regs (push.pfp ∷ push.sp ∷ replicate 14 0) push.frame in
-    let here = controls_stand s (acted s (entering (entry_of fault s.pc s.ac made.0) s)) push (fault_record fault s.pc s.ac) kept
+    let here = controls_stand s (acted s (entering (entry_of fault s.pc s.ac made.0) s)) push
+    (fault_record fault s.pc s.ac) kept
     refl refl refl fp regions free (λ x inside. refl) in
     subst (λ (x : Entry). HasControls s (acted s (entering x s))) made.2 (record { pc = here.pc; ac = here.ac })
 
@@ -160,7 +165,8 @@ made_writes s c kept hazard beside =
     (inl (clearing_beside c.cause (with_writes s.memory recorded) s.tables.interrupt_table c.vector a beside x inside)) in
     let fp : (acted s (interrupting c (entry_for s c) s)).regs FP ≡ push.frame =
     frame_pointer s.regs (push.pfp ∷ push.sp ∷ replicate 14 0) push.frame in
-    let here = controls_stand s (acted s (interrupting c (entry_for s c) s)) push ws kept refl refl refl fp regions free stays in
+    let here = controls_stand s (acted s (interrupting c (entry_for s c) s))
+    push ws kept refl refl refl fp regions free stays in
     record { pc = here.pc; ac = here.ac }
 
 pub interrupting_writes : (s : State) (c : Chosen) (e : Entry) → IsKept s → interrupt_in s c ≡ Ok e

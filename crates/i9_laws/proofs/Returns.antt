@@ -100,7 +100,8 @@ first_live f pfp fp save rest live none =
 
 -- the controls after a return of a type in the state u
 abbrev Leaves : State → ℕ → ℕ → ℕ → Type 0
-Leaves u kind pc ac = (returned_pc u.memory kind (u.regs FP) u.pc ≡ pc) × (returned_ac u.memory kind (u.regs FP) u.ac ≡ ac)
+Leaves u kind pc ac =
+    (returned_pc u.memory kind (u.regs FP) u.pc ≡ pc) × (returned_ac u.memory kind (u.regs FP) u.ac ≡ ac)
 
 system_controls : (switched : Bool) (s u : State)
     → Leaves u (call_type s.pc switched) (cond (switched && in_supervisor_mode u.pc) (without_supervisor u.pc (trace_enable s.pc)) u.pc) u.ac

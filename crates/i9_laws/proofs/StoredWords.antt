@@ -16,7 +16,8 @@ AreBelow limit vs = AllByRecursion (λ v. v < limit) vs
 abbrev pub ArePut : ℕ → List (ℕ × ℕ) → Type 0
 ArePut limit ps = AllByRecursion (λ p. p.1 < limit) ps
 
-pub all_append : {A : Type 0} (P : A → Type 0) (xs ys : List A) → AllByRecursion P xs → AllByRecursion P ys → AllByRecursion P (xs ++ ys)
+pub all_append : {A : Type 0} (P : A → Type 0) (xs ys : List A) → AllByRecursion P xs → AllByRecursion P ys
+    → AllByRecursion P (xs ++ ys)
 all_append P [] ys h k = k
 all_append P (x ∷ xs) ys h k = (h.0, all_append P xs ys h.1 k)
 
@@ -24,7 +25,8 @@ pub put_pairs : (limit : ℕ) (place : ℕ → ℕ) (n : ℕ) (vs : List ℕ) �
 put_pairs limit place n [] h = tt
 put_pairs limit place n (v ∷ vs) h = (h.0, put_pairs limit place (n + 1) vs h.1)
 
-pub all_map : {A B : Type 0} (P : B → Type 0) (f : A → B) (xs : List A) → ((x : A) → P (f x)) → AllByRecursion P (map f xs)
+pub all_map : {A B : Type 0} (P : B → Type 0) (f : A → B) (xs : List A) → ((x : A) → P (f x))
+    → AllByRecursion P (map f xs)
 all_map P f [] h = tt
 all_map P f (x ∷ xs) h = (h x, all_map P f xs h)
 
@@ -81,7 +83,8 @@ unfolding bytes_of_words
 words_bytes_below m a [] = tt
 words_bytes_below m a (w ∷ ws) =
     let next = wrapped (a + 4) in
-    all_append (λ v. v < 256) (word_bytes m a w) (bytes_of_words m next ws) (word_bytes_below m a w) (words_bytes_below m next ws)
+    all_append (λ v. v < 256) (word_bytes m a w) (bytes_of_words m next ws) (word_bytes_below m a w)
+    (words_bytes_below m next ws)
 
 pub with_words_below : (m : Memory) (a : ℕ) (ws : List ℕ) → ((x : ℕ) → m.bytes x < 256) → (x : ℕ) → (with_words m a ws).bytes x < 256
 unfolding with_words

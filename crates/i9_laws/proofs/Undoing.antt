@@ -114,7 +114,8 @@ switched : (later : Memory) (f : Frames) (entry stack pc fp ac : ℕ) → in_sup
     Undoes later f pc ac (entered_switched entry stack pc fp 0 (2 + pc % 2))
 switched later f entry stack pc fp ac user none =
     let type = switched_type (pc % 2) (omega arith) in
-    undoes later f (rounded_down fp) (2 + pc % 2) _ _ pc ac (omega arith) (omega arith) type.0 type.1 (switched_pc later _ pc (stack % 2) user (omega arith)) none
+    undoes later f (rounded_down fp) (2 + pc % 2) _ _ pc ac (omega arith) (omega arith) type.0 type.1
+    (switched_pc later _ pc (stack % 2) user (omega arith)) none
 
 by_switch : (b : Bool) (later : Memory) (f : Frames) (entry stack pc fp sp ac : ℕ) → (b ≡ true → in_supervisor_mode pc ≡ false) → port_hazard (rounded_down fp) FRAME_SIZE ≡ None →
     Undoes later f pc ac (if b then entered_switched entry stack pc fp 0 (2 + pc % 2) else entered_here entry pc fp sp 0 0)

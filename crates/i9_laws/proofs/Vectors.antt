@@ -26,7 +26,8 @@ AreUnder n vs = AllByRecursion (λ v. v < n) vs
 
 small_parts : (f : ℕ → List Chosen) (n : ℕ) (vs : List ℕ) → ((v : ℕ) → v < n → AreSmall (f v)) → AreUnder n vs → AreSmall (flat_map f vs)
 small_parts f n [] each under = tt
-small_parts f n (v ∷ vs) each under = all_append (λ c. c.vector < 256) (f v) (flat_map f vs) (each v under.0) (small_parts f n vs each under.1)
+small_parts f n (v ∷ vs) each under =
+    all_append (λ c. c.vector < 256) (f v) (flat_map f vs) (each v under.0) (small_parts f n vs each under.1)
 
 vectors_under : (p : ℕ) → p < 32 → AreUnder 256 (vectors_of p)
 vectors_under p h = all_map (λ v. v < 256) (λ j. 8 * p + 8 - 1 - j) (range_with_len 0 8) (λ j. omega (arith, h))

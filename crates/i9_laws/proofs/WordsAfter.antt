@@ -142,7 +142,8 @@ assigned_words (Sfr k) vs h = tt
 
 frame_words : (locals : List ℕ) (fp : ℕ) → AreWords locals → IsWord fp → ArePut (2 ^ 32) (frame_sets locals fp)
 frame_words locals fp h k =
-    all_append (λ p. p.1 < 2 ^ 32) (pairs_at (λ r. r) 0 locals) ((FP, fp) ∷ []) (put_pairs (2 ^ 32) (λ r. r) 0 locals h) (k, tt)
+    all_append (λ p. p.1 < 2 ^ 32) (pairs_at (λ r. r) 0 locals) ((FP, fp) ∷ [])
+    (put_pairs (2 ^ 32) (λ r. r) 0 locals h) (k, tt)
 
 -- ---- loads and stores
 
@@ -308,9 +309,11 @@ interrupting_words s c e h ok =
     subst (λ (x : Entry). DoesWords (interrupting c x s)) (interrupt_made s c e ok).0
     (record { registers = pushes.registers; saves = pushes.saves; starts = tt; next = pushes.next })
 
-kind_words : (limit : ℕ) (due : Due) (stands : Option Event) (k : Kind) (s : State) → MayCome limit due stands s k → IsTurn stands s k
+kind_words : (limit : ℕ) (due : Due) (stands : Option Event) (k : Kind) (s : State) → MayCome limit due stands s k
+    → IsTurn stands s k
     → HasWords s → HasLines s → IsKept s → DoesWords (action_by_kind k s)
-kind_words limit due stands (Instruction i) s may d h l k = instruction_words i s h l k (decoded_small (first_word s) (next_word s) i (runs_decoded s i d.1))
+kind_words limit due stands (Instruction i) s may d h l k =
+    instruction_words i s h l k (decoded_small (first_word s) (next_word s) i (runs_decoded s i d.1))
 kind_words limit due stands (Faulted inst fault) s may d h l k = setting tt (omega arith)
 kind_words limit due stands (Entered e) s may d h l k = entering_words s may.0 e h may.2
 kind_words limit due stands (Interrupted c e) s may d h l k = interrupting_words s c e h may.3
@@ -369,7 +372,8 @@ done_words g r rs plan past h =
     let event = event_after g rs in
     let comes = next_comes g.length (due_after rs) event s r past.1 in
     let turn = next_turn g.length (due_after rs) event s r past.1 in
-    kind_words g.length (due_after rs) event r.kind s comes.1 turn h (lines_after g rs plan past.0) (kept_after g rs past.0)
+    kind_words g.length (due_after rs) event r.kind s comes.1 turn h (lines_after g rs plan past.0)
+    (kept_after g rs past.0)
 
 pub words_after : (g : Given) (rs : List Record) → HasBytes g.image → IsPlan g.plan → IsPast g rs → HasWords (state_after g rs)
 words_after g [] image plan past = boot_words g.image image
@@ -395,4 +399,5 @@ pub parts_bytes : (ps : List Part) → AreParts ps → HasBytes (pairs_of ps)
 unfolding pairs_of
 parts_bytes [] h = tt
 parts_bytes (p ∷ ps) h =
-    all_append (λ p. p.1 < 256) (pairs_of_part p) (pairs_of ps) (put_pairs 256 wrapped p.address p.bytes h.0.bytes) (parts_bytes ps h.1)
+    all_append (λ p. p.1 < 256) (pairs_of_part p) (pairs_of ps) (put_pairs 256 wrapped p.address p.bytes h.0.bytes)
+    (parts_bytes ps h.1)
