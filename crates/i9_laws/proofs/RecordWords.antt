@@ -100,8 +100,10 @@ controls_stand s t push ws kept four pc ac fp regions free stays =
     let ac_word = within_word AC_MASK s.ac (omega arith) kept.ac in
     record {
       pc =
-          ap (saved_pc t.memory) fp ∙ sym (ap (word_in t.memory) start) ∙ stands 0 (omega arith)
-          (omega (arith, pc, pc_word)) ∙ pc;
+          ap (saved_pc t.memory) fp
+          ∙ sym (ap (word_in t.memory) start)
+          ∙ stands 0 (omega arith) (omega (arith, pc, pc_word))
+          ∙ pc;
       ac = ap (saved_ac t.memory) fp ∙ stands 1 (omega arith) (omega (arith, ac, ac_word)) ∙ ac;
     }
 

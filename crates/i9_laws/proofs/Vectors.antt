@@ -42,7 +42,9 @@ priority_small : (maps : List ℕ) (p : ℕ) → p < 32 → AreSmall (choices_at
 priority_small maps p h =
     let vs = vectors_under p h in
     all_append (λ c. c.vector < 256) (flat_map (lines_with maps) (vectors_of p)) (map (choice Soft) (vectors_of p))
-    (small_parts (lines_with maps) 256 (vectors_of p) (λ v less. all_map (λ c. c.vector < 256) (λ k. choice (Line k) v) (filter (λ k. line_vector maps k == v) (range_with_len 0 LINES)) (λ k. less)) vs)
+    (small_parts (lines_with maps) 256 (vectors_of p) (λ v less.
+    let lines = filter (λ k. line_vector maps k == v) (range_with_len 0 LINES) in
+    all_map (λ c. c.vector < 256) (λ k. choice (Line k) v) lines (λ k. less)) vs)
     (soft_small (vectors_of p) vs)
 
 choices_small : (maps : List ℕ) → AreSmall (choices maps)
