@@ -3,7 +3,7 @@ use Rattle.std.proofs.Common.{◌≡◌, ℕ, ◌+◌, ◌-◌, ◌%◌, ◌^◌
 use Rattle.std.specs.Prelude.{slice_index, ◌==◌, ◌||◌}
 use Rattle.std.proofs.lemmas.Nat.{and_le_l, or_of_8, pow_below}
 use Rattle.i9_isa.specs.declared.op.Op.{Op}
-use Rattle.i9_isa.specs.declared.op.Op.TheVariants.{Atadd, Atmod, Sysctl, Lda, Bx, Balx, Bal, Call, Callx, Calls, Ret, Flushreg, Modac, Modtc, Modpc}
+use Rattle.i9_isa.specs.declared.op.Op.TheVariants.{Atadd, Atmod, Sysctl}
 use Rattle.i9_isa.specs.declared.size.Size.{Size}
 use Rattle.i9_isa.specs.declared.size.Size.TheVariants.{Byte, Half, Words}
 use Rattle.i9_isa.specs.declared.size.Direction.{Direction}
@@ -14,7 +14,7 @@ use Rattle.i9_isa.specs.declared.inst.Inst.{Inst}
 use Rattle.i9_isa.specs.Transfers.{transfer_of}
 use Rattle.i9_model.specs.declared.push.Push.{Push}
 use Rattle.i9_model.specs.declared.interrupts.Cause.{Cause}
-use Rattle.i9_model.specs.declared.interrupts.Cause.TheVariants.{Nmi, Line, Soft}
+use Rattle.i9_model.specs.declared.interrupts.Cause.TheVariants.{Soft}
 use Rattle.i9_model.specs.declared.event.Event.{Event}
 use Rattle.i9_model.specs.declared.event.Event.TheVariants as events
 use Rattle.i9_model.specs.declared.run.Due.{Due}
@@ -32,7 +32,7 @@ use Rattle.i9_model.specs.Calls.{record_address}
 use Rattle.i9_model.specs.Interrupts.{with_bit, without_bit, vector_priority, priority_place, pending_place, request_writes, left_pending, priority_writes, taken_writes, clearing_writes, record_writes}
 use Rattle.i9_model.specs.Tables.{group_words}
 use Rattle.i9_model.specs.Controls.{Control, KeepsControls, Restarts, LoadsGroup, controlled}
-use Rattle.i9_model.specs.Step.{Move, Stays, Saves, Returns, Flushes, Action, stored_of, bytes_of_words, moving, merged, atomic, atomic_address, branching, resulting, answer_in, Message, AsksNothing, AsksCheck, AsksInterrupt, AsksRestart, AsksGroup, asked_message, argument_of, message_action, action_by_name, action_by, action_of, memory_after, moved, acted}
+use Rattle.i9_model.specs.Step.{Move, Saves, Action, stored_of, bytes_of_words, moving, merged, atomic, atomic_address, branching, resulting, answer_in, Message, AsksInterrupt, asked_message, argument_of, message_action, action_by_name, action_by, action_of, memory_after, moved, acted}
 use Rattle.i9_model.specs.Dma.{unit_length, unit_bytes}
 use Rattle.i9_model.specs.Before.{Received}
 use Rattle.i9_model.specs.Run.{Given, Record, Kind, Instruction, Faulted, Entered, Interrupted, Reached, action_by_kind, due_after, event_after, state_after, IsPast}
@@ -40,7 +40,7 @@ use Rattle.i9_model.proofs.ControlLaws.{by_group, flagged-others}
 use Rattle.i9_past.proofs.Comes.{MayCome, next_comes}
 use Rattle.i9_laws.specs.Kept.{HasBytes}
 use Rattle.i9_laws.proofs.EventCases.{event_range, IsByUnit, IsByEvent, received_as}
-use Rattle.i9_laws.proofs.StoredWords.{ArePut, AreBelow, put_append, put_pairs, below_map, below_take, stored_below, word_bytes_below, half_bytes_below, words_bytes_below, with_words_below}
+use Rattle.i9_laws.proofs.StoredWords.{ArePut, AreBelow, all_append, put_pairs, all_map, below_take, stored_below, word_bytes_below, half_bytes_below, words_bytes_below, with_words_below}
 
 abbrev pub AreBytes : Memory → Type 0
 AreBytes m = (x : ℕ) → m.bytes x < 256
@@ -92,19 +92,16 @@ priority_stores m table v h = by_left (left_pending m table v == 0)
 
 clearing_stores : (c : Cause) (m : Memory) (table v : ℕ) → AreBytes m → ArePut 256 (clearing_writes c m table v)
 unfolding taken_writes
-clearing_stores Nmi m table v h = tt
-clearing_stores (Line k) m table v h = tt
 clearing_stores Soft m table v h =
     let at = pending_place table v in
-    put_append 256 (priority_writes m table v) ((at, left_pending m table v) ∷ []) (priority_stores m table v h)
+    all_append (λ p. p.1 < 256) (priority_writes m table v) ((at, left_pending m table v) ∷ [])
+    (priority_stores m table v h)
     (without_bit_byte (m.bytes at) (v % 8) (h at), tt)
+clearing_stores _ m table v h = tt
 
 message_stores : (m : Message) (i : Inst) (s : State) → AreBytes s.memory → ArePut 256 (message_action m i s).writes
-message_stores AsksNothing i s h = tt
-message_stores AsksCheck i s h = tt
 message_stores AsksInterrupt i s h = request_stores s.memory s.tables.interrupt_table (argument_of i s) h
-message_stores AsksRestart i s h = tt
-message_stores AsksGroup i s h = tt
+message_stores m i s h = tt
 
 -- ---- a record
 
@@ -113,20 +110,8 @@ other_stores true i s = tt
 other_stores false i s = tt
 
 name_stores : (op : Op) (i : Inst) (s : State) → AreBytes s.memory → ArePut 256 (action_by_name op i s).writes
-name_stores Lda i s h = tt
 name_stores Atadd i s h = atomic_stores i s (mark_of s i.b 0) (λ old. wrapped (old + value s i.b))
 name_stores Atmod i s h = atomic_stores i s (mark_of s i.b 0 || mark_of s i.c 0) (λ old. merged old (value s i.b) (value s i.c))
-name_stores Bx i s h = tt
-name_stores Balx i s h = tt
-name_stores Bal i s h = tt
-name_stores Call i s h = tt
-name_stores Callx i s h = tt
-name_stores Calls i s h = tt
-name_stores Ret i s h = tt
-name_stores Flushreg i s h = tt
-name_stores Modac i s h = tt
-name_stores Modtc i s h = tt
-name_stores Modpc i s h = tt
 name_stores Sysctl i s h = message_stores (asked_message i s) i s h
 name_stores op i s h = other_stores (asks (question_of op)) i s
 
@@ -156,7 +141,7 @@ AreGiven (Some given) = (k : ℕ) → slice_index given k < 256
 
 moved_stores : (m : Memory) (c : Channel) (given : Option (List ℕ)) → AreGiven given → AreBytes m → AreBelow 256 (unit_bytes m c given)
 unfolding unit_bytes
-moved_stores m c None bytes h = below_map 256 m.bytes (places c.source (unit_length c)) h
+moved_stores m c None bytes h = all_map (λ v. v < 256) m.bytes (places c.source (unit_length c)) h
 moved_stores m c (Some given) bytes h = below_take 256 (unit_length c) given bytes
 
 unit_stores : (s : State) (c : ℕ) (given : Option (List ℕ)) → AreGiven given → AreBytes s.memory → IsByUnit ReceivesBytes s c given
@@ -165,13 +150,9 @@ unit_stores s c given bytes h =
     (tt, put_pairs 256 wrapped channel.target (unit_bytes s.memory channel given) (moved_stores s.memory channel given bytes h))
 
 event_stores : (s : State) (e : Event) → IsInRange e → AreBytes s.memory → IsByEvent ReceivesBytes s e
-event_stores s (events.Pin x) range h = tt
-event_stores s (events.Low x) range h = tt
-event_stores s (events.High x) range h = tt
-event_stores s events.Nmi range h = tt
 event_stores s (events.Dma c) range h = unit_stores s c None tt h
 event_stores s (events.Feed c bytes) range h = unit_stores s c (Some bytes.items) range.2 h
-event_stores s (events.Show a n) range h = tt
+event_stores s _ range h = tt
 
 -- ---- what comes next
 
@@ -184,7 +165,7 @@ kind_stores limit due stands (Interrupted c e) s range may h =
     let recorded = record_writes s.memory e.push e.words in
     let m = with_writes s.memory recorded in
     let stores = record_stores s.memory e.push e.words in
-    put_append 256 recorded (clearing_writes c.cause m s.tables.interrupt_table c.vector) stores
+    all_append (λ p. p.1 < 256) recorded (clearing_writes c.cause m s.tables.interrupt_table c.vector) stores
     (clearing_stores c.cause m s.tables.interrupt_table c.vector (stored_below s.memory.bytes recorded h stores))
 kind_stores limit due stands (Reached e u) s range may h =
     received_as ReceivesBytes s e u (event_stores s e (range e may.2) h) may.3
@@ -192,10 +173,8 @@ kind_stores limit due stands (Reached e u) s range may h =
 -- ---- the state after it
 
 move_bytes : (v : Move) (m : Memory) → AreBytes m → AreBytes (memory_after m v)
-move_bytes Stays m h = h
 move_bytes (Saves save words) m h = with_words_below m save words h
-move_bytes Returns m h = h
-move_bytes Flushes m h = h
+move_bytes _ m h = h
 
 pub moved_bytes : (s : State) (a : Action) → AreBytes s.memory → ArePut 256 a.writes → AreBytes (moved s a).memory
 unfolding moved

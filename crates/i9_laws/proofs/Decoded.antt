@@ -61,56 +61,68 @@ fetch_stands : (s : State) (h : Option ℕ) → Stands s (by_fetch s h)
 fetch_stands s (Some a) = tt
 fetch_stands s None = word_stands s (decoded (first_word s) (next_word s)) refl
 
-abbrev pub IsRead : State → Kind → Type 0
-IsRead s (Instruction i) = IsDecoded s i
-IsRead s (Faulted inst fault) = Unit {0}
-IsRead s (Entered e) = Unit {0}
-IsRead s (Interrupted c e) = Unit {0}
-IsRead s (Reached e u) = Unit {0}
-
-read_by : (s : State) (k : Kind) (r : Record) → IsRead s k → Does (record_of k s) ≡ Does r → IsRead s r.kind
-read_by s k r d e = let same : record_of k s ≡ r = cc in subst (λ (q : Record). IsRead s q.kind) same d
-
-standing_read : (s : State) (x : Standing) (r : Record) → Stands s x → next_by_standing s x ≡ Does r → IsRead s r.kind
-standing_read s (Meets a) r d e = absurd cc
-standing_read s (Refused number) r d e = read_by s (Faulted None (fault_at s number)) r tt e
-standing_read s (Faults i number) r d e = read_by s (Faulted (Some i) (fault_at s number)) r tt e
-standing_read s (Runs i) r d e = read_by s (Instruction i) r d e
-
-entry_read : (s : State) (o : Result Entry FaultStop) (r : Record) → next_by_entry s o ≡ Does r → IsRead s r.kind
-entry_read s (Ok x) r e = read_by s (Entered x) r tt e
-entry_read s (Err (stops.Hazard a)) r e = absurd cc
-entry_read s (Err (stops.Dead code a)) r e = absurd cc
-
-reached_read : (x : Event) (s : State) (o : Result Received ℕ) (r : Record) → next_by_received s x o ≡ Does r
-    → IsRead s r.kind
-reached_read x s (Ok u) r e = read_by s (Reached x u) r tt e
-reached_read x s (Err a) r e = absurd (cc e)
-
-event_read : (stands : Option Event) (s : State) (r : Record) → next_by_event stands s ≡ Does r → IsRead s r.kind
+pub runs_decoded : (s : State) (i : Inst) → stands_at s ≡ Runs i → IsDecoded s i
 unfolding stands_at
-event_read (Some x) s r e = reached_read x s (received_in s x) r e
-event_read None s r e = standing_read s (stands_at s) r (fetch_stands s (fetch_hazard s)) e
+runs_decoded s i is = subst (Stands s) is (fetch_stands s (fetch_hazard s))
 
-interrupt_read : (s : State) (c : Chosen) (o : Result Entry ℕ) (r : Record) → next_by_interrupt s c o ≡ Does r → IsRead s r.kind
-interrupt_read s c (Ok x) r e = read_by s (Interrupted c x) r tt e
-interrupt_read s c (Err a) r e = absurd cc
+-- ---- what comes next
 
-choice_read : (stands : Option Event) (s : State) (o : Result (Option Chosen) ℕ) (r : Record) → next_by_choice stands s o ≡ Does r
-    → IsRead s r.kind
-choice_read stands s (Ok (Some c)) r e = interrupt_read s c (interrupt_in s c) r e
-choice_read stands s (Ok None) r e = event_read stands s r e
-choice_read stands s (Err a) r e = absurd cc
+-- an instruction is done where it stands, and it or its fault comes where no event stands
+abbrev pub IsTurn : Option Event → State → Kind → Type 0
+IsTurn stands s (Instruction i) = (stands ≡ None) × (stands_at s ≡ Runs i)
+IsTurn stands s (Faulted inst fault) = stands ≡ None
+IsTurn stands s _ = Unit {0}
 
-pub next_read : (limit : ℕ) (due : Due) (stands : Option Event) (s : State) (r : Record) → next_in limit due stands s ≡ Does r
-    → IsRead s r.kind
-next_read limit (dues.End f) stands s r e = absurd cc
-next_read limit (dues.Entry fault) stands s r e = entry_read s (entry_in s fault) r e
-next_read limit dues.Nothing stands s r e = by_length (eqb s.count limit) e
+turn_by : (stands : Option Event) (s : State) (k : Kind) (r : Record) → IsTurn stands s k
+    → Does (record_of k s) ≡ Does r
+    → IsTurn stands s r.kind
+turn_by stands s k r d e = let same : record_of k s ≡ r = cc in subst (λ (q : Record). IsTurn stands s q.kind) same d
+
+standing_turn : (s : State) (x : Standing) (r : Record) → stands_at s ≡ x → next_by_standing s x ≡ Does r
+    → IsTurn None s r.kind
+standing_turn s (Meets a) r is e = absurd cc
+standing_turn s (Refused number) r is e = turn_by None s (Faulted None (fault_at s number)) r refl e
+standing_turn s (Faults i number) r is e = turn_by None s (Faulted (Some i) (fault_at s number)) r refl e
+standing_turn s (Runs i) r is e = turn_by None s (Instruction i) r (refl, is) e
+
+entry_turn : (stands : Option Event) (s : State) (o : Result Entry FaultStop) (r : Record) → next_by_entry s o ≡ Does r
+    → IsTurn stands s r.kind
+entry_turn stands s (Ok x) r e = turn_by stands s (Entered x) r tt e
+entry_turn stands s (Err (stops.Hazard a)) r e = absurd cc
+entry_turn stands s (Err (stops.Dead code a)) r e = absurd cc
+
+reached_turn : (x : Event) (s : State) (o : Result Received ℕ) (r : Record) → next_by_received s x o ≡ Does r
+    → IsTurn (Some x) s r.kind
+reached_turn x s (Ok u) r e = turn_by (Some x) s (Reached x u) r tt e
+reached_turn x s (Err a) r e = absurd (cc e)
+
+event_turn : (stands : Option Event) (s : State) (r : Record) → next_by_event stands s ≡ Does r → IsTurn stands s r.kind
+event_turn (Some x) s r e = reached_turn x s (received_in s x) r e
+event_turn None s r e = standing_turn s (stands_at s) r refl e
+
+interrupt_turn : (stands : Option Event) (s : State) (c : Chosen) (o : Result Entry ℕ) (r : Record)
+    → next_by_interrupt s c o ≡ Does r → IsTurn stands s r.kind
+interrupt_turn stands s c (Ok x) r e = turn_by stands s (Interrupted c x) r tt e
+interrupt_turn stands s c (Err a) r e = absurd cc
+
+choice_turn : (stands : Option Event) (s : State) (o : Result (Option Chosen) ℕ) (r : Record)
+    → next_by_choice stands s o ≡ Does r
+    → IsTurn stands s r.kind
+choice_turn stands s (Ok (Some c)) r e = interrupt_turn stands s c (interrupt_in s c) r e
+choice_turn stands s (Ok None) r e = event_turn stands s r e
+choice_turn stands s (Err a) r e = absurd cc
+
+pub next_turn : (limit : ℕ) (due : Due) (stands : Option Event) (s : State) (r : Record)
+    → next_in limit due stands s ≡ Does r
+    → IsTurn stands s r.kind
+next_turn limit (dues.End f) stands s r e = absurd cc
+next_turn limit (dues.Entry fault) stands s r e = entry_turn stands s (entry_in s fault) r e
+next_turn limit dues.Nothing stands s r e = by_length (eqb s.count limit) e
   where
-    by_length : (b : Bool) → cond b (Ends (finish Limit)) (next_by_choice stands s (choice_in s)) ≡ Does r → IsRead s r.kind
+    by_length : (b : Bool) → cond b (Ends (finish Limit)) (next_by_choice stands s (choice_in s)) ≡ Does r
+        → IsTurn stands s r.kind
     by_length true h = absurd cc
-    by_length false h = choice_read stands s (choice_in s) r h
+    by_length false h = choice_turn stands s (choice_in s) r h
 
 -- ---- its literals
 
@@ -154,20 +166,17 @@ field_small w low = omega arith
 src1_small : (f : Format) (u : Use) (w : ℕ) → AreSmall (src1_in f u w)
 src1_small Format.Reg u w = operand_small u (bit w 11) (bit w 5) (field w 0 5) (field_small w 0)
 src1_small Format.Cobr u w = operand_small u (bit w 13) false (field w 19 5) (field_small w 19)
-src1_small Format.Ctrl u w = tt
-src1_small Format.Mem u w = tt
+src1_small _ u w = tt
 
 src2_small : (f : Format) (u : Use) (w : ℕ) → AreSmall (src2_in f u w)
 src2_small Format.Reg u w = operand_small u (bit w 12) (bit w 6) (field w 14 5) (field_small w 14)
 src2_small Format.Cobr u w = operand_small u false (bit w 0) (field w 14 5) (field_small w 14)
-src2_small Format.Ctrl u w = tt
-src2_small Format.Mem u w = tt
+src2_small _ u w = tt
 
 src_dst_small : (f : Format) (u : Use) (w : ℕ) → AreSmall (src_dst_in f u w)
 src_dst_small Format.Reg u w = operand_small u (bit w 13) false (field w 19 5) (field_small w 19)
-src_dst_small Format.Cobr u w = tt
-src_dst_small Format.Ctrl u w = tt
 src_dst_small Format.Mem u w = operand_small u false false (field w 19 5) (field_small w 19)
+src_dst_small _ u w = tt
 
 -- the literals of an instruction
 pub record HasSmall (i : Inst) : Type 0 where

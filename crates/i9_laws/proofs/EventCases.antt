@@ -1,41 +1,42 @@
 -- An event of a plan is in its range, and what an event does is one of a few things.
-use Rattle.std.proofs.Common.{◌≡◌, ℕ, zero, suc, Bool, true, false, cond, List, [], ◌∷◌, length, Option, Some, None, Result, Ok, Err, refl, subst}
+use Rattle.std.proofs.Common.{◌≡◌, ℕ, zero, suc, ◌<◌, List, [], ◌∷◌, length, Option, Some, None, Result, Ok, Err, refl, subst, arith}
 use Rattle.std.specs.List.{slice_get, AllByRecursion}
 use Rattle.i9_model.specs.declared.event.Event.{Event}
 use Rattle.i9_model.specs.declared.event.Event.TheVariants.{Pin, Low, High, Nmi, Dma, Feed, Show}
 use Rattle.i9_model.specs.declared.event.Timed.{Timed}
 use Rattle.i9_model.specs.Events.{IsInRange}
-use Rattle.i9_model.specs.ScheduleText.{IsTimedInRange, IsPlan, has_come_at, event_at}
+use Rattle.i9_model.specs.ScheduleText.{IsTimedInRange, IsPlan}
 use Rattle.i9_model.specs.State.{State}
 use Rattle.i9_model.specs.Interrupts.{posted, posted_nmi, lowered, raised}
 use Rattle.i9_model.specs.Dma.{Unit, unit, next_unit}
 use Rattle.i9_model.specs.Before.{Received, posting, moving_unit, received_by, received_in}
 use Rattle.i9_model.specs.Run.{Given, Record, reached_after, event_after, state_after}
+use Rattle.i9_past.proofs.Left.{standing_at_place}
 use Rattle.i9_agree.proofs.Units.{unit_moved}
 
 -- ---- ranges
 
--- an event of a plan is in its range
-plan_range : (plan : List Timed) (place : ℕ) (t : Timed) → AllByRecursion IsTimedInRange plan → slice_get plan place ≡ Some t
-    → IsInRange t.event
-plan_range [] place t all is = absurd cc
-plan_range (x ∷ plan) zero t all is = let same : x ≡ t = cc in subst (λ (y : Timed). IsInRange y.event) same all.0.event
-plan_range (x ∷ plan) (suc place) t all is = plan_range plan place t all.1 is
+-- an event at a place of a plan has what all of them have, and the place is below the length
+pub planned : (P : Timed → Type 0) (plan : List Timed) (place : ℕ) (t : Timed) → AllByRecursion P plan
+    → slice_get plan place ≡ Some t
+    → P t × (place < length plan)
+planned P [] place t all is = absurd cc
+planned P (x ∷ plan) zero t all is = let same : x ≡ t = cc in (subst P same all.0, omega arith)
+planned P (x ∷ plan) (suc place) t all is = let p = planned P plan place t all.1 is in (p.0, omega (arith, p.1))
 
--- and so is one that stands
+-- so has one that stands
+pub event_planned : (P : Timed → Type 0) (g : Given) (rs : List Record) (e : Event) → AllByRecursion P g.plan
+    → event_after g rs ≡ Some e
+    → (t : Timed) × P t × (t.event ≡ e)
+event_planned P g rs e all is =
+    let place = length (reached_after rs) in
+    let there = standing_at_place g.plan place (state_after g rs).count e is in
+    (there.0, (planned P g.plan place there.0 all there.1).0, there.2)
+
+-- and it is in its range
 pub event_range : (g : Given) (rs : List Record) (e : Event) → IsPlan g.plan → event_after g rs ≡ Some e → IsInRange e
-event_range g rs e plan is = by_place (slice_get g.plan place) refl is
-  where
-    place : ℕ
-    place = length (reached_after rs)
-
-    by_time : (t : Timed) (b : Bool) → IsInRange t.event → cond b (Some t.event) None ≡ Some e → IsInRange e
-    by_time t true range h = let same : t.event ≡ e = cc in subst IsInRange same range
-    by_time t false range h = absurd cc
-
-    by_place : (o : Option Timed) → slice_get g.plan place ≡ o → event_at (state_after g rs).count o ≡ Some e → IsInRange e
-    by_place None at h = absurd cc
-    by_place (Some t) at h = by_time t (has_come_at (state_after g rs).count t.when) (plan_range g.plan place t plan.each at) h
+event_range g rs e plan is =
+    let there = event_planned IsTimedInRange g rs e plan.each is in subst IsInRange there.2 there.1.event
 
 -- ---- cases
 

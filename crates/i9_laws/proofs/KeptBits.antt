@@ -33,7 +33,7 @@ use Rattle.i9_model.specs.Boot.{setup_of, boot_setup}
 use Rattle.i9_model.specs.Calls.{in_supervisor_mode, takes_record, leaves_supervisor, with_supervisor, without_supervisor, saved_pc, saved_ac, return_type, popped}
 use Rattle.i9_model.specs.Tables.{group_words}
 use Rattle.i9_model.specs.Controls.{Control, KeepsControls, Restarts, LoadsGroup, controlled}
-use Rattle.i9_model.specs.Step.{Action, going, following, branching, resulting, controls_of, answer_in, moving, action_by_name, action_by, action_of, Message, AsksNothing, AsksCheck, AsksInterrupt, AsksRestart, AsksGroup, asked_message, message_action, system_call, calls_action, entering, moved, flagged, acted}
+use Rattle.i9_model.specs.Step.{Action, going, following, branching, resulting, controls_of, answer_in, moving, action_by_name, action_by, action_of, Message, AsksNothing, asked_message, message_action, system_call, calls_action, entering, moved, flagged, acted}
 use Rattle.i9_model.specs.declared.run.Due.{Due}
 use Rattle.i9_model.specs.declared.interrupts.Chosen.{Chosen}
 use Rattle.i9_model.specs.declared.event.Event.{Event}
@@ -50,6 +50,7 @@ use Rattle.i9_model.proofs.ControlLaws.{by_group}
 use Rattle.i9_past.proofs.Comes.{MayCome, next_comes}
 use Rattle.i9_model.proofs.KeptBits.{masked, same_above}
 use Rattle.i9_laws.specs.Kept.{IsWithin}
+use Rattle.i9_laws.proofs.StoredWords.{all_append}
 use Rattle.i9_laws.proofs.Entered.{call_by, entry_by, interrupt_made}
 use Rattle.i9_laws.proofs.Vectors.{vector_small, interrupt_kept}
 
@@ -204,10 +205,7 @@ read_kept false w ac h = h
 
 message_kept : (m : Message) (i : Inst) (s : State) → IsKept s → Keeps (message_action m i s)
 message_kept AsksNothing i s h = passing_kept s i h
-message_kept AsksCheck i s h = let k = passing_kept s i h in record { ac = k.ac; pc = k.pc; tc = k.tc; ip = k.ip }
-message_kept AsksInterrupt i s h = let k = passing_kept s i h in record { ac = k.ac; pc = k.pc; tc = k.tc; ip = k.ip }
-message_kept AsksRestart i s h = let k = passing_kept s i h in record { ac = k.ac; pc = k.pc; tc = k.tc; ip = k.ip }
-message_kept AsksGroup i s h = let k = passing_kept s i h in record { ac = k.ac; pc = k.pc; tc = k.tc; ip = k.ip }
+message_kept _ i s h = let k = passing_kept s i h in record { ac = k.ac; pc = k.pc; tc = k.tc; ip = k.ip }
 
 name_kept : (op : Op) (i : Inst) (s : State) → IsKept s → Keeps (action_by_name op i s)
 unfolding popped
@@ -310,11 +308,6 @@ flags_kept : (w : ℕ) (ks : List ℕ) → IsWithin TC_MASK w → AllByRecursion
 flags_kept w [] h all = h
 flags_kept w (k ∷ ks) h all = flags_kept (with_bit w k) ks (masked_or TC_MASK w (2 ^ k) h all.0) all.1
 
-append_kept : (js ks : List ℕ) → AllByRecursion (λ k. IsWithin TC_MASK (2 ^ k)) js → AllByRecursion (λ k. IsWithin TC_MASK (2 ^ k)) ks
-    → AllByRecursion (λ k. IsWithin TC_MASK (2 ^ k)) (js ++ ks)
-append_kept [] ks h all = all
-append_kept (j ∷ js) ks h all = (h.0, append_kept js ks h.1 all)
-
 -- the places of those that pass a test
 picked_kept : {A : Type 0} (place : A → ℕ) (p : A → Bool) (xs : List A) → AllByRecursion (λ x. IsWithin TC_MASK (2 ^ place x)) xs
     → AllByRecursion (λ k. IsWithin TC_MASK (2 ^ k)) (map place (filter p xs))
@@ -332,7 +325,7 @@ made_kept tc i seen b h =
     let events = event_flags tc i.op seen (has_match seen b) in
     let breaks = break_flags seen b in
     flags_kept tc (events ++ breaks) h
-    (append_kept events breaks
+    (all_append (λ k. IsWithin TC_MASK (2 ^ k)) events breaks
     (picked_kept flag_of (λ e. comes_with i.op seen (has_match seen b) e && has_mode tc e) trace_events (refl, (refl, (refl, (refl, (refl, (refl, (refl, tt))))))))
     (picked_kept break_flag_of (matches seen b) breakpoints (refl, (refl, (refl, (refl, tt))))))
 
@@ -350,10 +343,7 @@ kind_flags (Instruction i) s h =
     let seen = seen_of i s a in
     trace_kept (is_traced s && is_raised left.tc i seen left.breaks) (trace_made left.tc i seen left.breaks)
     (made_kept left.tc i seen left.breaks after.tc)
-kind_flags (Faulted inst fault) s h = tt
-kind_flags (Entered e) s h = tt
-kind_flags (Interrupted c e) s h = tt
-kind_flags (Reached e u) s h = tt
+kind_flags _ s h = tt
 
 -- ---- a run
 

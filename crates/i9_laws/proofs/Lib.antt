@@ -1,6 +1,7 @@
 pub mod Entered
 pub mod Vectors
 pub mod EventCases
+pub mod InterruptsAlong
 pub mod KeptBits
 pub mod KeptLines
 pub mod HighPins

@@ -79,11 +79,9 @@ moved_held n Flushes c live few e = refl
 
 -- no more frames are live than there are records
 move_adds : (v : Move) (live : List Frame) → length (live_moved v live) ≤ length live + 1
-move_adds Stays live = omega arith
-move_adds (Saves save words) live = omega arith
 move_adds Returns [] = omega arith
 move_adds Returns (f ∷ live) = omega arith
-move_adds Flushes live = omega arith
+move_adds _ live = omega arith
 
 few_live : (rs : List Record) → length (live_after rs) ≤ length rs
 few_live [] = omega arith

@@ -1,8 +1,8 @@
 -- The events that a run reached whose results land late, each at its count, are those of a schedule; its printed text says
 -- them, and with them and any number of sets it is the same run.
-use Rattle.std.proofs.Common.{◌≡◌, ℕ, zero, suc, ◌<◌, ◌≤◌, true, List, [], ◌∷◌, ◌++◌, length, Option, Some, None, refl, sym, ◌∙◌, subst, inl, inr, length-append, arith, ap}
-use Rattle.std.specs.List.{slice_get, AllByRecursion}
-use Rattle.i9_laws.proofs.HighPins.{plan_of_version}
+use Rattle.std.proofs.Common.{◌≡◌, ℕ, ◌<◌, ◌≤◌, true, List, [], ◌∷◌, ◌++◌, length, Option, Some, None, refl, sym, ◌∙◌, subst, inl, inr, length-append, arith, ap}
+use Rattle.std.specs.List.{AllByRecursion}
+use Rattle.i9_laws.proofs.EventCases.{planned}
 use Rattle.i9_replay.proofs.Plans.{AreOfVersion-push, AllTimedInRange-push, InOrder-push, last_time, last_time-push}
 use Rattle.i9_past.proofs.Unique.{does_is, ends_is}
 use Rattle.i9_model.specs.declared.event.Event.{Event}
@@ -10,7 +10,7 @@ use Rattle.i9_model.specs.declared.event.Timed.{Timed}
 use Rattle.i9_model.specs.declared.layout.TheConstants.{MAX_LENGTH}
 use Rattle.i9_model.specs.declared.run.End.{End}
 use Rattle.i9_model.specs.Events.{IsInRange, IsOfVersion}
-use Rattle.i9_model.specs.ScheduleText.{time_of, timed_at, IsVersion, AreOfVersion, IsTimedInRange, InOrder, IsPlan}
+use Rattle.i9_model.specs.ScheduleText.{timed_at, IsVersion, AreOfVersion, IsTimedInRange, InOrder, IsPlan}
 use Rattle.i9_model.specs.Run.{Given, Record, Does, next_with, reached_after, state_after, Finish, Ends, finish, reached_last, reached_in}
 use Rattle.i9_model.specs.PrintedText.{run_text}
 use Rattle.i9_past.proofs.Heedful.{heedful, counted, with_plan}
@@ -22,57 +22,31 @@ use Rattle.i9_course.proofs.PipelinedSame.{run_again, run_sets, in_counted}
 use Rattle.i9_laws.proofs.RunsAgain.{SaysReached, text_says}
 use Rattle.std.proofs.lemmas.List.{append-nil}
 
--- ---- an event of a plan
-
--- an event at a place of a plan
-planned : (ts : List Timed) (k : ℕ) (t : Timed) → AllByRecursion IsTimedInRange ts → slice_get ts k ≡ Some t
-    → IsTimedInRange t × (k < length ts)
-planned [] k t each is = absurd cc
-planned (x ∷ ts) zero t each is = let same : x ≡ t = cc in (subst IsTimedInRange same each.0, omega arith)
-planned (x ∷ ts) (suc k) t each is = let p = planned ts k t each.1 is in (p.0, omega (arith, p.1))
-
 -- ---- along a pipelined run
 
 -- a schedule of a version that may have the events of the plan may have these
 abbrev KeepsVersion : Given → List Timed → Type 0
 KeepsVersion g ts = (version : ℕ) → AreOfVersion version g.plan → AreOfVersion version ts
 
--- the events that were reached are in range and in order, none is at a count that has not come, and they are no more than
--- the plan has
-record Fits (g : Given) (rs : List Record) : Type 0 where
-  each : AllByRecursion IsTimedInRange (reached_after rs)
-  order : InOrder 0 (reached_after rs)
-  last : last_time 0 (reached_after rs) ≤ (state_after g rs).count
-  few : length (reached_after rs) ≤ length g.plan
-  version : KeepsVersion g (reached_after rs)
+-- events are in range and in order, and no more than the plan has
+record FitsTo (g : Given) (ts : List Timed) : Type 0 where
+  each : AllByRecursion IsTimedInRange ts
+  order : InOrder 0 ts
+  few : length ts ≤ length g.plan
+  version : KeepsVersion g ts
+
+-- so are those that were reached, and none is at a count that has not come
+abbrev Fits : Given → List Record → Type 0
+Fits g rs = FitsTo g (reached_after rs) × (last_time 0 (reached_after rs) ≤ (state_after g rs).count)
 
 same_fits : (g : Given) (rs : List Record) (r : Record) → Fits g rs → reached_after (r ∷ rs) ≡ reached_after rs
     → (state_after g rs).count ≤ r.after.count → Fits g (r ∷ rs)
 same_fits g rs r f same grows =
-    let last = f.last in
-    record {
-      each = subst (λ (ts : List Timed). AllByRecursion IsTimedInRange ts) (sym same) f.each;
-      order = subst (λ (ts : List Timed). InOrder 0 ts) (sym same) f.order;
-      last = subst (λ (ts : List Timed). last_time 0 ts ≤ r.after.count) (sym same) (omega (arith, last, grows));
-      few = subst (λ (ts : List Timed). length ts ≤ length g.plan) (sym same) f.few;
-      version = subst (KeepsVersion g) (sym same) f.version;
-    }
-
-more_fits : (g : Given) (rs : List Record) (r : Record) (t : Timed) → Fits g rs → reached_after (r ∷ rs) ≡ reached_after rs ++ t ∷ []
-    → IsTimedInRange t → last_time 0 (reached_after rs) ≤ time_of t → time_of t ≤ r.after.count
-    → length (reached_after rs) < length g.plan → ((version : ℕ) → AreOfVersion version g.plan → IsOfVersion version t.event)
-    → Fits g (r ∷ rs)
-more_fits g rs r t f grown fine after before room of =
-    let here = reached_after rs in
-    let long = length-append here (t ∷ []) in
-    record {
-      each = subst (λ (ts : List Timed). AllByRecursion IsTimedInRange ts) (sym grown) (AllTimedInRange-push here t f.each fine);
-      order = subst (λ (ts : List Timed). InOrder 0 ts) (sym grown) (InOrder-push 0 here t f.order after);
-      last = subst (λ (ts : List Timed). last_time 0 ts ≤ r.after.count) (sym grown)
-          (subst (λ (n : ℕ). n ≤ r.after.count) (sym (last_time-push 0 here t)) before);
-      few = subst (λ (ts : List Timed). length ts ≤ length g.plan) (sym grown) (omega (arith, long, room));
-      version = subst (KeepsVersion g) (sym grown) (λ version plan. AreOfVersion-push version here t (f.version version plan) (of version plan));
-    }
+    let last = f.1 in (
+      subst (FitsTo g) (sym same) f.0,
+      subst (λ (ts : List Timed). last_time 0 ts ≤ r.after.count) (sym same)
+          (omega (arith, last, grows)),
+    )
 
 -- the event that stands is one of the plan, at the place behind those that were reached
 stands : (g : Given) (rs : List Record) (e : Event) → IsPlan g.plan → event_ahead g (steps rs) ≡ Some e
@@ -81,14 +55,35 @@ stands g rs e plan at =
     let past = records_of (steps rs) in
     let there =
     standing_by_place g.plan (length (reached_after past)) (state_after g past).count (instruction_turn g (steps rs)) e at in
-    let p = planned g.plan (length (reached_after past)) there.0 plan.each there.1 in (
+    let p = planned IsTimedInRange g.plan (length (reached_after past)) there.0 plan.each there.1 in (
       subst IsInRange there.2 p.0.event,
       subst (λ (qs : List Record). length (reached_after qs) < length g.plan) (records_of-steps rs) p.1,
-      λ version of. subst (IsOfVersion version) there.2 (plan_of_version version g.plan (length (reached_after past)) there.0 of there.1),
+      λ version of. subst (IsOfVersion version) there.2
+          (planned (λ (t : Timed). IsOfVersion version t.event) g.plan (length (reached_after past)) there.0 of there.1).0,
     )
 
+-- and one more behind them, which stands
+push_fits : (g : Given) (rs : List Record) (e : Event) → IsPlan g.plan → g.length ≤ MAX_LENGTH → IsPipelinedPast g rs
+    → event_ahead g (steps rs) ≡ Some e → Fits g rs
+    → FitsTo g (reached_after rs ++ timed_at (state_after g rs).count e ∷ [])
+push_fits g rs e plan short past at f =
+    let ts = reached_after rs in
+    let t = timed_at (state_after g rs).count e in
+    let one = stands g rs e plan at in
+    let room = one.1 in
+    let within = late_within g rs past in
+    let most : MAX_LENGTH ≡ 10000000 = refl in
+    let long = length-append ts (t ∷ []) in
+    record {
+      each = AllTimedInRange-push ts t f.0.each (record { time = omega (arith, within, short, most); event = one.0 });
+      order = InOrder-push 0 ts t f.0.order f.1;
+      few = omega (arith, long, room);
+      version = λ version plan. AreOfVersion-push version ts t (f.0.version version plan) (one.2 version plan);
+    }
+
 fits : (g : Given) (rs : List Record) → IsPlan g.plan → g.length ≤ MAX_LENGTH → IsPipelinedPast g rs → Fits g rs
-fits g [] plan short past = record { each = tt; order = tt; last = omega arith; few = omega arith; version = λ version of. tt }
+fits g [] plan short past =
+    (record { each = tt; order = tt; few = omega arith; version = λ version of. tt }, omega arith)
 fits g (r ∷ rs) plan short past =
     by_event (fits g rs plan short past.0) (event_ahead g (steps rs)) refl (sym (next_of_steps g rs) ∙ late_next g rs r past)
   where
@@ -101,57 +96,32 @@ fits g (r ∷ rs) plan short past =
           | inr (inl found) ↦
               let t = timed_at (state_after g rs).count e in
               let grown = subst (λ (x : Record). reached_after (x ∷ rs) ≡ reached_after rs ++ t ∷ []) (does_is found.0 r (sym found.1 ∙ is)) found.2 in
-              let one = stands g rs e plan at in
-              let within = late_within g rs past.0 in
-              let most : MAX_LENGTH ≡ 10000000 = refl in
-              let fine : IsTimedInRange t = record { time = omega (arith, within, short, most); event = one.0 } in
-              more_fits g rs r t before grown fine before.last grows one.1 one.2
+              let more = push_fits g rs e plan short past.0 at before in
+              let last = λ (ts : List Timed). last_time 0 ts ≤ r.after.count in
+              let before_it = subst (λ (n : ℕ). n ≤ r.after.count) (sym (last_time-push 0 (reached_after rs) t))
+              grows in
+              (subst (FitsTo g) (sym grown) more, subst last (sym grown) before_it)
           | inr (inr ends) ↦ absurd (cc (sym ends.1 ∙ is))
         ]
 
--- the events that were reached with an end are in range and in order too
-record FitsTo (g : Given) (rs : List Record) (ts : List Timed) : Type 0 where
-  each : AllByRecursion IsTimedInRange ts
-  order : InOrder 0 ts
-  few : length ts ≤ length g.plan
-  version : KeepsVersion g ts
-
-fits_none : (g : Given) (rs : List Record) → Fits g rs → FitsTo g rs (reached_after rs ++ [])
-fits_none g rs f =
-    subst (FitsTo g rs) (sym (append-nil (reached_after rs))) (record { each = f.each; order = f.order; few = f.few; version = f.version })
-
-fits_one : (g : Given) (rs : List Record) (e : Event) → IsPlan g.plan → g.length ≤ MAX_LENGTH → IsPipelinedPast g rs
-    → event_ahead g (steps rs) ≡ Some e → FitsTo g rs (reached_after rs ++ timed_at (state_after g rs).count e ∷ [])
-fits_one g rs e plan short past at =
-    let f = fits g rs plan short past in
-    let t = timed_at (state_after g rs).count e in
-    let one = stands g rs e plan at in
-    let room = one.1 in
-    let within = late_within g rs past in
-    let most : MAX_LENGTH ≡ 10000000 = refl in
-    let fine : IsTimedInRange t = record { time = omega (arith, within, short, most); event = one.0 } in
-    let long = length-append (reached_after rs) (t ∷ []) in
-    record {
-      each = AllTimedInRange-push (reached_after rs) t f.each fine;
-      order = InOrder-push 0 (reached_after rs) t f.order f.last;
-      few = omega (arith, long, room);
-      version = λ version plan. AreOfVersion-push version (reached_after rs) t (f.version version plan) (one.2 version plan);
-    }
+fits_none : (g : Given) (rs : List Record) → Fits g rs → FitsTo g (reached_after rs ++ [])
+fits_none g rs f = subst (FitsTo g) (sym (append-nil (reached_after rs))) f.0
 
 -- an end that comes next reached nothing, or the event that stood there
 end_fits : (g : Given) (rs : List Record) (f : Finish) → IsPlan g.plan → g.length ≤ MAX_LENGTH → IsPipelinedPast g rs
-    → comes_next g (steps rs) ≡ Ends f → FitsTo g rs (reached_in g rs f)
+    → comes_next g (steps rs) ≡ Ends f → FitsTo g (reached_in g rs f)
 end_fits g rs f plan short past ends = by_event (event_ahead g (steps rs)) refl (sym (next_of_steps g rs) ∙ ends)
   where
     count : ℕ
     count = (state_after g rs).count
 
-    silent : f.event ≡ None → FitsTo g rs (reached_in g rs f)
+    silent : f.event ≡ None → FitsTo g (reached_in g rs f)
     silent none =
-        subst (λ (x : Option Event). FitsTo g rs (reached_after rs ++ reached_last count x)) (sym none)
+        subst (λ (x : Option Event). FitsTo g (reached_after rs ++ reached_last count x)) (sym none)
         (fits_none g rs (fits g rs plan short past))
 
-    by_event : (o : Option Event) → event_ahead g (steps rs) ≡ o → next_with g o rs ≡ Ends f → FitsTo g rs (reached_in g rs f)
+    by_event : (o : Option Event) → event_ahead g (steps rs) ≡ o → next_with g o rs ≡ Ends f
+        → FitsTo g (reached_in g rs f)
     by_event None at is = silent ((heedful g).silent rs f is)
     by_event (Some e) at is = elim ((heedful g).heard rs e) [
       | inl same ↦ silent ((heedful g).silent rs f (sym same ∙ is))
@@ -159,19 +129,21 @@ end_fits g rs f plan short past ends = by_event (event_ahead g (steps rs)) refl 
       | inr (inr found) ↦
           let one : found.0 ≡ f = ends_is found.0 f (sym found.1 ∙ is) in
           let reached : f.event ≡ Some e = ap (λ (x : Finish). x.event) (sym one) ∙ found.2 in
-          subst (λ (x : Option Event). FitsTo g rs (reached_after rs ++ reached_last count x)) (sym reached)
-          (fits_one g rs e plan short past at)
+          subst (λ (x : Option Event). FitsTo g (reached_after rs ++ reached_last count x)) (sym reached)
+          (push_fits g rs e plan short past at (fits g rs plan short past))
     ]
 
 run_fits : (g : Given) (rs : List Record) (f : Finish) → IsPlan g.plan → g.length ≤ MAX_LENGTH → IsPipelinedRun g rs f
-    → FitsTo g rs (reached_in g rs f)
+    → FitsTo g (reached_in g rs f)
 run_fits g rs f plan short run = elim (run_cases g rs f run) [
   | inl plain ↦ end_fits g rs f plan short run.past (run_ends g rs f plain run).1
   | inr fault ↦
-      subst (λ (k : Finish). FitsTo g rs (reached_in g rs k)) (sym fault.1) (fits_none g rs (fits g rs plan short run.past))
+      subst (λ (k : Finish). FitsTo g (reached_in g rs k)) (sym fault.1)
+      (fits_none g rs (fits g rs plan short run.past))
 ]
 
-fit_plan : (g : Given) (rs : List Record) (f : Finish) → IsPlan g.plan → FitsTo g rs (reached_in g rs f) → IsPlan (reached_in g rs f)
+fit_plan : (g : Given) (rs : List Record) (f : Finish) → IsPlan g.plan → FitsTo g (reached_in g rs f)
+    → IsPlan (reached_in g rs f)
 fit_plan g rs f plan fit =
     let few = fit.few in
     let most = plan.few in

@@ -108,10 +108,9 @@ pub kind_pushes : (limit : ℕ) (due : Due) (stands : Option Event) (k : Kind) (
     → IsTrue (is_call k) → Pushes s (action_by_kind k s) (return_address k s) (type_of k s)
 kind_pushes limit due stands (Instruction i) s may h =
     let p = instruction_pushes i s h in record { sets = p.sets; move = p.move; control = p.control; small = p.small }
-kind_pushes limit due stands (Faulted inst fault) s may h = absurd cc
 kind_pushes limit due stands (Entered e) s may h = entering_pushes s may.0 e may.2
 kind_pushes limit due stands (Interrupted c e) s may h = interrupting_pushes s c e may.3
-kind_pushes limit due stands (Reached e u) s may h = absurd cc
+kind_pushes limit due stands _ s may h = absurd cc
 
 pfp_written : (f : ℕ → ℕ) (p : Push) → written f (push_sets p) PFP ≡ p.pfp
 pfp_written f p = frame_local f (p.pfp ∷ p.sp ∷ replicate 14 0) p.frame PFP refl (omega arith)

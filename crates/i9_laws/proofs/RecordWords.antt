@@ -5,6 +5,7 @@ use Rattle.std.proofs.lemmas.Bool.{ne_eqb, or_from}
 use Rattle.std.specs.Int.{w32, from_le_bytes, from_be_bytes, to_le_bytes, to_be_bytes}
 use Rattle.i9_model.specs.declared.layout.TheConstants.{FP, AC_MASK, PC_MASK, RECORD_SIZE}
 use Rattle.i9_model.specs.declared.calls.Sys.{Sys}
+use Rattle.i9_model.specs.declared.push.Push.{Push}
 use Rattle.i9_model.specs.declared.faults.Fault.{Fault}
 use Rattle.i9_model.specs.declared.faults.Entry.{Entry}
 use Rattle.i9_model.specs.Writes.{address_count, wrapped, upwards}
@@ -22,7 +23,7 @@ use Rattle.i9_model.specs.Faults.{fault_record, entry_of}
 use Rattle.i9_model.specs.Step.{bytes_of_words, saved_locals, entering, moved, acted}
 use Rattle.i9_model.specs.Interrupts.{without_bit, vector_priority, priority_place, pending_place, left_pending, taken_writes, clearing_writes, record_writes}
 use Rattle.i9_model.specs.Before.{interrupt_in, interrupting}
-use Rattle.i9_model.specs.Run.{Kind, Instruction, Faulted, Entered, Interrupted, Reached, action_by_kind, entry_in}
+use Rattle.i9_model.specs.Run.{Kind, Entered, Interrupted, action_by_kind, entry_in}
 use Rattle.i9_past.proofs.Comes.{MayCome}
 use Rattle.i9_model.proofs.CallLaws.{second_none}
 use Rattle.i9_model.proofs.FrameBytes.{stored_at, byte_of_words}
@@ -81,29 +82,44 @@ record_stands m n after a ws k same low free four h small stays =
     ∙ stored_at n.bytes a bs (4 * k + j) (omega (arith, long, four, h, l)) (omega (arith, long, four)) outside
     ∙ byte_of_words m a ws k j low (omega (arith, four, h)) l)
 
+-- so a state whose frame pointer is that of a push, and whose memory has the bytes of its record, has the controls
+controls_stand : (s t : State) (push : Push) (ws : List ℕ) → IsKept s → length ws ≡ 4 → get_or ws 0 0 ≡ s.pc
+    → get_or ws 1 0 ≡ s.ac
+    → t.regs FP ≡ push.frame → t.memory.mcon ≡ s.memory.mcon
+    → port_hazard (record_address push.frame) RECORD_SIZE ≡ None
+    → ((x : ℕ) → in_bytes (record_address push.frame) RECORD_SIZE x ≡ true
+    → t.memory.bytes x ≡ stored (with_words s.memory push.save (saved_locals s s.ip)).bytes (record_writes s.memory push ws) x)
+    → HasControls s t
+controls_stand s t push ws kept four pc ac fp regions free stays =
+    let a = record_address push.frame in
+    let n = with_words s.memory push.save (saved_locals s s.ip) in
+    let stands = λ (k : ℕ) (h : k < 4) (small : IsWord (get_or ws k 0)).
+    record_stands s.memory n t.memory a ws k regions (omega arith) free four h small stays in
+    let start : wrapped (a + 0) ≡ a = omega arith in
+    let pc_word = within_word PC_MASK s.pc (omega arith) kept.pc in
+    let ac_word = within_word AC_MASK s.ac (omega arith) kept.ac in
+    record {
+      pc =
+          ap (saved_pc t.memory) fp
+          ∙ sym (ap (word_in t.memory) start)
+          ∙ stands 0 (omega arith) (omega (arith, pc, pc_word))
+          ∙ pc;
+      ac = ap (saved_ac t.memory) fp ∙ stands 1 (omega arith) (omega (arith, ac, ac_word)) ∙ ac;
+    }
+
 pub entering_writes : (s : State) (fault : Fault) (e : Entry) → IsKept s → entry_in s fault ≡ Ok e → HasControls s (acted s (entering e s))
 unfolding acted moved record_write_hazard
 entering_writes s fault e kept ok =
     let made = entry_by (λ (x : Sys). Unit {0}) s fault e (record { switched = λ x y. tt; here = λ x. tt }) ok in
     let push = made.0.push in
-    let a = record_address push.frame in
-    let ws = fault_record fault s.pc s.ac in
-    let n = with_words s.memory push.save (saved_locals s s.ip) in
-    let free = second_none (write_hazard (saved s.frames push.save) a RECORD_SIZE) (port_hazard a RECORD_SIZE) made.3 in
+    let free = second_none (write_hazard (saved s.frames push.save) (record_address push.frame) RECORD_SIZE) _ made.3 in
     let regions = words_mcon s.memory push.save (saved_locals s s.ip) in
-    let after = with_writes n (upwards a (bytes_of_words s.memory a ws)) in
-    let stands = λ (k : ℕ) (h : k < 4) (small : IsWord (get_or ws k 0)).
-    record_stands s.memory n after a ws k regions (omega arith) free refl h small (λ x inside. refl) in
-    let start : wrapped (a + 0) ≡ a = omega arith in
     let fp : (acted s (entering (entry_of fault s.pc s.ac made.0) s)).regs FP ≡ push.frame =
     frame_pointer s.regs (push.pfp ∷ push.sp ∷ replicate 14 0) push.frame in
-    subst (λ (x : Entry). HasControls s (acted s (entering x s))) made.2 (record {
-      pc =
-          ap (saved_pc after) fp
-          ∙ sym (ap (word_in after) start)
-          ∙ stands 0 (omega arith) (within_word PC_MASK s.pc (omega arith) kept.pc);
-      ac = ap (saved_ac after) fp ∙ stands 1 (omega arith) (within_word AC_MASK s.ac (omega arith) kept.ac);
-    })
+    let here = controls_stand s (acted s (entering (entry_of fault s.pc s.ac made.0) s)) push
+    (fault_record fault s.pc s.ac) kept
+    refl refl refl fp regions free (λ x inside. refl) in
+    subst (λ (x : Entry). HasControls s (acted s (entering x s))) made.2 (record { pc = here.pc; ac = here.ac })
 
 -- ---- an interrupt
 
@@ -143,25 +159,17 @@ made_writes s c kept hazard beside =
     let n = with_words s.memory push.save (saved_locals s s.ip) in
     let recorded = record_writes s.memory push ws in
     let clears = clearing_writes c.cause (with_writes s.memory recorded) s.tables.interrupt_table c.vector in
-    let after = with_writes n (recorded ++ clears) in
     let free = second_none (write_hazard (saved s.frames push.save) a RECORD_SIZE) (port_hazard a RECORD_SIZE) hazard in
     let regions = words_mcon s.memory push.save (saved_locals s s.ip) in
     let stays = λ (x : ℕ) (inside : in_bytes a RECORD_SIZE x ≡ true).
     ap (λ (f : ℕ → ℕ). f x) (stored-append n.bytes recorded clears)
     ∙ stored_kept (stored n.bytes recorded) clears x
     (inl (clearing_beside c.cause (with_writes s.memory recorded) s.tables.interrupt_table c.vector a beside x inside)) in
-    let stands = λ (k : ℕ) (h : k < 4) (small : IsWord (get_or ws k 0)).
-    record_stands s.memory n after a ws k regions (omega arith) free refl h small stays in
-    let start : wrapped (a + 0) ≡ a = omega arith in
     let fp : (acted s (interrupting c (entry_for s c) s)).regs FP ≡ push.frame =
     frame_pointer s.regs (push.pfp ∷ push.sp ∷ replicate 14 0) push.frame in
-    record {
-      pc =
-          ap (saved_pc after) fp
-          ∙ sym (ap (word_in after) start)
-          ∙ stands 0 (omega arith) (within_word PC_MASK s.pc (omega arith) kept.pc);
-      ac = ap (saved_ac after) fp ∙ stands 1 (omega arith) (within_word AC_MASK s.ac (omega arith) kept.ac);
-    }
+    let here = controls_stand s (acted s (interrupting c (entry_for s c) s))
+    push ws kept refl refl refl fp regions free stays in
+    record { pc = here.pc; ac = here.ac }
 
 pub interrupting_writes : (s : State) (c : Chosen) (e : Entry) → IsKept s → interrupt_in s c ≡ Ok e
     → AreBeside c.cause s.tables.interrupt_table c.vector (record_address e.push.frame) → HasControls s (acted s (interrupting c e s))
@@ -175,8 +183,6 @@ interrupting_writes s c e kept ok beside =
 
 pub entry_writes_controls : (limit : ℕ) (due : Due) (stands : Option Event) (k : Kind) (s : State) → IsKept s → MayCome limit due stands s k
     → IsTrue (is_entry k) → LeavesRecord k s → HasControls s (acted s (action_by_kind k s))
-entry_writes_controls limit due stands (Instruction i) s kept may h left = absurd cc
-entry_writes_controls limit due stands (Faulted inst fault) s kept may h left = absurd cc
 entry_writes_controls limit due stands (Entered e) s kept may h left = entering_writes s may.0 e kept may.2
 entry_writes_controls limit due stands (Interrupted c e) s kept may h left = interrupting_writes s c e kept may.3 left
-entry_writes_controls limit due stands (Reached e u) s kept may h left = absurd cc
+entry_writes_controls limit due stands _ s kept may h left = absurd cc

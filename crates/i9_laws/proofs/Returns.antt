@@ -1,9 +1,9 @@
 -- A return undoes the call whose frame is the first live one.
-use Rattle.std.proofs.Common.{◌≡◌, ◌≢◌, ℕ, zero, suc, ◌+◌, ◌%◌, ◌<◌, ◌≤◌, Bool, true, false, cond, List, [], ◌∷◌, ◌++◌, get_or, Option, Some, None, refl, sym, ap, ◌∙◌, subst, arith, bit_and}
+use Rattle.std.proofs.Common.{◌≡◌, ◌≢◌, ℕ, ◌+◌, ◌%◌, ◌<◌, ◌≤◌, Bool, true, false, cond, List, [], ◌∷◌, ◌++◌, get_or, Option, Some, None, refl, sym, ap, ◌∙◌, subst, arith, bit_and}
 use Rattle.std.specs.Prelude.{IsTrue, ◌==◌, ◌&&◌, not}
 use Rattle.std.proofs.lemmas.Bool.{ne_eqb, eqb-true}
 use Rattle.std.proofs.lemmas.List.FromFn.{get_or-map-range_with_len}
-use Rattle.i9_laws.proofs.Undoing.{either}
+use Rattle.i9_laws.proofs.Undoing.{either, left_controls}
 use Rattle.i9_isa.specs.declared.op.Op.{Op}
 use Rattle.i9_isa.specs.declared.op.Op.TheVariants.{Calls, Ret}
 use Rattle.i9_isa.specs.declared.inst.Inst.{Inst}
@@ -18,14 +18,14 @@ use Rattle.i9_model.specs.State.{State, Frames, frame_sets}
 use Rattle.i9_model.specs.Frames.{rounded_down}
 use Rattle.i9_model.specs.Hazards.{port_hazard, frame_hazard, return_hazard}
 use Rattle.i9_model.specs.Access.{access_by_name, access_by, hazard_in, hazard_of}
-use Rattle.i9_model.specs.Calls.{in_supervisor_mode, trace_enable, without_supervisor, call_type, return_type, takes_record, leaves_supervisor, saved_pc, saved_ac, controls_hazard, returned_pc, returned_ac, ret_hazard, popped}
+use Rattle.i9_model.specs.Calls.{in_supervisor_mode, trace_enable, without_supervisor, call_type, return_type, saved_pc, controls_hazard, returned_pc, returned_ac, ret_hazard, popped}
 use Rattle.i9_model.specs.Step.{Move, Action, saved_local, saved_locals, system_call, ret_action, action_by_name, action_by, action_of, moved, flagged, acted, counted}
 use Rattle.i9_model.specs.declared.trace.Trace.{Trace}
 use Rattle.i9_model.specs.Traced.{traced_action}
 use Rattle.i9_model.specs.ScheduleText.{IsPlan}
 use Rattle.i9_model.specs.HeldFrames.{frame_at}
 use Rattle.i9_model.specs.declared.run.Due.{Due}
-use Rattle.i9_model.specs.Run.{Given, Record, Kind, Instruction, Faulted, Entered, Interrupted, Reached, action_by_kind, action_done, after_kind, record_of, due_after, event_after, state_after, IsPast}
+use Rattle.i9_model.specs.Run.{Given, Record, Kind, Instruction, Entered, Interrupted, action_by_kind, action_done, after_kind, record_of, due_after, event_after, state_after, IsPast}
 use Rattle.i9_model.proofs.CallLaws.{first_none, second_none}
 use Rattle.i9_model.proofs.ControlLaws.{flagged-others}
 use Rattle.i9_past.proofs.Comes.{MayCome, next_comes}
@@ -98,67 +98,42 @@ first_live f pfp fp save rest live none =
 
 -- ---- the controls
 
--- types 010 and 011 leave supervisor mode
-left_pc : (pc w t : ℕ) (b : Bool) → t < 2
-    → cond (not b) pc (cond (takes_record (2 + t)) w (cond (leaves_supervisor (2 + t)) (without_supervisor pc ((2 + t) % 2)) pc))
-    ≡ cond b (without_supervisor pc t) pc
-left_pc pc w zero true h = refl
-left_pc pc w zero false h = refl
-left_pc pc w (suc zero) true h = refl
-left_pc pc w (suc zero) false h = refl
-left_pc pc w (suc (suc t)) b h = absurd (omega (arith, h))
+-- the controls after a return of a type in the state u
+abbrev Leaves : State → ℕ → ℕ → ℕ → Type 0
+Leaves u kind pc ac =
+    (returned_pc u.memory kind (u.regs FP) u.pc ≡ pc) × (returned_ac u.memory kind (u.regs FP) u.ac ≡ ac)
 
-left_ac : (ac w t : ℕ) → t < 2 → cond (takes_record (2 + t)) w ac ≡ ac
-left_ac ac w zero h = refl
-left_ac ac w (suc zero) h = refl
-left_ac ac w (suc (suc t)) h = absurd (omega (arith, h))
+system_controls : (switched : Bool) (s u : State)
+    → Leaves u (call_type s.pc switched) (cond (switched && in_supervisor_mode u.pc) (without_supervisor u.pc (trace_enable s.pc)) u.pc) u.ac
+system_controls true s u = left_controls u.pc _ u.ac _ (s.pc % 2) (in_supervisor_mode u.pc) (omega arith)
+system_controls false s u = (either (not (in_supervisor_mode u.pc)) u.pc, refl)
 
-system_pc : (switched : Bool) (s u : State)
-    → returned_pc u.memory (call_type s.pc switched) (u.regs FP) u.pc
-    ≡ cond (switched && in_supervisor_mode u.pc) (without_supervisor u.pc (trace_enable s.pc)) u.pc
-system_pc true s u = left_pc u.pc (bit_and (saved_pc u.memory (u.regs FP)) PC_MASK) (s.pc % 2) (in_supervisor_mode u.pc) (omega arith)
-system_pc false s u = either (not (in_supervisor_mode u.pc)) u.pc
-
-system_ac : (switched : Bool) (s u : State) → returned_ac u.memory (call_type s.pc switched) (u.regs FP) u.ac ≡ u.ac
-system_ac true s u = left_ac u.ac (bit_and (saved_ac u.memory (u.regs FP)) AC_MASK) (s.pc % 2) (omega arith)
-system_ac false s u = refl
-
-name_pc : (op : Op) (i : Inst) (s u : State) → returned_pc u.memory (type_by_name op i s) (u.regs FP) u.pc ≡ pc_by_name op i s u
-name_pc Calls i s u = system_pc (system_call i s).switched s u
-name_pc _ i s u = either (not (in_supervisor_mode u.pc)) u.pc
-
-name_ac : (op : Op) (i : Inst) (s u : State) → returned_ac u.memory (type_by_name op i s) (u.regs FP) u.ac ≡ u.ac
-name_ac Calls i s u = system_ac (system_call i s).switched s u
-name_ac _ i s u = refl
+name_controls : (op : Op) (i : Inst) (s u : State) → Leaves u (type_by_name op i s) (pc_by_name op i s u) u.ac
+name_controls Calls i s u = system_controls (system_call i s).switched s u
+name_controls _ i s u = (either (not (in_supervisor_mode u.pc)) u.pc, refl)
 
 record_pc : (b : Bool) (pc w : ℕ) → cond (not b) pc w ≡ cond b w pc
 record_pc true pc w = refl
 record_pc false pc w = refl
 
-kind_pc : (k : Kind) (s u : State) → IsTrue (is_call k) → returned_pc u.memory (type_of k s) (u.regs FP) u.pc ≡ pc_back k s u
-kind_pc (Instruction i) s u h = name_pc i.op i s u
-kind_pc (Faulted inst fault) s u h = absurd cc
-kind_pc (Entered e) s u h = record_pc (in_supervisor_mode u.pc) u.pc (bit_and (saved_pc u.memory (u.regs FP)) PC_MASK)
-kind_pc (Interrupted c e) s u h = record_pc (in_supervisor_mode u.pc) u.pc (bit_and (saved_pc u.memory (u.regs FP)) PC_MASK)
-kind_pc (Reached e does) s u h = absurd cc
-
-kind_ac : (k : Kind) (s u : State) → IsTrue (is_call k) → returned_ac u.memory (type_of k s) (u.regs FP) u.ac ≡ ac_back k u
-kind_ac (Instruction i) s u h = name_ac i.op i s u
-kind_ac (Faulted inst fault) s u h = absurd cc
-kind_ac (Entered e) s u h = refl
-kind_ac (Interrupted c e) s u h = refl
-kind_ac (Reached e does) s u h = absurd cc
+kind_controls : (k : Kind) (s u : State) → IsTrue (is_call k) → Leaves u (type_of k s) (pc_back k s u) (ac_back k u)
+kind_controls (Instruction i) s u h = name_controls i.op i s u
+kind_controls (Entered e) s u h = (record_pc (in_supervisor_mode u.pc) u.pc _, refl)
+kind_controls (Interrupted c e) s u h = (record_pc (in_supervisor_mode u.pc) u.pc _, refl)
+kind_controls _ s u h = absurd cc
 
 controls_back : (k : Kind) (s u : State) → IsTrue (is_call k) → u.regs PFP ≡ rounded_down (s.regs FP) + type_of k s → type_of k s < 8
     → ((acted u (ret_action u)).pc ≡ pc_back k s u) × ((acted u (ret_action u)).ac ≡ ac_back k u)
 unfolding acted moved popped
 controls_back k s u h pfp small =
-    let type : return_type (u.regs PFP) ≡ type_of k s = omega (arith, pfp, small) in (
-      ap (λ (n : ℕ). returned_pc u.memory n (u.regs FP) u.pc) type ∙ kind_pc k s u h,
-      ap (λ (n : ℕ). returned_ac u.memory n (u.regs FP) u.ac) type ∙ kind_ac k s u h,
-    )
+    let type : return_type (u.regs PFP) ≡ type_of k s = omega (arith, pfp, small) in
+    subst (λ (n : ℕ). Leaves u n (pc_back k s u) (ac_back k u)) (sym type) (kind_controls k s u h)
 
 -- ---- a return
+
+is_ret : (op : Op) → IsTrue (is_return_name op) → op ≡ Ret
+is_ret Ret h = refl
+is_ret _ h = absurd cc
 
 -- its record, in a state
 abbrev return_record : Kind → State → Record
@@ -167,41 +142,28 @@ return_record k u = record { kind = k; before = u; after = counted 1 (flagged (a
 -- it does what ret does, with its trace events
 return_after : (k : Kind) (u : State) → IsTrue (is_return k) → after_kind k u ≡ (return_record k u).after
 unfolding action_of acted moved
-return_after (Instruction i) u h = ap (λ (a : Action). counted 1 (acted u (record a { trace = (traced_action i u).trace }))) (by_name i.op refl h)
-  where
-    by_name : (op : Op) → i.op ≡ op → IsTrue (is_return_name op) → action_by (transfer_of i.op) i u ≡ ret_action u
-    by_name Ret e t = ap (λ (o : Op). action_by (transfer_of o) i u) e ∙ ap (λ (o : Op). action_by_name o i u) e
-    by_name _ e t = absurd cc
-return_after (Faulted inst fault) u h = absurd cc
-return_after (Entered e) u h = absurd cc
-return_after (Interrupted c e) u h = absurd cc
-return_after (Reached e does) u h = absurd cc
+return_after (Instruction i) u h =
+    let e = is_ret i.op h in
+    ap (λ (a : Action). counted 1 (acted u (record a { trace = (traced_action i u).trace })))
+    (ap (λ (o : Op). action_by (transfer_of o) i u) e ∙ ap (λ (o : Op). action_by_name o i u) e)
+return_after _ u h = absurd cc
 
 -- it meets no hazard
 return_free : (limit : ℕ) (due : Due) (stands : Option Event) (k : Kind) (u : State) → IsTrue (is_return k)
     → MayCome limit due stands u k
     → ret_hazard u.frames (u.regs PFP) (u.regs FP) ≡ None
 unfolding hazard_of
-return_free limit due stands (Instruction i) u h may = by_name i.op refl h
-  where
-    by_name : (op : Op) → i.op ≡ op → IsTrue (is_return_name op) → ret_hazard u.frames (u.regs PFP) (u.regs FP) ≡ None
-    by_name Ret e t =
-        sym (ap (λ (o : Op). hazard_in u (access_by_name o i u)) e)
-        ∙ sym (ap (λ (o : Op). hazard_in u (access_by (transfer_of o) i u)) e)
-        ∙ may.2
-    by_name _ e t = absurd cc
-return_free limit due stands (Faulted inst fault) u h may = absurd cc
-return_free limit due stands (Entered e) u h may = absurd cc
-return_free limit due stands (Interrupted c e) u h may = absurd cc
-return_free limit due stands (Reached e does) u h may = absurd cc
+return_free limit due stands (Instruction i) u h may =
+    let e = is_ret i.op h in
+    sym (ap (λ (o : Op). hazard_in u (access_by_name o i u)) e)
+    ∙ sym (ap (λ (o : Op). hazard_in u (access_by (transfer_of o) i u)) e)
+    ∙ may.2
+return_free limit due stands _ u h may = absurd cc
 
 -- no call returns to an address with low bits
 address_even : (k : Kind) (s : State) → IsKept s → return_address k s % 4 ≡ 0
 address_even (Instruction i) s h = following_even s (words_of i) h
-address_even (Faulted inst fault) s h = h.ip
-address_even (Entered e) s h = h.ip
-address_even (Interrupted c e) s h = h.ip
-address_even (Reached e u) s h = h.ip
+address_even _ s h = h.ip
 
 -- ---- a run
 
@@ -292,26 +254,12 @@ at_once g rs call back image plan past is_called is_returned =
 
 -- ---- the entry of a fault or of an interrupt
 
-entry_is_call : (k : Kind) → IsTrue (is_entry k) → IsTrue (is_call k)
-entry_is_call (Instruction i) h = absurd cc
-entry_is_call (Faulted inst fault) h = absurd cc
-entry_is_call (Entered e) h = h
-entry_is_call (Interrupted c e) h = h
-entry_is_call (Reached e u) h = absurd cc
-
-entry_pc : (k : Kind) (s u : State) → IsTrue (is_entry k) → pc_back k s u ≡ pc_of_record u
-entry_pc (Instruction i) s u h = absurd cc
-entry_pc (Faulted inst fault) s u h = absurd cc
-entry_pc (Entered e) s u h = refl
-entry_pc (Interrupted c e) s u h = refl
-entry_pc (Reached e does) s u h = absurd cc
-
-entry_ac : (k : Kind) (u : State) → IsTrue (is_entry k) → ac_back k u ≡ ac_of_record u
-entry_ac (Instruction i) u h = absurd cc
-entry_ac (Faulted inst fault) u h = absurd cc
-entry_ac (Entered e) u h = refl
-entry_ac (Interrupted c e) u h = refl
-entry_ac (Reached e does) u h = absurd cc
+-- it is a call, and its return takes the controls of a record
+entry_cases : (k : Kind) (s u : State) → IsTrue (is_entry k)
+    → IsTrue (is_call k) × (pc_back k s u ≡ pc_of_record u) × (ac_back k u ≡ ac_of_record u)
+entry_cases (Entered e) s u h = (h, refl, refl)
+entry_cases (Interrupted c e) s u h = (h, refl, refl)
+entry_cases _ s u h = absurd cc
 
 pub entry_back : (g : Given) (rs between : List Record) (call back : Record) → IsPast g (back ∷ between ++ call ∷ rs)
     → IsTrue (is_entry call.kind) → IsTrue (is_return back.kind) → back.before.regs PFP ≡ call.after.regs PFP
@@ -321,15 +269,16 @@ entry_back g rs between call back past is_entered is_returned pfp stands =
     let before = past_before g between (call ∷ rs) past.0 in
     let was = ap (λ (q : Record). q.before) (next_comes g.length (due_after rs) (event_after g rs) (state_after g rs) call before.1).0 in
     let kept = subst IsKept (sym was) (kept_after g rs before.0) in
-    let controls = control_back g rs between call back past (entry_is_call call.kind is_entered) is_returned pfp in
+    let entry = entry_cases call.kind call.before u is_entered in
+    let controls = control_back g rs between call back past entry.0 is_returned pfp in
     record {
       pc = λ mode.
           controls.pc
-          ∙ entry_pc call.kind call.before u is_entered
+          ∙ entry.1
           ∙ ap (λ (b : Bool). cond b (bit_and (saved_pc u.memory (u.regs FP)) PC_MASK) u.pc) mode
           ∙ ap (λ (w : ℕ). bit_and w PC_MASK) stands.pc
           ∙ kept.pc;
-      ac = controls.ac ∙ entry_ac call.kind u is_entered ∙ ap (λ (w : ℕ). bit_and w AC_MASK) stands.ac ∙ kept.ac;
+      ac = controls.ac ∙ entry.2 ∙ ap (λ (w : ℕ). bit_and w AC_MASK) stands.ac ∙ kept.ac;
     }
 
 -- a return right after such an entry finds the record as the entry left it

@@ -3,15 +3,15 @@ use Rattle.std.proofs.Common.{◌≡◌, ℕ, List, [], ◌∷◌, ◌++◌, Opt
 use Rattle.std.proofs.lemmas.List.{append-nil}
 use Rattle.i9_text.specs.Text as texts
 use Rattle.i9_model.specs.declared.event.Event.{Event}
-use Rattle.i9_model.specs.declared.event.Event.TheVariants.{Pin, Low, High, Nmi, Dma, Feed, Show}
+use Rattle.i9_model.specs.declared.event.Event.TheVariants.{Show}
 use Rattle.i9_model.specs.declared.event.Timed.{Timed}
 use Rattle.i9_model.specs.declared.run.End.{End}
-use Rattle.i9_model.specs.declared.run.End.TheVariants.{Exit, Limit, Hazard, Dead, Imprecise}
+use Rattle.i9_model.specs.declared.run.End.TheVariants.{Exit}
 use Rattle.i9_model.specs.declared.run.Point.{Point}
 use Rattle.i9_model.specs.State.{State}
 use Rattle.i9_model.specs.ScheduleText.{timed_at, IsVersion, AreOfVersion, IsPlan, IsSchedule}
-use Rattle.i9_model.specs.Run.{Given, Kind, Instruction, Faulted, Entered, Interrupted, Reached, Record, Ends, action_done, point_of, next_with, reached_by, reached_after, state_after, IsPast, IsRun, Finish, finish, reached_last, reached_in}
-use Rattle.i9_model.specs.PrintedText.{Shown, Out, Drained, Journal, Bytes, Last, out_lines, point_lines, bytes_lines, event_lines, record_lines, lines_of, end_lines, text_of, events_of, run_text, heading_text, view_of, journal_lines, last_lines}
+use Rattle.i9_model.specs.Run.{Given, Kind, Reached, Record, Ends, action_done, point_of, next_with, reached_by, reached_after, state_after, IsPast, IsRun, Finish, finish, reached_last, reached_in}
+use Rattle.i9_model.specs.PrintedText.{Shown, Journal, out_lines, point_lines, bytes_lines, event_lines, record_lines, lines_of, end_lines, text_of, events_of, run_text, heading_text, view_of, journal_lines, last_lines}
 use Rattle.i9_model.specs.Memory.{console_byte}
 use Rattle.i9_past.proofs.Heedful.{tally, heedful, planned_past, with_plan, next_planned, past_planned}
 use Rattle.i9_replay.proofs.Plans.{front_is_plan, front_of_version}
@@ -47,10 +47,7 @@ run_again g rs f run =
 events_append : (xs ys : List Shown) → events_of (xs ++ ys) ≡ events_of xs ++ events_of ys
 events_append [] ys = refl
 events_append (Journal k e ∷ xs) ys = ap (λ (ts : List Timed). events_of (Journal k e ∷ []) ++ ts) (events_append xs ys)
-events_append (Out b ∷ xs) ys = events_append xs ys
-events_append (Drained k v ∷ xs) ys = events_append xs ys
-events_append (Bytes a bs ∷ xs) ys = events_append xs ys
-events_append (Last f ∷ xs) ys = events_append xs ys
+events_append (_ ∷ xs) ys = events_append xs ys
 
 out_none : (o : Option ℕ) → events_of (out_lines o) ≡ []
 out_none None = refl
@@ -61,23 +58,15 @@ point_none None s = refl
 point_none (Some k) s = refl
 
 bytes_none : (e : Event) (s : State) → events_of (bytes_lines e s) ≡ []
-bytes_none (Pin x) s = refl
-bytes_none (Low x) s = refl
-bytes_none (High x) s = refl
-bytes_none Nmi s = refl
-bytes_none (Dma c) s = refl
-bytes_none (Feed c bytes) s = refl
 bytes_none (Show a n) s = refl
+bytes_none _ s = refl
 
 journal_reached : (e : Event) (s : State) → events_of (Journal s.count e ∷ bytes_lines e s) ≡ timed_at s.count e ∷ []
 journal_reached e s = ap (λ (ts : List Timed). events_of (Journal s.count e ∷ []) ++ ts) (bytes_none e s)
 
 event_reached : (k : Kind) (s : State) → events_of (event_lines k s) ≡ reached_by k s
-event_reached (Instruction i) s = refl
-event_reached (Faulted inst fault) s = refl
-event_reached (Entered e) s = refl
-event_reached (Interrupted c e) s = refl
 event_reached (Reached e u) s = journal_reached e s
+event_reached _ s = refl
 
 -- those of a record are what it reached
 record_reached : (r : Record) → events_of (record_lines r) ≡ reached_by r.kind r.before
@@ -102,10 +91,7 @@ records_reached (r ∷ rs) =
 
 last_none : (v : View) (e : End) → events_of (last_lines v e) ≡ []
 last_none v (Exit w) = refl
-last_none v Limit = refl
-last_none v (Hazard a) = refl
-last_none v (Dead code a) = refl
-last_none v (Imprecise a) = refl
+last_none v _ = refl
 
 journal_last : (k : ℕ) (o : Option Event) → events_of (journal_lines k o) ≡ reached_last k o
 journal_last k None = refl

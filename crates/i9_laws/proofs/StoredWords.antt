@@ -16,21 +16,19 @@ AreBelow limit vs = AllByRecursion (λ v. v < limit) vs
 abbrev pub ArePut : ℕ → List (ℕ × ℕ) → Type 0
 ArePut limit ps = AllByRecursion (λ p. p.1 < limit) ps
 
-pub below_append : (limit : ℕ) (vs ws : List ℕ) → AreBelow limit vs → AreBelow limit ws → AreBelow limit (vs ++ ws)
-below_append limit [] ws h k = k
-below_append limit (v ∷ vs) ws h k = (h.0, below_append limit vs ws h.1 k)
-
-pub put_append : (limit : ℕ) (ps qs : List (ℕ × ℕ)) → ArePut limit ps → ArePut limit qs → ArePut limit (ps ++ qs)
-put_append limit [] qs h k = k
-put_append limit (p ∷ ps) qs h k = (h.0, put_append limit ps qs h.1 k)
+pub all_append : {A : Type 0} (P : A → Type 0) (xs ys : List A) → AllByRecursion P xs → AllByRecursion P ys
+    → AllByRecursion P (xs ++ ys)
+all_append P [] ys h k = k
+all_append P (x ∷ xs) ys h k = (h.0, all_append P xs ys h.1 k)
 
 pub put_pairs : (limit : ℕ) (place : ℕ → ℕ) (n : ℕ) (vs : List ℕ) → AreBelow limit vs → ArePut limit (pairs_at place n vs)
 put_pairs limit place n [] h = tt
 put_pairs limit place n (v ∷ vs) h = (h.0, put_pairs limit place (n + 1) vs h.1)
 
-pub below_map : (limit : ℕ) (f : ℕ → ℕ) (xs : List ℕ) → ((x : ℕ) → f x < limit) → AreBelow limit (map f xs)
-below_map limit f [] h = tt
-below_map limit f (x ∷ xs) h = (h x, below_map limit f xs h)
+pub all_map : {A B : Type 0} (P : B → Type 0) (f : A → B) (xs : List A) → ((x : A) → P (f x))
+    → AllByRecursion P (map f xs)
+all_map P f [] h = tt
+all_map P f (x ∷ xs) h = (h x, all_map P f xs h)
 
 pub below_take : (limit n : ℕ) (vs : List ℕ) → ((k : ℕ) → slice_index vs k < limit) → AreBelow limit (take n vs)
 below_take limit zero vs h = tt
@@ -85,7 +83,8 @@ unfolding bytes_of_words
 words_bytes_below m a [] = tt
 words_bytes_below m a (w ∷ ws) =
     let next = wrapped (a + 4) in
-    below_append 256 (word_bytes m a w) (bytes_of_words m next ws) (word_bytes_below m a w) (words_bytes_below m next ws)
+    all_append (λ v. v < 256) (word_bytes m a w) (bytes_of_words m next ws) (word_bytes_below m a w)
+    (words_bytes_below m next ws)
 
 pub with_words_below : (m : Memory) (a : ℕ) (ws : List ℕ) → ((x : ℕ) → m.bytes x < 256) → (x : ℕ) → (with_words m a ws).bytes x < 256
 unfolding with_words
@@ -120,4 +119,4 @@ word_below m a h =
 pub words_below : (m : Memory) (a n : ℕ) → ((x : ℕ) → m.bytes x < 256) → AreBelow (2 ^ 32) (words_in m a n)
 words_below m a n h =
     let word = λ (k : ℕ). word_in m (wrapped (a + 4 * k)) in
-    below_map (2 ^ 32) word (range_with_len 0 n) (λ k. word_below m (wrapped (a + 4 * k)) h)
+    all_map (λ v. v < 2 ^ 32) word (range_with_len 0 n) (λ k. word_below m (wrapped (a + 4 * k)) h)

@@ -3,7 +3,7 @@ use Rattle.std.proofs.Common.{◌≡◌, ℕ, zero, suc, ◌+◌, ◌/◌, ◌%�
 use Rattle.std.specs.Prelude.{nat_le, nat_lt, ◌==◌, not, if◌then◌else◌}
 use Rattle.std.proofs.lemmas.Bool.{and_parts, eqb-false, not-true}
 use Rattle.i9_model.proofs.CallLaws.{second_none}
-use Rattle.i9_model.specs.declared.layout.TheConstants.{FRAME_SIZE, MOST_SYSTEM_CALL, PC_MASK, AC_MASK}
+use Rattle.i9_model.specs.declared.layout.TheConstants.{FRAME_SIZE, MOST_SYSTEM_CALL, AC_MASK}
 use Rattle.i9_model.specs.declared.calls.Sys.{Sys}
 use Rattle.i9_model.specs.declared.calls.CallsStop.TheVariants.{Length}
 use Rattle.i9_model.specs.declared.calls.Pop.{Pop}
@@ -11,7 +11,7 @@ use Rattle.i9_model.specs.Memory.{Memory, word_in}
 use Rattle.i9_model.specs.State.{Frames}
 use Rattle.i9_model.specs.Frames.{rounded_down, pushed, saved}
 use Rattle.i9_model.specs.Hazards.{or_else, unless, port_hazard, save_hazard, write_hazard, read_hazard, return_hazard}
-use Rattle.i9_model.specs.Calls.{Caller, in_supervisor_mode, with_supervisor, entry_address, stack_address, is_switch, stack_hazard, system_hazard, entered_here, entered_switched, system_entered, call_type, calls_answer, planned_calls, return_type, takes_record, leaves_supervisor, without_supervisor, record_hazard, controls_hazard, returned_pc, returned_ac, saved_pc, saved_ac, ret_hazard, return_marks, popped, planned_ret, Undoes}
+use Rattle.i9_model.specs.Calls.{Caller, in_supervisor_mode, with_supervisor, entry_address, stack_address, is_switch, stack_hazard, system_hazard, entered_here, entered_switched, system_entered, call_type, calls_answer, planned_calls, return_type, takes_record, leaves_supervisor, without_supervisor, record_hazard, controls_hazard, returned_pc, returned_ac, saved_ac, ret_hazard, return_marks, popped, planned_ret, Undoes}
 
 -- a system call that is planned meets no hazard
 made : (b : Bool) (o : Option ℕ) (p s : Sys) → (if b then calls_answer (unless o p) else Err Length) ≡ Ok s → (o ≡ None) × (p ≡ s)
@@ -71,20 +71,22 @@ either false n = refl
 local_pc : (m : Memory) (fp pc : ℕ) → returned_pc m 0 fp pc ≡ pc
 local_pc m fp pc = either (not (in_supervisor_mode pc)) pc
 
-two_more : (t : ℕ) → t < 2 → takes_record (2 + t) ≡ false
-two_more zero h = refl
-two_more (suc zero) h = refl
-two_more (suc (suc t)) h = absurd (omega arith)
+-- types 010 and 011 leave supervisor mode, and no record is read
+pub left_controls : (pc w ac x t : ℕ) (b : Bool) → t < 2
+    → (cond (not b) pc (cond (takes_record (2 + t)) w (cond (leaves_supervisor (2 + t)) (without_supervisor pc ((2 + t) % 2)) pc))
+    ≡ cond b (without_supervisor pc t) pc)
+    × (cond (takes_record (2 + t)) x ac ≡ ac)
+left_controls pc w ac x zero true h = (refl, refl)
+left_controls pc w ac x zero false h = (refl, refl)
+left_controls pc w ac x (suc zero) true h = (refl, refl)
+left_controls pc w ac x (suc zero) false h = (refl, refl)
+left_controls pc w ac x (suc (suc t)) b h = absurd (omega (arith, h))
 
-two_leave : (t : ℕ) → t < 2 → leaves_supervisor (2 + t) ≡ true
-two_leave zero h = refl
-two_leave (suc zero) h = refl
-two_leave (suc (suc t)) h = absurd (omega arith)
-
-no_check : (t : ℕ) → t < 2 → (2 + t == 7) ≡ false
-no_check zero h = refl
-no_check (suc zero) h = refl
-no_check (suc (suc t)) h = absurd (omega arith)
+-- and their frame has no request to look at
+switched_type : (t : ℕ) → t < 2 → (takes_record (2 + t) ≡ false) × ((2 + t == 7) ≡ false)
+switched_type zero h = (refl, refl)
+switched_type (suc zero) h = (refl, refl)
+switched_type (suc (suc t)) h = absurd (omega arith)
 
 user_bit : (pc : ℕ) → in_supervisor_mode pc ≡ false → pc / 2 % 2 ≡ 0
 user_bit pc e = let other : pc / 2 % 2 ≡ 1 → ⊥ = eqb-false _ _ e in omega arith
@@ -95,13 +97,10 @@ supervisor_bit pc t h = let one : with_supervisor pc t / 2 % 2 ≡ 1 = omega ari
 -- types 010 and 011 give back user mode and trace enable
 switched_pc : (m : Memory) (fp pc t : ℕ) → in_supervisor_mode pc ≡ false → t < 2 → returned_pc m (2 + pc % 2) fp (with_supervisor pc t) ≡ pc
 switched_pc m fp pc t user h =
-    let kind : ℕ = 2 + pc % 2 in
     let new : ℕ = with_supervisor pc t in
-    let parts : (s r l : Bool) (x y z : ℕ) → s ≡ true → r ≡ false → l ≡ true → (if not s then x else if r then y else if l then z else x) ≡ z =
-    λ s r l x y z es er el. λ i. if not (es i) then x else if er i then y else if el i then z else x in
     let old : pc / 2 % 2 ≡ 0 = user_bit pc user in
-    parts (in_supervisor_mode new) (takes_record kind) (leaves_supervisor kind) new (bit_and (saved_pc m fp) PC_MASK) (without_supervisor new (kind % 2))
-    (supervisor_bit pc t h) (two_more (pc % 2) (omega arith)) (two_leave (pc % 2) (omega arith))
+    (left_controls new _ 0 0 (pc % 2) (in_supervisor_mode new) (omega arith)).0
+    ∙ ap (λ (b : Bool). cond b (without_supervisor new (pc % 2)) new) (supervisor_bit pc t h)
     ∙ omega arith
 
 -- ---- both ways of a system call
@@ -114,7 +113,9 @@ here later f entry pc fp sp ac none =
 switched : (later : Memory) (f : Frames) (entry stack pc fp ac : ℕ) → in_supervisor_mode pc ≡ false → port_hazard (rounded_down fp) FRAME_SIZE ≡ None →
     Undoes later f pc ac (entered_switched entry stack pc fp 0 (2 + pc % 2))
 switched later f entry stack pc fp ac user none =
-    undoes later f (rounded_down fp) (2 + pc % 2) _ _ pc ac (omega arith) (omega arith) (two_more (pc % 2) (omega arith)) (no_check (pc % 2) (omega arith)) (switched_pc later _ pc (stack % 2) user (omega arith)) none
+    let type = switched_type (pc % 2) (omega arith) in
+    undoes later f (rounded_down fp) (2 + pc % 2) _ _ pc ac (omega arith) (omega arith) type.0 type.1
+    (switched_pc later _ pc (stack % 2) user (omega arith)) none
 
 by_switch : (b : Bool) (later : Memory) (f : Frames) (entry stack pc fp sp ac : ℕ) → (b ≡ true → in_supervisor_mode pc ≡ false) → port_hazard (rounded_down fp) FRAME_SIZE ≡ None →
     Undoes later f pc ac (if b then entered_switched entry stack pc fp 0 (2 + pc % 2) else entered_here entry pc fp sp 0 0)

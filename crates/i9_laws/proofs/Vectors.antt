@@ -1,5 +1,5 @@
 -- An interrupt that is chosen has a vector below 256, and so a priority below 32.
-use Rattle.std.proofs.Common.{◌≡◌, ℕ, ◌+◌, ◌-◌, ◌*◌, ◌/◌, ◌%◌, ◌^◌, ◌<◌, Bool, true, false, cond, List, [], ◌∷◌, ◌++◌, map, find, Some, Ok, subst, ap, ◌∙◌, arith, bit_and}
+use Rattle.std.proofs.Common.{◌≡◌, ℕ, ◌+◌, ◌-◌, ◌*◌, ◌/◌, ◌%◌, ◌^◌, ◌<◌, Bool, true, false, cond, List, [], ◌∷◌, map, find, Some, Ok, subst, ap, ◌∙◌, arith, bit_and}
 use Rattle.std.specs.Prelude.{◌&&◌, ◌==◌, filter, flat_map}
 use Rattle.std.specs.List.{AllByRecursion, range_with_len}
 use Rattle.std.proofs.lemmas.Nat.{and_mod, and_mask, and_shr}
@@ -13,15 +13,12 @@ use Rattle.i9_model.specs.Interrupts.{vector_priority, passes, line_vector, belo
 use Rattle.i9_model.specs.Before.{choice_in}
 use Rattle.i9_model.proofs.CallLaws.{unless_ok}
 use Rattle.i9_laws.specs.Kept.{IsWithin}
+use Rattle.i9_laws.proofs.StoredWords.{all_append, all_map}
 
 -- ---- lists
 
 abbrev AreSmall : List Chosen → Type 0
 AreSmall cs = AllByRecursion (λ c. c.vector < 256) cs
-
-small_append : (xs ys : List Chosen) → AreSmall xs → AreSmall ys → AreSmall (xs ++ ys)
-small_append [] ys one two = two
-small_append (x ∷ xs) ys one two = (one.0, small_append xs ys one.1 two)
 
 -- numbers below a limit
 abbrev AreUnder : ℕ → List ℕ → Type 0
@@ -29,25 +26,13 @@ AreUnder n vs = AllByRecursion (λ v. v < n) vs
 
 small_parts : (f : ℕ → List Chosen) (n : ℕ) (vs : List ℕ) → ((v : ℕ) → v < n → AreSmall (f v)) → AreUnder n vs → AreSmall (flat_map f vs)
 small_parts f n [] each under = tt
-small_parts f n (v ∷ vs) each under = small_append (f v) (flat_map f vs) (each v under.0) (small_parts f n vs each under.1)
-
--- numbers downwards are below the number above them
-under_below : (top : ℕ) (js : List ℕ) → 0 < top → AreUnder top (map (λ j. top - 1 - j) js)
-under_below top [] some = tt
-under_below top (j ∷ js) some = (omega (arith, some), under_below top js some)
+small_parts f n (v ∷ vs) each under =
+    all_append (λ c. c.vector < 256) (f v) (flat_map f vs) (each v under.0) (small_parts f n vs each under.1)
 
 vectors_under : (p : ℕ) → p < 32 → AreUnder 256 (vectors_of p)
-vectors_under p h = wider (below (8 * p + 8) 8) (under_below (8 * p + 8) (range_with_len 0 8) (omega arith))
-  where
-    wider : (vs : List ℕ) → AreUnder (8 * p + 8) vs → AreUnder 256 vs
-    wider [] under = tt
-    wider (v ∷ vs) under = let less = under.0 in (omega (arith, less, h), wider vs under.1)
+vectors_under p h = all_map (λ v. v < 256) (λ j. 8 * p + 8 - 1 - j) (range_with_len 0 8) (λ j. omega (arith, h))
 
 -- ---- what may be chosen
-
-lines_small : (v : ℕ) (ks : List ℕ) → v < 256 → AreSmall (map (λ k. choice (Line k) v) ks)
-lines_small v [] h = tt
-lines_small v (k ∷ ks) h = (h, lines_small v ks h)
 
 soft_small : (vs : List ℕ) → AreUnder 256 vs → AreSmall (map (choice Soft) vs)
 soft_small [] under = tt
@@ -56,14 +41,16 @@ soft_small (v ∷ vs) under = (under.0, soft_small vs under.1)
 priority_small : (maps : List ℕ) (p : ℕ) → p < 32 → AreSmall (choices_at maps p)
 priority_small maps p h =
     let vs = vectors_under p h in
-    small_append (flat_map (lines_with maps) (vectors_of p)) (map (choice Soft) (vectors_of p))
-    (small_parts (lines_with maps) 256 (vectors_of p) (λ v less. lines_small v (filter (λ k. line_vector maps k == v) (range_with_len 0 LINES)) less) vs)
+    all_append (λ c. c.vector < 256) (flat_map (lines_with maps) (vectors_of p)) (map (choice Soft) (vectors_of p))
+    (small_parts (lines_with maps) 256 (vectors_of p) (λ v less.
+    let lines = filter (λ k. line_vector maps k == v) (range_with_len 0 LINES) in
+    all_map (λ c. c.vector < 256) (λ k. choice (Line k) v) lines (λ k. less)) vs)
     (soft_small (vectors_of p) vs)
 
 choices_small : (maps : List ℕ) → AreSmall (choices maps)
 choices_small maps =
     small_parts (choices_at maps) 32 (below (HIGHEST_PRIORITY + 1) HIGHEST_PRIORITY) (priority_small maps)
-    (under_below (HIGHEST_PRIORITY + 1) (range_with_len 0 HIGHEST_PRIORITY) (omega arith))
+    (all_map (λ p. p < 32) (λ j. HIGHEST_PRIORITY + 1 - 1 - j) (range_with_len 0 HIGHEST_PRIORITY) (λ j. omega arith))
 
 -- ---- what is chosen
 

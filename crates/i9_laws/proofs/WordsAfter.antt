@@ -33,7 +33,7 @@ use Rattle.i9_model.specs.Branches.{asks, question_of, is_taken}
 use Rattle.i9_model.specs.Calls.{popped}
 use Rattle.i9_model.specs.Controls.{Control, KeepsControls, Restarts, LoadsGroup, controlled}
 use Rattle.i9_model.specs.Tables.{group_words}
-use Rattle.i9_model.specs.Step.{Move, Stays, Saves, Returns, Flushes, Action, saved_local, saved_locals, pushing, call_action, calls_action, ret_action, first_word, next_word, loaded, moving, merged, atomic, atomic_address, following, answer_in, destination, values_of, branching, resulting, Message, AsksNothing, AsksCheck, AsksInterrupt, AsksRestart, AsksGroup, asked_message, message_action, push_sets, system_call, entering, action_by_name, action_by, action_of, moved, acted}
+use Rattle.i9_model.specs.Step.{Move, Stays, Saves, Action, saved_local, saved_locals, pushing, call_action, calls_action, ret_action, first_word, next_word, loaded, moving, merged, atomic, atomic_address, following, answer_in, destination, values_of, branching, resulting, Message, AsksRestart, asked_message, message_action, push_sets, system_call, entering, action_by_name, action_by, action_of, moved, acted}
 use Rattle.i9_model.specs.declared.run.Due.{Due}
 use Rattle.i9_model.specs.declared.interrupts.TheConstants.{LINE_MASK}
 use Rattle.i9_model.specs.declared.dma.TheConstants.{COMMAND_MASK}
@@ -52,8 +52,8 @@ use Rattle.i9_laws.proofs.Entered.{call_by, entry_by, entry_for, interrupt_made}
 use Rattle.i9_laws.proofs.KeptBits.{IsKept, kept_after}
 use Rattle.i9_laws.proofs.KeptLines.{HasLines, lines_after}
 use Rattle.i9_laws.proofs.BytesAfter.{done_stores, moved_bytes, image_bytes, boot_bytes}
-use Rattle.i9_laws.proofs.Decoded.{IsSmall, HasSmall, decoded_small, IsRead, next_read}
-use Rattle.i9_laws.proofs.StoredWords.{ArePut, put_append, put_pairs, below_map, written_below, half_below, word_below, words_below}
+use Rattle.i9_laws.proofs.Decoded.{IsSmall, HasSmall, decoded_small, runs_decoded, IsTurn, next_turn}
+use Rattle.i9_laws.proofs.StoredWords.{ArePut, all_append, put_pairs, all_map, written_below, half_below, word_below, words_below}
 use Rattle.i9_laws.proofs.ResultWords.{AreWords, either_word, results_words}
 
 -- registers and the instruction address are words, and bytes are bytes, soft ones as they are read too
@@ -77,16 +77,13 @@ left_bytes (f ∷ live) s h = h.bytes
 
 -- a frame is saved whole, at an address
 abbrev pub SavesWords : Move → Type 0
-SavesWords Stays = Unit {0}
 SavesWords (Saves save words) = IsWord save × (length words ≡ LOCALS) × AreWords words
-SavesWords Returns = Unit {0}
-SavesWords Flushes = Unit {0}
+SavesWords _ = Unit {0}
 
 -- start-up goes to an address
 abbrev StartsWord : Control → Type 0
-StartsWord KeepsControls = Unit {0}
 StartsWord (Restarts first prcb) = IsWord first
-StartsWord (LoadsGroup group) = Unit {0}
+StartsWord _ = Unit {0}
 
 -- what an action sets and saves, and where control goes
 record AreDone (sets : List (ℕ × ℕ)) (v : Move) (c : Control) (to : ℕ) : Type 0 where
@@ -132,7 +129,7 @@ higher_is_word s (Lit n) k h = omega arith
 higher_is_word s (Sfr j) k h = omega arith
 
 sources_words : (s : State) (o : Operand) (n : ℕ) → HasWords s → HasLines s → IsSmall o → AreWords (source_words s o n)
-sources_words s o n h l small = below_map (2 ^ 32) (word_of s o) (range_with_len 0 n) (λ k. by_place k (k == 0))
+sources_words s o n h l small = all_map IsWord (word_of s o) (range_with_len 0 n) (λ k. by_place k (k == 0))
   where
     by_place : (k : ℕ) (b : Bool) → IsWord (cond b (value s o) (higher_word s o k))
     by_place k true = value_word s o h l small
@@ -145,7 +142,8 @@ assigned_words (Sfr k) vs h = tt
 
 frame_words : (locals : List ℕ) (fp : ℕ) → AreWords locals → IsWord fp → ArePut (2 ^ 32) (frame_sets locals fp)
 frame_words locals fp h k =
-    put_append (2 ^ 32) (pairs_at (λ r. r) 0 locals) ((FP, fp) ∷ []) (put_pairs (2 ^ 32) (λ r. r) 0 locals h) (k, tt)
+    all_append (λ p. p.1 < 2 ^ 32) (pairs_at (λ r. r) 0 locals) ((FP, fp) ∷ [])
+    (put_pairs (2 ^ 32) (λ r. r) 0 locals h) (k, tt)
 
 -- ---- loads and stores
 
@@ -191,7 +189,7 @@ sets_pushed : (p : Push) → IsPushed p → ArePut (2 ^ 32) (push_sets p)
 sets_pushed p h = frame_words (p.pfp ∷ p.sp ∷ replicate 14 0) p.frame (h.pfp, (h.sp, zero_words 14)) h.frame
 
 local_words : (s : State) (back : ℕ) → HasWords s → IsWord back → AreWords (saved_locals s back)
-local_words s back h k = below_map (2 ^ 32) (saved_local s back) (range_with_len 0 LOCALS) (λ r. by_register r (r == RIP))
+local_words s back h k = all_map IsWord (saved_local s back) (range_with_len 0 LOCALS) (λ r. by_register r (r == RIP))
   where
     by_register : (r : ℕ) (b : Bool) → IsWord (cond b back (s.regs r))
     by_register r true = k
@@ -229,12 +227,9 @@ atomic_words i s marked change h =
     setting (one_set i.c (word_in (legible s) a) (word_below (legible s) a (legible_bytes s h))) (behind_word i s)
 
 message_words : (m : Message) (i : Inst) (s : State) → HasWords s → HasLines s → HasSmall i → DoesWords (message_action m i s)
-message_words AsksNothing i s h l small = setting tt (behind_word i s)
-message_words AsksCheck i s h l small = setting tt (behind_word i s)
-message_words AsksInterrupt i s h l small = setting tt (behind_word i s)
 message_words AsksRestart i s h l small =
     record { registers = tt; saves = tt; starts = value_word s i.b h l small.b; next = behind_word i s }
-message_words AsksGroup i s h l small = record { registers = tt; saves = tt; starts = tt; next = behind_word i s }
+message_words _ i s h l small = record { registers = tt; saves = tt; starts = tt; next = behind_word i s }
 
 -- a call to an address
 call_words : (i : Inst) (s : State) (to : ℕ) → HasWords s → IsWord to → DoesWords (call_action i s to)
@@ -314,9 +309,11 @@ interrupting_words s c e h ok =
     subst (λ (x : Entry). DoesWords (interrupting c x s)) (interrupt_made s c e ok).0
     (record { registers = pushes.registers; saves = pushes.saves; starts = tt; next = pushes.next })
 
-kind_words : (limit : ℕ) (due : Due) (stands : Option Event) (k : Kind) (s : State) → MayCome limit due stands s k → IsRead s k
+kind_words : (limit : ℕ) (due : Due) (stands : Option Event) (k : Kind) (s : State) → MayCome limit due stands s k
+    → IsTurn stands s k
     → HasWords s → HasLines s → IsKept s → DoesWords (action_by_kind k s)
-kind_words limit due stands (Instruction i) s may d h l k = instruction_words i s h l k (decoded_small (first_word s) (next_word s) i d)
+kind_words limit due stands (Instruction i) s may d h l k =
+    instruction_words i s h l k (decoded_small (first_word s) (next_word s) i (runs_decoded s i d.1))
 kind_words limit due stands (Faulted inst fault) s may d h l k = setting tt (omega arith)
 kind_words limit due stands (Entered e) s may d h l k = entering_words s may.0 e h may.2
 kind_words limit due stands (Interrupted c e) s may d h l k = interrupting_words s c e h may.3
@@ -374,8 +371,9 @@ done_words g r rs plan past h =
     let s = state_after g rs in
     let event = event_after g rs in
     let comes = next_comes g.length (due_after rs) event s r past.1 in
-    let read = next_read g.length (due_after rs) event s r past.1 in
-    kind_words g.length (due_after rs) event r.kind s comes.1 read h (lines_after g rs plan past.0) (kept_after g rs past.0)
+    let turn = next_turn g.length (due_after rs) event s r past.1 in
+    kind_words g.length (due_after rs) event r.kind s comes.1 turn h (lines_after g rs plan past.0)
+    (kept_after g rs past.0)
 
 pub words_after : (g : Given) (rs : List Record) → HasBytes g.image → IsPlan g.plan → IsPast g rs → HasWords (state_after g rs)
 words_after g [] image plan past = boot_words g.image image
@@ -401,4 +399,5 @@ pub parts_bytes : (ps : List Part) → AreParts ps → HasBytes (pairs_of ps)
 unfolding pairs_of
 parts_bytes [] h = tt
 parts_bytes (p ∷ ps) h =
-    put_append 256 (pairs_of_part p) (pairs_of ps) (put_pairs 256 wrapped p.address p.bytes h.0.bytes) (parts_bytes ps h.1)
+    all_append (λ p. p.1 < 256) (pairs_of_part p) (pairs_of ps) (put_pairs 256 wrapped p.address p.bytes h.0.bytes)
+    (parts_bytes ps h.1)
