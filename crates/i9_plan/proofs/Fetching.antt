@@ -1,5 +1,5 @@
 -- What the second word of an instruction counts for, and the hazards of a fetch.
-use Rattle.std.proofs.Common.{◌≡◌, ℕ, ◌+◌, ◌<◌, ◌^◌, ◌==◌, Bool, true, false, cond, nat_lt, Option, Some, None, option_and_then, Ok, Err, refl, sym, ap, ◌∙◌, arith}
+use Rattle.std.proofs.Common.{◌≡◌, ℕ, ◌+◌, ◌<◌, ◌^◌, ◌==◌, Bool, true, false, cond, nat_lt, Option, Some, None, option_and_then, Result, Ok, Err, refl, sym, ap, ◌∙◌, arith}
 use Rattle.i9_decode.proofs.SameMemory.{taken}
 use Rattle.std.specs.Option.{option_map}
 use Rattle.i9_isa.specs.declared.format.Format.{Format}
@@ -68,28 +68,24 @@ pub first_met : (s : State) (a : ℕ) → read_hazard s.frames s.ip 4 ≡ Some a
 unfolding fetch_hazard
 first_met s a h = ap (λ (o : Option ℕ). or_else o (second_hazard s (decoded (first_word s) (next_word s)))) h
 
+-- where it has no hazard, the second one may have one
+clear_fetch : (s : State) (r : Result Inst BadWord) → read_hazard s.frames s.ip 4 ≡ None → decoded (first_word s) (next_word s) ≡ r → fetch_hazard s ≡ second_hazard s r
+unfolding fetch_hazard
+clear_fetch s r clear read = ap (λ (o : Option ℕ). or_else o (second_hazard s (decoded (first_word s) (next_word s)))) clear ∙ ap (second_hazard s) read
+
 -- a word that is refused has no second one
 pub refused_fetch : (s : State) (e : BadWord) → read_hazard s.frames s.ip 4 ≡ None → decoded (first_word s) (next_word s) ≡ Err e → fetch_hazard s ≡ None
-unfolding fetch_hazard
-refused_fetch s e clear read = ap (λ (o : Option ℕ). or_else o (second_hazard s (decoded (first_word s) (next_word s)))) clear ∙ ap (second_hazard s) read
+refused_fetch s e = clear_fetch s (Err e)
 
 pub refused_fetch_by : (s : State) (first : ℕ) (e : BadWord) → read_hazard s.frames s.ip 4 ≡ None → first ≡ first_word s → decoded first 0 ≡ Err e → fetch_hazard s ≡ None
 refused_fetch_by s first e clear here read =
     refused_fetch s e clear (sym (ap (λ (w : ℕ). decoded w (next_word s)) here) ∙ refusal_free first 0 (next_word s) e read)
 
 pub short_fetch : (s : State) (i : Inst) → read_hazard s.frames s.ip 4 ≡ None → decoded (first_word s) (next_word s) ≡ Ok i → words_of i ≡ 1 → fetch_hazard s ≡ None
-unfolding fetch_hazard
-short_fetch s i clear read one =
-    ap (λ (o : Option ℕ). or_else o (second_hazard s (decoded (first_word s) (next_word s)))) clear
-    ∙ ap (second_hazard s) read
-    ∙ ap (λ (n : ℕ). cond (n == 2) (read_hazard s.frames (wrapped (s.ip + 4)) 4) None) one
+short_fetch s i clear read one = clear_fetch s (Ok i) clear read ∙ ap (λ (n : ℕ). cond (n == 2) (read_hazard s.frames (wrapped (s.ip + 4)) 4) None) one
 
 pub long_fetch : (s : State) (i : Inst) → read_hazard s.frames s.ip 4 ≡ None → decoded (first_word s) (next_word s) ≡ Ok i → words_of i ≡ 2 → fetch_hazard s ≡ read_hazard s.frames (wrapped (s.ip + 4)) 4
-unfolding fetch_hazard
-long_fetch s i clear read two =
-    ap (λ (o : Option ℕ). or_else o (second_hazard s (decoded (first_word s) (next_word s)))) clear
-    ∙ ap (second_hazard s) read
-    ∙ ap (λ (n : ℕ). cond (n == 2) (read_hazard s.frames (wrapped (s.ip + 4)) 4) None) two
+long_fetch s i clear read two = clear_fetch s (Ok i) clear read ∙ ap (λ (n : ℕ). cond (n == 2) (read_hazard s.frames (wrapped (s.ip + 4)) 4) None) two
 
 -- ---- what a decode cache has read
 

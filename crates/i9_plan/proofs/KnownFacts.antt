@@ -2,6 +2,7 @@
 use Rattle.std.proofs.Common.{◌≡◌, ℕ, ◌≤◌, Bool, true, false, cond, List, [], ◌∷◌, Option, Some, None, refl, sym, ap, ◌∙◌, arith}
 use Rattle.i9_watch.proofs.Marking.{or_false}
 use Rattle.std.specs.Prelude.{is_some, ◌||◌, find}
+use Rattle.std.proofs.lemmas.Bool.{or_right}
 use Rattle.std.specs.List.{list_any}
 use Rattle.i9_isa.specs.declared.op.Op.{Op}
 use Rattle.i9_isa.specs.declared.op.Op.TheVariants.{Lda, Sysctl}
@@ -51,25 +52,21 @@ moved_data : (d : Direction) (a n : ℕ) → is_some (data_of (moved_access d a 
 moved_data Direction.Load a n = refl
 moved_data Direction.Store a n = refl
 
-or_some : (b : Bool) → true ≡ (b || true)
-or_some true = refl
-or_some false = refl
-
 data_by : (t : Option Transfer) (i : Inst) (s : State)
     → is_some (data_of (access_by t i s)) ≡ (is_atomic i.op || is_some t)
 data_by None i s = named_data i.op i s ∙ or_false (is_atomic i.op)
-data_by (Some t) i s = moved_data t.direction _ _ ∙ or_some (is_atomic i.op)
+data_by (Some t) i s = moved_data t.direction _ _ ∙ sym (or_right (is_atomic i.op) true refl)
 
 pub known_access : (i : Inst) (s : State) → is_some (data_of (access_of i s)) ≡ has_access i.op
 known_access i s = data_by (transfer_of i.op) i s ∙ accesses i.op
 
-no_data : (o : Option (ℕ × ℕ)) → is_some o ≡ false → o ≡ None
-no_data None h = refl
-no_data (Some d) h = absurd cc
+pub none_of : {A : Type 0} (o : Option A) → is_some o ≡ false → o ≡ None
+none_of None e = refl
+none_of (Some x) e = absurd cc
 
 -- an instruction without a data access
 pub no_access : (i : Inst) (s : State) → has_access i.op ≡ false → data_of (access_of i s) ≡ None
-no_access i s h = no_data (data_of (access_of i s)) (known_access i s ∙ h)
+no_access i s h = none_of (data_of (access_of i s)) (known_access i s ∙ h)
 
 -- ---- its waits
 

@@ -2,8 +2,8 @@
 use Rattle.std.proofs.Common.{◌≡◌, ℕ, zero, suc, ◌+◌, ◌^◌, ◌<◌, ◌≤◌, Bool, true, false, nat_lt, refl, sym, ap, ◌∙◌, arith}
 use Rattle.std.specs.Prelude.{◌==◌, ◌&&◌, ◌||◌, not, bit_and, min}
 use Rattle.std.specs.List.{list_any, range_with_len}
-use Rattle.std.specs.Int.{bit_at}
-use Rattle.std.proofs.lemmas.Bool.{eqb-true, lt-ltb, and_from, ltb-true}
+use Rattle.std.specs.Int.{bit_at, from_bool}
+use Rattle.std.proofs.lemmas.Bool.{eqb-true, eqb-false, lt-ltb, and_from, or_parts, ltb-true, both_ways, not-false, not_from_false, false_from_ne_true}
 use Rattle.std.proofs.lemmas.Nat.Bits.{bit_at_and, bit_at-lt, bit_at_above, same_from_bits}
 use Rattle.i9_isa.specs.Words.{bit}
 use Rattle.i9_watch.proofs.SetBits.{bit_none}
@@ -11,20 +11,14 @@ use Rattle.i9_watch.proofs.SetBits.{bit_none}
 -- ---- a number is 0 where none of its bits is set
 
 digit : (n : ℕ) → n < 2 → (n == 1) ≡ false → n ≡ 0
-digit zero h e = refl
-digit (suc zero) h e = absurd cc
-digit (suc (suc n)) h e = absurd (omega (arith, h))
+digit n h e = let not_one = eqb-false n 1 e in omega arith
 
 pub zero_bits : (w : ℕ) → ((k : ℕ) → bit w k ≡ false) → w ≡ 0
 zero_bits w none = same_from_bits w 0 (λ k. digit (bit_at w k) (bit_at-lt w k) (none k) ∙ sym (digit (bit_at 0 k) (bit_at-lt 0 k) (bit_none k)))
 
 -- it is another one where some bit is set
 pub some_bit : (w k : ℕ) → bit w k ≡ true → (w == 0) ≡ false
-some_bit w k set = by (w == 0) refl
-  where
-    by : (b : Bool) → (w == 0) ≡ b → b ≡ false
-    by false e = refl
-    by true e = let none = ap (λ (n : ℕ). bit n k) (eqb-true w 0 e) ∙ bit_none k in let here = sym set ∙ none in absurd cc
+some_bit w k set = false_from_ne_true (w == 0) (λ e. both_ways (bit w k) (ap (λ (n : ℕ). bit n k) (eqb-true w 0 e) ∙ bit_none k) set)
 
 -- ---- numbers in a row of which some pass a test
 
@@ -32,21 +26,27 @@ pub or_none : (b : Bool) → (b || false) ≡ b
 or_none true = refl
 or_none false = refl
 
-or_first : (a b : Bool) → (a || b) ≡ false → a ≡ false
-or_first false b e = refl
-or_first true b e = absurd cc
+-- of two tests that do not both pass
+pub other : (a b : Bool) → (a && b) ≡ false → a ≡ true → b ≡ false
+other a b e t = ap (λ (x : Bool). x && b) (sym t) ∙ e
 
-or_second : (a b : Bool) → (a || b) ≡ false → b ≡ false
-or_second false b e = e
-or_second true b e = absurd cc
+pub second : (a b : Bool) → (a && b) ≡ false → b ≡ true → a ≡ false
+second a b e t = false_from_ne_true a (λ h. both_ways b (other a b e h) t)
+
+-- of two tests of which the first implies the second
+pub implied : (a b : Bool) → (a && not b) ≡ false → a ≡ true → b ≡ true
+implied a b e t = not-false b (other a (not b) e t)
+
+pub not_first : (a b : Bool) → (a && not b) ≡ false → b ≡ false → a ≡ false
+not_first a b e f = second a (not b) e (not_from_false b f)
 
 -- none of them
 pub none_among : (f : ℕ → Bool) (a n : ℕ) → list_any f (range_with_len a n) ≡ false → (k : ℕ) → k < n → f (a + k) ≡ false
 none_among f a zero e k h = absurd (omega (arith, h))
-none_among f a (suc n) e zero h = let here : a + 0 ≡ a = omega arith in ap f here ∙ or_first (f a) (list_any f (range_with_len (a + 1) n)) e
+none_among f a (suc n) e zero h = let here : a + 0 ≡ a = omega arith in ap f here ∙ (or_parts _ _ e).0
 none_among f a (suc n) e (suc k) h =
     let next : a + suc k ≡ a + 1 + k = omega arith in
-    ap f next ∙ none_among f (a + 1) n (or_second (f a) (list_any f (range_with_len (a + 1) n)) e) k (omega (arith, h))
+    ap f next ∙ none_among f (a + 1) n (or_parts _ _ e).1 k (omega (arith, h))
 
 -- one of them
 pub record IsAmong (f : ℕ → Bool) (a n : ℕ) : Type 0 where
@@ -94,6 +94,10 @@ nonzero_any w n f bits = by (list_any f (range_with_len 0 n)) refl
     by true e =
         let one = some_among f 0 n e in
         ap not (some_bit w one.step (bits one.step ∙ and_from (nat_lt one.step n) (f one.step) (lt-ltb one.step n one.few) (sym (at one.step) ∙ one.passes)))
+
+pub as_bool : (b : Bool) → (from_bool b == 1) ≡ b
+as_bool true = refl
+as_bool false = refl
 
 -- the bits of both
 bool_and : (x y : ℕ) → x < 2 → y < 2 → (min x y == 1) ≡ ((x == 1) && (y == 1))

@@ -25,67 +25,8 @@ use Rattle.i9_model.specs.Results.{destination_words}
 use Rattle.i9_model.specs.Stale.{legible, registers_of, picked, marks_for, byte_marks, mark_of, marks_of, word_mark, word_marks, loaded_marks, stored_marks, sources, is_marked, moves_words, result_marks}
 use Rattle.i9_watch.specs.Bits.{bits_of}
 use Rattle.i9_watch.proofs.SetBits.{bit_none}
-use Rattle.i9_plan.proofs.MarkBits.{or_none, nonzero_any, bit_above}
+use Rattle.i9_plan.proofs.MarkBits.{as_bool, or_none, nonzero_any, bit_above}
 use Rattle.i9_plan.proofs.MarkUses.{NoMarks, none_marked, any_map, any_of}
-
--- ---- four of them
-
--- as bits, and as bits of bytes
-pub four_bits : (a b c d : Bool) → bits_of (from_bool a + 2 * from_bool b + 4 * from_bool c + 8 * from_bool d) 4 ≡ a ∷ b ∷ c ∷ d ∷ []
-four_bits true true true true = refl
-four_bits true true true false = refl
-four_bits true true false true = refl
-four_bits true true false false = refl
-four_bits true false true true = refl
-four_bits true false true false = refl
-four_bits true false false true = refl
-four_bits true false false false = refl
-four_bits false true true true = refl
-four_bits false true true false = refl
-four_bits false true false true = refl
-four_bits false true false false = refl
-four_bits false false true true = refl
-four_bits false false true false = refl
-four_bits false false false true = refl
-four_bits false false false false = refl
-
-pub sixteen_bits : (a b c d : Bool) → bits_of (15 * (from_bool a + 16 * from_bool b + 256 * from_bool c + 4096 * from_bool d)) 16 ≡ byte_marks (a ∷ b ∷ c ∷ d ∷ [])
-sixteen_bits true true true true = refl
-sixteen_bits true true true false = refl
-sixteen_bits true true false true = refl
-sixteen_bits true true false false = refl
-sixteen_bits true false true true = refl
-sixteen_bits true false true false = refl
-sixteen_bits true false false true = refl
-sixteen_bits true false false false = refl
-sixteen_bits false true true true = refl
-sixteen_bits false true true false = refl
-sixteen_bits false true false true = refl
-sixteen_bits false true false false = refl
-sixteen_bits false false true true = refl
-sixteen_bits false false true false = refl
-sixteen_bits false false false true = refl
-sixteen_bits false false false false = refl
-
-pub four_values : (ms : List Bool) (v w x y : ℕ) → length ms ≡ 4 → v ≡ from_bool (get_or ms 0 false) → w ≡ from_bool (get_or ms 1 false) → x ≡ from_bool (get_or ms 2 false) → y ≡ from_bool (get_or ms 3 false)
-    → bits_of (v + 2 * w + 4 * x + 8 * y) 4 ≡ ms
-four_values [] v w x y long e f g h = absurd cc
-four_values (a ∷ []) v w x y long e f g h = absurd cc
-four_values (a ∷ b ∷ []) v w x y long e f g h = absurd cc
-four_values (a ∷ b ∷ c ∷ []) v w x y long e f g h = absurd cc
-four_values (a ∷ b ∷ c ∷ d ∷ []) v w x y long e f g h = rw (e, f, g, h) (four_bits a b c d)
-four_values (a ∷ b ∷ c ∷ d ∷ z ∷ ms) v w x y long e f g h = absurd cc
-
-pub sixteen_values : (ms : List Bool) (v w x y : ℕ) → length ms ≡ 4 → v ≡ from_bool (get_or ms 0 false) → w ≡ from_bool (get_or ms 1 false) → x ≡ from_bool (get_or ms 2 false) → y ≡ from_bool (get_or ms 3 false)
-    → bits_of (15 * (v + 16 * w + 256 * x + 4096 * y)) 16 ≡ byte_marks ms
-sixteen_values [] v w x y long e f g h = absurd cc
-sixteen_values (a ∷ []) v w x y long e f g h = absurd cc
-sixteen_values (a ∷ b ∷ []) v w x y long e f g h = absurd cc
-sixteen_values (a ∷ b ∷ c ∷ []) v w x y long e f g h = absurd cc
-sixteen_values (a ∷ b ∷ c ∷ d ∷ []) v w x y long e f g h = rw (e, f, g, h) (sixteen_bits a b c d)
-sixteen_values (a ∷ b ∷ c ∷ d ∷ z ∷ ms) v w x y long e f g h = absurd cc
-
-pub ruleset four_rules = (four_values, sixteen_values)
 
 pub fewer_bytes : (w : ℕ) (s : State) (o : Operand) (n : ℕ) → n ≤ 4 → bits_of w 16 ≡ byte_marks (marks_of s o 4) → bits_of w (4 * n) ≡ byte_marks (marks_of s o n)
 fewer_bytes w s o zero h e = refl
@@ -272,15 +213,70 @@ stored_low size s o n w v few is same bits =
 -- ---- frames that are returned to
 
 set_bit : (n k : ℕ) (p : ℕ → Bool) → k < n → bit (set_below n p) k ≡ p k
-set_bit n k p h = ap (λ (x : ℕ). x == 1) (set_bits n k p h) ∙ one (p k)
-  where
-    one : (b : Bool) → (from_bool b == 1) ≡ b
-    one true = refl
-    one false = refl
+set_bit n k p h = ap (λ (x : ℕ). x == 1) (set_bits n k p h) ∙ as_bool (p k)
 
 -- the words of a set are its members
 pub set_words : (n : ℕ) (p : ℕ → Bool) → bits_of (set_below n p) n ≡ map p (range_with_len 0 n)
 set_words n p = map_below (bit (set_below n p)) p 0 n n (omega arith) (λ k h. set_bit n k p h)
+
+-- ---- four marks by their values
+
+weighed : (b : Bool) (n : ℕ) → cond b n 0 ≡ n * from_bool b
+weighed true n = omega arith
+weighed false n = omega arith
+
+-- as bits, and as bits of bytes
+four_bits : (a b c d : Bool) → bits_of (from_bool a + 2 * from_bool b + 4 * from_bool c + 8 * from_bool d) 4 ≡ a ∷ b ∷ c ∷ d ∷ []
+unfolding set_below
+four_bits a b c d =
+    let set : set_below 4 (λ k. get_or (a ∷ b ∷ c ∷ d ∷ []) k false) ≡ from_bool a + 2 * from_bool b + 4 * from_bool c + 8 * from_bool d
+    = omega (arith, weighed a 1, weighed b 2, weighed c 4, weighed d 8) in
+    ap (λ (w : ℕ). bits_of w 4) (sym set) ∙ set_words 4 (λ k. get_or (a ∷ b ∷ c ∷ d ∷ []) k false)
+
+sixteen_bits : (a b c d : Bool) → bits_of (15 * (from_bool a + 16 * from_bool b + 256 * from_bool c + 4096 * from_bool d)) 16 ≡ byte_marks (a ∷ b ∷ c ∷ d ∷ [])
+unfolding set_below
+sixteen_bits a b c d =
+    let marks = byte_marks (a ∷ b ∷ c ∷ d ∷ []) in
+    let set : set_below 16 (λ k. get_or marks k false) ≡ 15 * (from_bool a + 16 * from_bool b + 256 * from_bool c + 4096 * from_bool d)
+    = omega (
+      arith,
+      weighed a 1,
+      weighed a 2,
+      weighed a 4,
+      weighed a 8,
+      weighed b 16,
+      weighed b 32,
+      weighed b 64,
+      weighed b 128,
+      weighed c 256,
+      weighed c 512,
+      weighed c 1024,
+      weighed c 2048,
+      weighed d 4096,
+      weighed d 8192,
+      weighed d 16384,
+      weighed d 32768,
+    ) in
+    ap (λ (w : ℕ). bits_of w 16) (sym set) ∙ set_words 16 (λ k. get_or marks k false)
+
+-- four of them are the list of them
+each_of_four : (ms : List Bool) → length ms ≡ 4 → ms ≡ get_or ms 0 false ∷ get_or ms 1 false ∷ get_or ms 2 false ∷ get_or ms 3 false ∷ []
+each_of_four [] long = absurd cc
+each_of_four (a ∷ []) long = absurd cc
+each_of_four (a ∷ b ∷ []) long = absurd cc
+each_of_four (a ∷ b ∷ c ∷ []) long = absurd cc
+each_of_four (a ∷ b ∷ c ∷ d ∷ []) long = refl
+each_of_four (a ∷ b ∷ c ∷ d ∷ z ∷ ms) long = absurd cc
+
+pub four_values : (ms : List Bool) (v w x y : ℕ) → length ms ≡ 4 → v ≡ from_bool (get_or ms 0 false) → w ≡ from_bool (get_or ms 1 false) → x ≡ from_bool (get_or ms 2 false) → y ≡ from_bool (get_or ms 3 false)
+    → bits_of (v + 2 * w + 4 * x + 8 * y) 4 ≡ ms
+four_values ms v w x y long e f g h = rw (e, f, g, h) (four_bits _ _ _ _ ∙ sym (each_of_four ms long))
+
+pub sixteen_values : (ms : List Bool) (v w x y : ℕ) → length ms ≡ 4 → v ≡ from_bool (get_or ms 0 false) → w ≡ from_bool (get_or ms 1 false) → x ≡ from_bool (get_or ms 2 false) → y ≡ from_bool (get_or ms 3 false)
+    → bits_of (15 * (v + 16 * w + 256 * x + 4096 * y)) 16 ≡ byte_marks ms
+sixteen_values ms v w x y long e f g h = rw (e, f, g, h) (sixteen_bits _ _ _ _ ∙ ap byte_marks (sym (each_of_four ms long)))
+
+pub ruleset four_rules = (four_values, sixteen_values)
 
 -- ---- hard bytes
 

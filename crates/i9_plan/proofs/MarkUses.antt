@@ -2,13 +2,13 @@
 use Rattle.std.proofs.Common.{◌≡◌, ℕ, zero, suc, ◌+◌, Bool, true, false, cond, List, [], ◌∷◌, ◌++◌, map, replicate, Option, Some, None, refl, sym, ap, ◌∙◌, arith}
 use Rattle.std.specs.Prelude.{◌==◌, ◌&&◌, ◌||◌, not, is_some}
 use Rattle.std.specs.List.{list_any, range_with_len}
-use Rattle.std.proofs.lemmas.Bool.{eqb-true, and_parts}
+use Rattle.std.proofs.lemmas.Bool.{eqb-true, and_parts, and_right, or_left}
 use Rattle.std.proofs.lemmas.Bool.Decides.{nat_tests}
 use Rattle.std.proofs.lemmas.List.Folds.{list_any-append}
 use Rattle.i9_isa.specs.declared.op.Op.{Op}
 use Rattle.i9_isa.specs.declared.op.Op.TheVariants.{Lda, Atadd, Atmod, Bx, Balx, Callx, Ret, Modpc, Sysctl}
 use Rattle.i9_isa.specs.declared.format.Use.{Use}
-use Rattle.i9_isa.specs.declared.format.Use.TheVariants.{Unused, Source, Left, Right, Destination, Load, Store, Change}
+use Rattle.i9_isa.specs.declared.format.Use.TheVariants.{Load, Store, Change}
 use Rattle.i9_isa.specs.declared.size.Size.{Size}
 use Rattle.i9_isa.specs.declared.size.Direction.{Direction}
 use Rattle.i9_isa.specs.declared.size.Direction.TheVariants as directions
@@ -33,7 +33,7 @@ use Rattle.i9_model.specs.Stale.{restart_registers, mark_of, marks_of, word_mark
 use Rattle.i9_isa.specs.Words.{bit}
 use Rattle.i9_watch.proofs.SetBits.{bit_none}
 use Rattle.i9_plan.specs.Names.{is_atomic}
-use Rattle.i9_plan.proofs.MarkBits.{or_none, any_alike}
+use Rattle.i9_plan.proofs.MarkBits.{or_none, any_alike, implied, not_first}
 
 -- ---- the marks of a result
 
@@ -72,8 +72,7 @@ same_none zero = refl
 same_none (suc n) = same_none n
 
 and_none : (b : Bool) → (b && false) ≡ false
-and_none true = refl
-and_none false = refl
+and_none b = and_right b false refl
 
 any_same : (n : ℕ) (b : Bool) → list_any (λ (x : Bool). x) (replicate n b) ≡ (not (n == 0) && b)
 any_same zero b = refl
@@ -88,17 +87,12 @@ moved_alone : (op : Op) → (moves_words op && not (moves_alone op)) ≡ false
 moved_alone Lda = refl
 moved_alone _ = refl
 
-pub implied : (a b : Bool) → (a && not b) ≡ false → a ≡ true → b ≡ true
-implied true true e t = refl
-implied true false e t = absurd cc
-implied false b e t = absurd cc
-
 none_read : (s : State) (o : Operand) → is_marked s (registers_of o 0) ≡ false
 none_read s (Reg r) = refl
 none_read s (Lit l) = refl
 none_read s (Sfr j) = refl
 
-sources_parts : (i : Inst) (s : State) → is_marked s (sources i)
+pub sources_parts : (i : Inst) (s : State) → is_marked s (sources i)
     ≡ (is_marked s (registers_of i.a (words_read (row_of i.op).a)) || (is_marked s (registers_of i.b (words_read (row_of i.op).b)) || is_marked s (registers_of i.c (words_read (row_of i.op).c))))
 sources_parts i s =
     let first = registers_of i.a (words_read (row_of i.op).a) in
@@ -160,28 +154,19 @@ is_listed Modpc = true
 is_listed Sysctl = true
 is_listed _ = false
 
-listed_deciding : (op : Op) (i : Inst) (s : State) → is_listed op ≡ false → deciding op i s ≡ cond (keeps_marks op) [] (sources i)
-listed_deciding Lda i s e = absurd cc
-listed_deciding Atadd i s e = absurd cc
-listed_deciding Atmod i s e = absurd cc
-listed_deciding Bx i s e = absurd cc
-listed_deciding Balx i s e = absurd cc
-listed_deciding Callx i s e = absurd cc
-listed_deciding Ret i s e = absurd cc
-listed_deciding Modpc i s e = absurd cc
-listed_deciding Sysctl i s e = absurd cc
-listed_deciding _ i s e = refl
-
-listed_marks : (op : Op) (i : Inst) (s : State) → is_listed op ≡ false → marks_by_name op i s ≡ result_marks i s
-listed_marks Lda i s e = absurd cc
-listed_marks Atadd i s e = absurd cc
-listed_marks Atmod i s e = absurd cc
-listed_marks _ i s e = refl
-
-listed_out : (op : Op) (i : Inst) (s : State) → is_listed op ≡ false → goes_out op i s ≡ false
-listed_out Atadd i s e = absurd cc
-listed_out Atmod i s e = absurd cc
-listed_out _ i s e = refl
+-- the other ones decide by their sources, and give the marks of their result
+unlisted_uses : (op : Op) (i : Inst) (s : State) → is_listed op ≡ false
+    → (deciding op i s ≡ cond (keeps_marks op) [] (sources i)) × (marks_by_name op i s ≡ result_marks i s) × (goes_out op i s ≡ false)
+unlisted_uses Lda i s e = absurd cc
+unlisted_uses Atadd i s e = absurd cc
+unlisted_uses Atmod i s e = absurd cc
+unlisted_uses Bx i s e = absurd cc
+unlisted_uses Balx i s e = absurd cc
+unlisted_uses Callx i s e = absurd cc
+unlisted_uses Ret i s e = absurd cc
+unlisted_uses Modpc i s e = absurd cc
+unlisted_uses Sysctl i s e = absurd cc
+unlisted_uses _ i s e = (refl, refl, refl)
 
 kept_words : (op : Op) → (keeps_marks op && not (not (destination_words op == 0))) ≡ false
 kept_words Lda = refl
@@ -203,11 +188,12 @@ by_keeping s rs false false words false e t = ap (λ (b : Bool). b || (false || 
 pub other_misuses : (i : Inst) (s : State) → transfer_of i.op ≡ None → is_listed i.op ≡ false → (is_marked s (sources i) && (not (keeps_marks i.op) || is_special i.c)) ≡ misuses i s
 other_misuses i s still other =
     let op = i.op in
+    let uses = unlisted_uses op i s other in
     sym (still_misused op i s still refl
-    ∙ ap (λ (rs : List ℕ). is_marked s rs || ((is_special i.c && list_any (λ (b : Bool). b) (marks_by_name op i s)) || goes_out op i s)) (listed_deciding op i s other)
-    ∙ ap (λ (bs : List Bool). is_marked s (cond (keeps_marks op) [] (sources i)) || ((is_special i.c && list_any (λ (b : Bool). b) bs) || goes_out op i s)) (listed_marks op i s other)
+    ∙ ap (λ (rs : List ℕ). is_marked s rs || ((is_special i.c && list_any (λ (b : Bool). b) (marks_by_name op i s)) || goes_out op i s)) uses.0
+    ∙ ap (λ (bs : List Bool). is_marked s (cond (keeps_marks op) [] (sources i)) || ((is_special i.c && list_any (λ (b : Bool). b) bs) || goes_out op i s)) uses.1
     ∙ ap (λ (b : Bool). is_marked s (cond (keeps_marks op) [] (sources i)) || ((is_special i.c && b) || goes_out op i s)) (any_result i s)
-    ∙ ap (λ (b : Bool). is_marked s (cond (keeps_marks op) [] (sources i)) || ((is_special i.c && (not (destination_words op == 0) && is_marked s (sources i))) || b)) (listed_out op i s other)
+    ∙ ap (λ (b : Bool). is_marked s (cond (keeps_marks op) [] (sources i)) || ((is_special i.c && (not (destination_words op == 0) && is_marked s (sources i))) || b)) uses.2
     ∙ by_keeping s (sources i) (keeps_marks op) (is_special i.c) (not (destination_words op == 0)) (is_marked s (sources i)) refl (kept_words op))
 
 pub unlisted : (op : Op) → (op ≡ Lda → ⊥) → (op ≡ Atadd → ⊥) → (op ≡ Atmod → ⊥) → (op ≡ Bx → ⊥) → (op ≡ Balx → ⊥) → (op ≡ Callx → ⊥) → (op ≡ Ret → ⊥) → (op ≡ Modpc → ⊥) → (op ≡ Sysctl → ⊥) → is_listed op ≡ false
@@ -226,19 +212,12 @@ unlisted _ a b c d e f g h k = refl
 
 -- lda gives its mark to no special function register
 pub lda_misuses : (i : Inst) (s : State) → i.op ≡ Lda → (is_special i.c && is_marked s (address_registers i.ea)) ≡ misuses i s
-lda_misuses i s is = sym (still_misused Lda i s refl is ∙ by (is_special i.c) (is_marked s (address_registers i.ea)))
-  where
-    by : (x m : Bool) → (false || ((x && (m || false)) || false)) ≡ (x && m)
-    by true true = refl
-    by true false = refl
-    by false m = refl
+lda_misuses i s is =
+    let m = is_marked s (address_registers i.ea) in
+    sym (still_misused Lda i s refl is ∙ or_none (is_special i.c && (m || false)) ∙ ap (λ (b : Bool). is_special i.c && b) (or_none m))
 
 address_alone : (x y m : Bool) → x ≡ false → (m || ((y && x) || false)) ≡ m
-address_alone false true true e = refl
-address_alone false true false e = refl
-address_alone false false true e = refl
-address_alone false false false e = refl
-address_alone true y m e = absurd cc
+address_alone x y m e = ap (λ (b : Bool). m || (b || false)) (and_right y x e) ∙ or_none m
 
 -- a jump to an address that is not known
 pub bx_misuses : (i : Inst) (s : State) → i.op ≡ Bx → is_marked s (address_registers i.ea) ≡ misuses i s
@@ -348,12 +327,7 @@ transfer_registers u (Reg r) is t = refl
 transfer_registers u (Lit l) is t = refl
 transfer_registers (Load n) (Sfr j) is t = absurd cc
 transfer_registers (Store n) (Sfr j) is t = absurd cc
-transfer_registers Unused (Sfr j) is t = absurd cc
-transfer_registers (Source n) (Sfr j) is t = absurd cc
-transfer_registers Left (Sfr j) is t = absurd cc
-transfer_registers Right (Sfr j) is t = absurd cc
-transfer_registers (Destination n) (Sfr j) is t = absurd cc
-transfer_registers Change (Sfr j) is t = absurd cc
+transfer_registers _ (Sfr j) is t = absurd cc
 
 transfer_plain : (i : Inst) (t : Transfer) → IsValid i → transfer_of i.op ≡ Some t → is_special i.c ≡ false
 transfer_plain i t valid is =
@@ -368,19 +342,11 @@ transfer_misuses i s t valid is =
     sym (ap (λ (o : Option Transfer). is_marked s (deciding_by o i s) || ((is_special i.c && list_any (λ (b : Bool). b) (marks_by o i s)) || goes_out_by o i s)) is
     ∙ ap (λ (b : Bool). is_marked s (address_registers i.ea) || ((b && list_any (λ (x : Bool). x) (marks_by (Some t) i s)) || stored_out t.direction t.size i s)) (transfer_plain i t valid is))
 
-misused_first : (a b c : Bool) → (a || b) ≡ c → a ≡ true → true ≡ c
-misused_first true b c e t = e
-misused_first false b c e t = absurd cc
-
-misused_second : (a b c : Bool) → (a || b) ≡ c → a ≡ false → b ≡ c
-misused_second false b c e t = e
-misused_second true b c e t = absurd cc
-
 pub address_misused : (i : Inst) (s : State) (t : Transfer) → IsValid i → transfer_of i.op ≡ Some t → is_marked s (address_registers i.ea) ≡ true → true ≡ misuses i s
-address_misused i s t valid is marked = misused_first (is_marked s (address_registers i.ea)) (stored_out t.direction t.size i s) (misuses i s) (transfer_misuses i s t valid is) marked
+address_misused i s t valid is marked = sym (or_left _ (stored_out t.direction t.size i s) marked) ∙ transfer_misuses i s t valid is
 
 pub data_misused : (i : Inst) (s : State) (t : Transfer) → IsValid i → transfer_of i.op ≡ Some t → is_marked s (address_registers i.ea) ≡ false → stored_out t.direction t.size i s ≡ misuses i s
-data_misused i s t valid is none = misused_second (is_marked s (address_registers i.ea)) (stored_out t.direction t.size i s) (misuses i s) (transfer_misuses i s t valid is) none
+data_misused i s t valid is none = sym (ap (λ (b : Bool). b || stored_out t.direction t.size i s) none) ∙ transfer_misuses i s t valid is
 
 -- what goes out where the data are marked
 pub data_goes_out : (d : Direction) (size : Size) (i : Inst) (s : State) → d ≡ directions.Store → is_marked s (registers_of i.c (register_count size)) ≡ true → touches_port (address s i.ea) (byte_count size) ≡ stored_out d size i s
@@ -401,12 +367,7 @@ atomic_waits _ = refl
 
 -- no atomic instruction passes others
 pub not_atomic : (op : Op) → is_barrier_name op ≡ false → is_atomic op ≡ false
-not_atomic op none = by (is_atomic op) (is_barrier_name op) (atomic_waits op) none
-  where
-    by : (a b : Bool) → (a && not b) ≡ false → b ≡ false → a ≡ false
-    by true true e f = absurd cc
-    by true false e f = absurd cc
-    by false b e f = refl
+not_atomic op none = not_first (is_atomic op) (is_barrier_name op) (atomic_waits op) none
 
 pub none_marked : (s : State) (rs : List ℕ) → NoMarks s → is_marked s rs ≡ false
 none_marked s [] none = refl

@@ -1,8 +1,8 @@
 -- What waits for all before it: a barrier, whatever it comes to, a word that is refused, a hazard, and a fault that is
 -- raised before anything is done; and what others need.
 use Rattle.std.proofs.Common.{◌≡◌, ℕ, ◌+◌, ◌*◌, ◌&&◌, Bool, true, false, cond, Option, Some, None, Ok, refl, sym, ap, ◌∙◌, subst}
-use Rattle.i9_plan.proofs.Outcomes.{not_first}
-use Rattle.std.proofs.lemmas.Bool.{or_parts}
+use Rattle.i9_plan.proofs.MarkBits.{not_first}
+use Rattle.std.proofs.lemmas.Bool.{or_parts, or_left, or_right}
 use Rattle.std.specs.Prelude.{not, ◌||◌, ◌==◌, if◌then◌else◌, IsTrue}
 use Rattle.std.specs.Option.{is_some}
 use Rattle.i9_isa.specs.declared.op.Op.{Op}
@@ -34,16 +34,10 @@ use Rattle.i9_plan.specs.Open.{WaitsForAll, IsNoBarrier, NeedsAhead}
 -- ---- which wait
 
 by_either : (a b c d e f : Bool) → (a || b) ≡ true → IsTrue (a || b || c || d || e || f)
-by_either true b c d e f h = refl
-by_either false true c d e f h = refl
-by_either false false c d e f h = absurd cc
+by_either a b c d e f h = or_left _ f (or_left _ e (or_left _ d (or_left (a || b) c h)))
 
 by_fault : (a b c d : Bool) → d ≡ true → IsTrue (a || b || c || d || false || false)
-by_fault true b c d h = refl
-by_fault false true c d h = refl
-by_fault false false true d h = refl
-by_fault false false false true h = refl
-by_fault false false false false h = absurd cc
+by_fault a b c d h = or_left _ false (or_left _ false (or_right (a || b || c) d h))
 
 -- a barrier by its name, or by a special function register that it writes
 abbrev pub IsBarrier : Inst → Type 0

@@ -1,10 +1,10 @@
 -- What an instruction comes to that raises nothing before it does anything: by its result, by its condition, or by its
 -- access alone.
 use Rattle.std.proofs.Common.{◌≡◌, ℕ, Bool, true, false, cond, ◌&&◌, List, [], replicate, Option, Some, None, Result, Ok, refl, sym, ap, ◌∙◌, subst}
-use Rattle.i9_plan.proofs.MarkUses.{implied}
+use Rattle.i9_plan.proofs.MarkBits.{implied, other, second, not_first}
 use Rattle.std.specs.Prelude.{is_some, not, ◌||◌, ◌==◌}
 use Rattle.std.specs.Option.{option_map}
-use Rattle.std.proofs.lemmas.Bool.{eqb-true, or_from}
+use Rattle.std.proofs.lemmas.Bool.{eqb-true, or_from, or_right, and_left, and_from, and_parts, not-false, cond-true, cond-false}
 use Rattle.i9_isa.specs.declared.op.Op.{Op}
 use Rattle.i9_isa.specs.declared.op.Op.TheVariants.{Lda, Atadd, Atmod, Bx, Balx, Bal, Call, Callx, Calls, Ret, Flushreg, Modac, Modtc, Modpc, Sysctl, Sdma}
 use Rattle.i9_isa.specs.declared.inst.Inst.{Inst}
@@ -13,24 +13,24 @@ use Rattle.i9_isa.specs.Transfers.{transfer_of, byte_count}
 use Rattle.i9_isa.specs.declared.size.Direction.{Direction}
 use Rattle.i9_model.specs.declared.arith.Arith.{Arith}
 use Rattle.i9_model.specs.declared.faults.TheConstants.{CONSTRAINT, RANGE, TYPE, MISMATCH, OPERATION, INVALID_OPERAND, PROTECTION, LENGTH, UNALIGNED}
-use Rattle.i9_model.specs.State.{State, Interrupts, Dma}
+use Rattle.i9_model.specs.State.{State}
 use Rattle.i9_isa.specs.declared.inst.Operand.{Operand}
 use Rattle.i9_isa.specs.declared.inst.Operand.TheVariants.{Reg, Lit, Sfr}
 use Rattle.i9_model.specs.Operands.{value, address, assigned, interrupts_assigned, dma_assigned}
 use Rattle.i9_model.specs.Branches.{asks, question_of, is_taken}
 use Rattle.i9_model.specs.Needs.{is_barrier_name, has_access}
 use Rattle.i9_model.specs.Results.{Answer, words, has_result, destination_words}
-use Rattle.i9_model.specs.Stale.{misuses, marks_for, marks_of, sources, is_marked, moves_words, result_marks}
+use Rattle.i9_model.specs.Stale.{misuses, marks_for, marks_of, sources, is_marked, moves_words}
 use Rattle.i9_model.specs.Step.{Action, passing, destination, answer_in, resulting, branching, other_action, action_by_name, action_by, action_of}
 use Rattle.i9_model.specs.Access.{NoAccess, moved_access, access_by_name, access_by, access_of, data_of, hazard_in, hazard_of}
 use Rattle.i9_model.specs.Calls.{in_supervisor_mode}
-use Rattle.i9_model.specs.Faults.{is_supervisor_only, uses_special, mismatches, is_invalid, is_past_table, is_unaligned, raised}
+use Rattle.i9_model.specs.Faults.{is_supervisor_only, uses_special, is_invalid, is_past_table, is_unaligned, raised}
 use Rattle.i9_model.specs.Standing.{Standing, Meets, Faults, Runs, arithmetic_fault, answer_fault, is_fault_name, range_fault, raised_in, first_fault, by_access, by_later, by_raised, by_word}
 use Rattle.i9_processor.specs.declared.effect.Effect.{Effect}
 use Rattle.i9_processor.specs.Effect.{IsEffect}
 use Rattle.i9_plan.specs.Names.{is_branch}
 use Rattle.i9_plan.specs.Planned.{IsPlanFor}
-use Rattle.i9_plan.proofs.KnownFacts.{no_access}
+use Rattle.i9_plan.proofs.KnownFacts.{no_access, none_of}
 
 -- ---- no name is of two kinds
 
@@ -53,28 +53,6 @@ branch_results _ = refl
 fault_branches : (op : Op) → (is_fault_name op && not (is_branch op)) ≡ false
 fault_branches Lda = refl
 fault_branches _ = refl
-
-other : (a b : Bool) → (a && b) ≡ false → a ≡ true → b ≡ false
-other true b e t = e
-other false b e t = absurd cc
-
-second : (a b : Bool) → (a && b) ≡ false → b ≡ true → a ≡ false
-second true true e t = absurd cc
-second true false e t = absurd cc
-second false b e t = refl
-
-pub not_first : (a b : Bool) → (a && not b) ≡ false → b ≡ false → a ≡ false
-not_first true false e t = absurd cc
-not_first true true e t = absurd cc
-not_first false b e t = refl
-
-none_of : {A : Type 0} (o : Option A) → is_some o ≡ false → o ≡ None
-none_of None e = refl
-none_of (Some x) e = absurd cc
-
-picked : (b : Bool) (x y : Action) → b ≡ true → cond b x y ≡ x
-picked true x y e = refl
-picked false x y e = absurd cc
 
 -- ---- what they do and access
 
@@ -107,47 +85,25 @@ branch_own Lda = refl
 branch_own _ = refl
 
 -- the other ones branch or go by the table of results, and access nothing
-plain_action : (op : Op) (i : Inst) (s : State) → is_own op ≡ false → action_by_name op i s ≡ other_action op i s
-plain_action Lda i s e = absurd cc
-plain_action Atadd i s e = absurd cc
-plain_action Atmod i s e = absurd cc
-plain_action Bx i s e = absurd cc
-plain_action Balx i s e = absurd cc
-plain_action Bal i s e = absurd cc
-plain_action Call i s e = absurd cc
-plain_action Callx i s e = absurd cc
-plain_action Calls i s e = absurd cc
-plain_action Ret i s e = absurd cc
-plain_action Flushreg i s e = absurd cc
-plain_action Modac i s e = absurd cc
-plain_action Modtc i s e = absurd cc
-plain_action Modpc i s e = absurd cc
-plain_action Sdma i s e = absurd cc
-plain_action Sysctl i s e = absurd cc
-plain_action _ i s e = refl
-
-plain_access : (op : Op) (i : Inst) (s : State) → is_own op ≡ false → access_by_name op i s ≡ NoAccess
-plain_access Lda i s e = absurd cc
-plain_access Atadd i s e = absurd cc
-plain_access Atmod i s e = absurd cc
-plain_access Bx i s e = absurd cc
-plain_access Balx i s e = absurd cc
-plain_access Bal i s e = absurd cc
-plain_access Call i s e = absurd cc
-plain_access Callx i s e = absurd cc
-plain_access Calls i s e = absurd cc
-plain_access Ret i s e = absurd cc
-plain_access Flushreg i s e = absurd cc
-plain_access Modac i s e = absurd cc
-plain_access Modtc i s e = absurd cc
-plain_access Modpc i s e = absurd cc
-plain_access Sdma i s e = absurd cc
-plain_access Sysctl i s e = absurd cc
-plain_access _ i s e = refl
-
-unpicked : (b : Bool) (x y : Action) → b ≡ false → cond b x y ≡ y
-unpicked false x y e = refl
-unpicked true x y e = absurd cc
+plain_name : (op : Op) (i : Inst) (s : State) → is_own op ≡ false
+    → (action_by_name op i s ≡ other_action op i s) × (access_by_name op i s ≡ NoAccess)
+plain_name Lda i s e = absurd cc
+plain_name Atadd i s e = absurd cc
+plain_name Atmod i s e = absurd cc
+plain_name Bx i s e = absurd cc
+plain_name Balx i s e = absurd cc
+plain_name Bal i s e = absurd cc
+plain_name Call i s e = absurd cc
+plain_name Callx i s e = absurd cc
+plain_name Calls i s e = absurd cc
+plain_name Ret i s e = absurd cc
+plain_name Flushreg i s e = absurd cc
+plain_name Modac i s e = absurd cc
+plain_name Modtc i s e = absurd cc
+plain_name Modpc i s e = absurd cc
+plain_name Sdma i s e = absurd cc
+plain_name Sysctl i s e = absurd cc
+plain_name _ i s e = (refl, refl)
 
 result_question : (op : Op) → (has_result op && asks (question_of op)) ≡ false
 result_question Lda = refl
@@ -159,19 +115,19 @@ branch_question _ = refl
 
 result_action : (op : Op) (i : Inst) (s : State) → has_result op ≡ true → action_by_name op i s ≡ resulting i s (answer_in i s)
 result_action op i s t =
-    plain_action op i s (other (has_result op) (is_own op) (result_own op) t)
-    ∙ unpicked (asks (question_of op)) (branching i s) (resulting i s (answer_in i s)) (other (has_result op) (asks (question_of op)) (result_question op) t)
+    (plain_name op i s (other (has_result op) (is_own op) (result_own op) t)).0
+    ∙ cond-false (asks (question_of op)) _ _ (other (has_result op) (asks (question_of op)) (result_question op) t)
 
 branch_action : (op : Op) (i : Inst) (s : State) → is_branch op ≡ true → action_by_name op i s ≡ branching i s
 branch_action op i s t =
-    plain_action op i s (other (is_branch op) (is_own op) (branch_own op) t)
-    ∙ picked (asks (question_of op)) (branching i s) (resulting i s (answer_in i s)) (implied (is_branch op) (asks (question_of op)) (branch_question op) t)
+    (plain_name op i s (other (is_branch op) (is_own op) (branch_own op) t)).0
+    ∙ cond-true (asks (question_of op)) _ _ (implied (is_branch op) (asks (question_of op)) (branch_question op) t)
 
 result_access : (op : Op) (i : Inst) (s : State) → has_result op ≡ true → access_by_name op i s ≡ NoAccess
-result_access op i s t = plain_access op i s (other (has_result op) (is_own op) (result_own op) t)
+result_access op i s t = (plain_name op i s (other (has_result op) (is_own op) (result_own op) t)).1
 
 branch_access : (op : Op) (i : Inst) (s : State) → is_branch op ≡ true → access_by_name op i s ≡ NoAccess
-branch_access op i s t = plain_access op i s (other (is_branch op) (is_own op) (branch_own op) t)
+branch_access op i s t = (plain_name op i s (other (is_branch op) (is_own op) (branch_own op) t)).1
 
 -- a name that moves nothing between registers and memory goes by itself
 pub by_itself : (i : Inst) (s : State) → transfer_of i.op ≡ None → action_of i s ≡ action_by_name i.op i s
@@ -204,56 +160,14 @@ still_accesses : (op : Op) → (has_access op && not (is_barrier_name op) && not
 still_accesses Lda = refl
 still_accesses _ = refl
 
-plain_calls : (op : Op) (b : ℕ) → is_asking op ≡ false → is_supervisor_only op b ≡ false
-plain_calls Calls b e = absurd cc
-plain_calls Modpc b e = absurd cc
-plain_calls Sysctl b e = absurd cc
-plain_calls Sdma b e = absurd cc
-plain_calls _ b e = refl
-
-plain_names : (op : Op) (a : ℕ) → is_asking op ≡ false → is_invalid op a ≡ false
-plain_names Calls a e = absurd cc
-plain_names Modpc a e = absurd cc
-plain_names Sysctl a e = absurd cc
-plain_names Sdma a e = absurd cc
-plain_names _ a e = refl
-
-plain_table : (op : Op) (a : ℕ) → is_asking op ≡ false → is_past_table op a ≡ false
-plain_table Calls a e = absurd cc
-plain_table Modpc a e = absurd cc
-plain_table Sysctl a e = absurd cc
-plain_table Sdma a e = absurd cc
-plain_table _ a e = refl
-
--- outside supervisor mode no special function register is used
-no_mismatch : (m v u : Bool) → (m && u) ≡ false → v ≡ false → (m && (v || u)) ≡ false
-no_mismatch true false u e f = e
-no_mismatch false v u e f = refl
-no_mismatch true true u e f = absurd cc
-
-calm_form : (m q r : Bool) (config : ℕ) (w x y z : ℕ × ℕ) (access : Option (ℕ × ℕ)) → m ≡ false → q ≡ false → r ≡ false → access ≡ None
-    → cond m (Some w) (cond q (Some x) (cond r (Some y) (cond (is_unaligned access config) (Some z) None))) ≡ None
-calm_form false false false config w x y z None d f g h = refl
-calm_form true q r config w x y z access d f g h = absurd cc
-calm_form false true r config w x y z access d f g h = absurd cc
-calm_form false false true config w x y z access d f g h = absurd cc
-calm_form false false false config w x y z (Some p) d f g h = absurd cc
-
--- no special function register is used outside supervisor mode
-abbrev Matches : Inst → State → Type 0
-Matches i s = (not (in_supervisor_mode s.pc) && uses_special i) ≡ false
-
--- an instruction that is no barrier, and no load or store, raises nothing before it does anything
-pub still_calm : (i : Inst) (s : State) → Matches i s → is_barrier_name i.op ≡ false → transfer_of i.op ≡ None → raised_in i s ≡ None
-unfolding raised
-still_calm i s fits b still =
-    let quiet = not_first (is_asking i.op) (is_barrier_name i.op) (still_asking i.op) b in
-    let moves = not_first (has_access i.op && not (is_barrier_name i.op)) (is_some (transfer_of i.op)) (still_accesses i.op) (ap (λ (t : Option Transfer). is_some t) still) in
-    let access = not_first (has_access i.op) (is_barrier_name i.op) moves b in
-    calm_form (mismatches i (value s i.b) s.pc) (is_invalid i.op (value s i.a)) (is_past_table i.op (value s i.a)) s.tables.fault_config _ _ _ _
-    (data_of (access_of i s))
-    (no_mismatch (not (in_supervisor_mode s.pc)) (is_supervisor_only i.op (value s i.b)) (uses_special i) fits (plain_calls i.op (value s i.b) quiet))
-    (plain_names i.op (value s i.a) quiet) (plain_table i.op (value s i.a) quiet) (no_access i s access)
+-- the other ones do not
+unasked : (op : Op) (a b : ℕ) → is_asking op ≡ false
+    → (is_supervisor_only op b ≡ false) × (is_invalid op a ≡ false) × (is_past_table op a ≡ false)
+unasked Calls a b e = absurd cc
+unasked Modpc a b e = absurd cc
+unasked Sysctl a b e = absurd cc
+unasked Sdma a b e = absurd cc
+unasked _ a b e = (refl, refl, refl)
 
 -- what is raised outside supervisor mode, or by what src1 names, or by an access
 abbrev pub fault_by : (m v u q r : Bool) → Option (ℕ × ℕ) → ℕ → Option (ℕ × ℕ)
@@ -263,6 +177,32 @@ fault_by m v u q r access config =
     (cond r (Some (PROTECTION, LENGTH))
     (cond (is_unaligned access config) (Some (OPERATION, UNALIGNED)) None)))
 
+-- of the other ones, by a special function register that is used, or by an access
+unasked_raises : (i : Inst) (s : State) (access : Option (ℕ × ℕ)) → is_asking i.op ≡ false → data_of (access_of i s) ≡ access
+    → raised_in i s ≡ fault_by (not (in_supervisor_mode s.pc)) false (uses_special i) false false access s.tables.fault_config
+unfolding raised
+unasked_raises i s access quiet accessed =
+    let m = not (in_supervisor_mode s.pc) in
+    let u = uses_special i in
+    let config = s.tables.fault_config in
+    let none = unasked i.op (value s i.a) (value s i.b) quiet in
+    ap (λ (o : Option (ℕ × ℕ)). fault_by m (is_supervisor_only i.op (value s i.b)) u (is_invalid i.op (value s i.a)) (is_past_table i.op (value s i.a)) o config) accessed
+    ∙ ap (λ (r : Bool). fault_by m (is_supervisor_only i.op (value s i.b)) u (is_invalid i.op (value s i.a)) r access config) none.2
+    ∙ ap (λ (q : Bool). fault_by m (is_supervisor_only i.op (value s i.b)) u q false access config) none.1
+    ∙ ap (λ (v : Bool). fault_by m v u false false access config) none.0
+
+-- no special function register is used outside supervisor mode
+abbrev Matches : Inst → State → Type 0
+Matches i s = (not (in_supervisor_mode s.pc) && uses_special i) ≡ false
+
+-- an instruction that is no barrier, and no load or store, raises nothing before it does anything
+pub still_calm : (i : Inst) (s : State) → Matches i s → is_barrier_name i.op ≡ false → transfer_of i.op ≡ None → raised_in i s ≡ None
+still_calm i s fits b still =
+    let quiet = not_first (is_asking i.op) (is_barrier_name i.op) (still_asking i.op) b in
+    let moves = not_first (has_access i.op && not (is_barrier_name i.op)) (is_some (transfer_of i.op)) (still_accesses i.op) (ap (λ (t : Option Transfer). is_some t) still) in
+    let access = not_first (has_access i.op) (is_barrier_name i.op) moves b in
+    unasked_raises i s None quiet (no_access i s access) ∙ cond-false _ _ _ fits
+
 moved_data : (d : Direction) (a n : ℕ) → data_of (moved_access d a n) ≡ Some (a, n)
 moved_data Direction.Load a n = refl
 moved_data Direction.Store a n = refl
@@ -271,32 +211,20 @@ moved_data Direction.Store a n = refl
 pub transfer_raises : (i : Inst) (s : State) (t : Transfer) → transfer_of i.op ≡ Some t
     → fault_by (not (in_supervisor_mode s.pc)) false (uses_special i) false false (Some (address s i.ea, byte_count t.size)) s.tables.fault_config
     ≡ raised_in i s
-unfolding raised
 transfer_raises i s t e =
     let quiet = second (is_asking i.op) (is_some (transfer_of i.op)) (moved_asking i.op) (ap (λ (o : Option Transfer). is_some o) e) in
-    let m = not (in_supervisor_mode s.pc) in
-    let u = uses_special i in
-    let config = s.tables.fault_config in
-    let here = Some (address s i.ea, byte_count t.size) in
-    let accessed = sym (ap (λ (o : Option Transfer). data_of (access_by o i s)) e ∙ moved_data t.direction (address s i.ea) (byte_count t.size)) in
-    let calls = sym (plain_calls i.op (value s i.b) quiet) in
-    let names = sym (plain_names i.op (value s i.a) quiet) in
-    let table = sym (plain_table i.op (value s i.a) quiet) in
-    ap (λ (v : Bool). fault_by m v u false false here config) calls
-    ∙ ap (λ (q : Bool). fault_by m (is_supervisor_only i.op (value s i.b)) u q false here config) names
-    ∙ ap (λ (r : Bool). fault_by m (is_supervisor_only i.op (value s i.b)) u (is_invalid i.op (value s i.a)) r here config) table
-    ∙ ap (λ (o : Option (ℕ × ℕ)). fault_by m (is_supervisor_only i.op (value s i.b)) u (is_invalid i.op (value s i.a)) (is_past_table i.op (value s i.a)) o config) accessed
+    let here = address s i.ea in
+    sym (unasked_raises i s (Some (here, byte_count t.size)) quiet
+    (ap (λ (o : Option Transfer). data_of (access_by o i s)) e ∙ moved_data t.direction here (byte_count t.size)))
 
 -- where one is used there, that is what is raised
-used_there : (m v u : Bool) (o : Option (ℕ × ℕ)) → (m && u) ≡ true → cond (m && (v || u)) (Some (TYPE, MISMATCH)) o ≡ Some (TYPE, MISMATCH)
-used_there true false true o e = refl
-used_there true true u o e = refl
-used_there true false false o e = absurd cc
-used_there false v u o e = absurd cc
-
 pub mismatch_raised : (i : Inst) (s : State) → (not (in_supervisor_mode s.pc) && uses_special i) ≡ true → raised_in i s ≡ Some (TYPE, MISMATCH)
 unfolding raised
-mismatch_raised i s used = used_there (not (in_supervisor_mode s.pc)) (is_supervisor_only i.op (value s i.b)) (uses_special i) _ used
+mismatch_raised i s used =
+    let m = not (in_supervisor_mode s.pc) in
+    let v = is_supervisor_only i.op (value s i.b) in
+    let both = and_parts m (uses_special i) used in
+    cond-true (m && (v || uses_special i)) _ _ (and_from m (v || uses_special i) both.0 (or_right v (uses_special i) both.1))
 
 -- ---- by its result
 
@@ -311,8 +239,7 @@ result_by i s None r none clear = ap (by_later i s) none ∙ ap (by_access i) cl
 result_by i s (Some f) r none clear = refl
 
 no_range : (b c : Bool) → b ≡ false → ◌≡◌ {A = Option (ℕ × ℕ)} (cond (b && c) (Some (CONSTRAINT, RANGE)) None) None
-no_range false c e = refl
-no_range true c e = absurd cc
+no_range b c e = cond-false (b && c) _ _ (and_left b c e)
 
 pub result_stands : (i : Inst) (s : State) (r : Answer) → has_result i.op ≡ true → Some r ≡ answer_in i s → by_raised i s None ≡ by_result i r.fault
 result_stands i s r t e =
@@ -418,118 +345,73 @@ plain_own op b l x y z =
     not_first (is_own op) (is_linking op || is_barrier_name op) (own_names op) none
 
 -- none of the barriers that do something of their own
-pub record IsOther (op : Op) : Type 0 where
-  pub barrier : is_barrier_name op ≡ true
-  pub not_atadd : op ≡ Atadd → ⊥
-  pub not_atmod : op ≡ Atmod → ⊥
-  pub not_call : op ≡ Call → ⊥
-  pub not_callx : op ≡ Callx → ⊥
-  pub not_calls : op ≡ Calls → ⊥
-  pub not_ret : op ≡ Ret → ⊥
-  pub not_flushreg : op ≡ Flushreg → ⊥
-  pub not_modac : op ≡ Modac → ⊥
-  pub not_modtc : op ≡ Modtc → ⊥
-  pub not_modpc : op ≡ Modpc → ⊥
-  pub not_sdma : op ≡ Sdma → ⊥
-  pub not_sysctl : op ≡ Sysctl → ⊥
+abbrev pub IsOther : Op → Type 0
+IsOther op = (op ≡ Atadd → ⊥) × (op ≡ Atmod → ⊥) × (op ≡ Call → ⊥) × (op ≡ Callx → ⊥) × (op ≡ Calls → ⊥) × (op ≡ Ret → ⊥)
+    × (op ≡ Flushreg → ⊥) × (op ≡ Modac → ⊥) × (op ≡ Modtc → ⊥) × (op ≡ Modpc → ⊥) × (op ≡ Sdma → ⊥) × (op ≡ Sysctl → ⊥)
 
 -- every other name does nothing, where it neither branches nor has a result
-nothing_assigned : (o : Operand) → assigned o [] ≡ []
-nothing_assigned (Reg r) = refl
-nothing_assigned (Lit l) = refl
-nothing_assigned (Sfr k) = refl
+nothing_to : (o : Operand) (i : Inst) (s : State)
+    → record (passing i s) { sets = assigned o []; interrupts = interrupts_assigned o [] s.interrupts; dma = dma_assigned o [] s.dma; marked = marks_for o [] }
+    ≡ passing i s
+nothing_to (Reg r) i s = refl
+nothing_to (Lit l) i s = refl
+nothing_to (Sfr k) i s = refl
 
-nothing_posted : (o : Operand) (x : Interrupts) → interrupts_assigned o [] x ≡ x
-nothing_posted (Reg r) x = refl
-nothing_posted (Lit l) x = refl
-nothing_posted (Sfr k) x = refl
-
-nothing_changed : (o : Operand) (d : Dma) → dma_assigned o [] d ≡ d
-nothing_changed (Reg r) d = refl
-nothing_changed (Lit l) d = refl
-nothing_changed (Sfr k) d = refl
-
-nothing_marked : (o : Operand) → marks_for o [] ≡ []
-nothing_marked (Reg r) = refl
-nothing_marked (Lit l) = refl
-nothing_marked (Sfr k) = refl
-
-no_marks : (i : Inst) (s : State) → destination_words i.op ≡ 0 → marks_for (destination i) (result_marks i s) ≡ []
-no_marks i s none = ap (marks_for (destination i)) (by (moves_words i.op)) ∙ nothing_marked (destination i)
+nothing_given : (i : Inst) (s : State) → destination_words i.op ≡ 0 → resulting i s None ≡ passing i s
+nothing_given i s none =
+    let o = destination i in
+    ap (λ (ms : List Bool). record (passing i s) { sets = assigned o []; interrupts = interrupts_assigned o [] s.interrupts; dma = dma_assigned o [] s.dma; marked = marks_for o ms }) (by (moves_words i.op))
+    ∙ nothing_to o i s
   where
     by : (m : Bool) → cond m (marks_of s i.a (destination_words i.op)) (replicate (destination_words i.op) (is_marked s (sources i))) ≡ []
     by true = ap (marks_of s i.a) none
     by false = ap (λ (n : ℕ). replicate n (is_marked s (sources i))) none
 
-nothing_given : (i : Inst) (s : State) → destination_words i.op ≡ 0 → resulting i s None ≡ passing i s
-nothing_given i s none =
-    let o = destination i in
-    ap (λ (marked : List ℕ). record (passing i s) { sets = assigned o []; interrupts = interrupts_assigned o [] s.interrupts; dma = dma_assigned o [] s.dma; marked = marked }) (no_marks i s none)
-    ∙ ap (λ (sets : List (ℕ × ℕ)). record (passing i s) { sets = sets; interrupts = interrupts_assigned o [] s.interrupts; dma = dma_assigned o [] s.dma }) (nothing_assigned o)
-    ∙ ap (λ (x : Interrupts). record (passing i s) { interrupts = x; dma = dma_assigned o [] s.dma }) (nothing_posted o s.interrupts)
-    ∙ ap (λ (d : Dma). record (passing i s) { dma = d }) (nothing_changed o s.dma)
-
 -- where nothing is written, a result changes the controls alone
 pub code_given : (i : Inst) (s : State) (n : ℕ) → destination_words i.op ≡ 0 → resulting i s (Some (words [] n)) ≡ record (passing i s) { ac = n }
 code_given i s n none = ap (λ (a : Action). record a { ac = n }) (nothing_given i s none)
 
-pub not_own : (op : Op) → IsOther op → is_own op ≡ false
-not_own Lda other = let b = other.barrier in absurd cc
-not_own Atadd other = absurd (other.not_atadd refl)
-not_own Atmod other = absurd (other.not_atmod refl)
-not_own Bx other = let b = other.barrier in absurd cc
-not_own Balx other = let b = other.barrier in absurd cc
-not_own Bal other = let b = other.barrier in absurd cc
-not_own Call other = absurd (other.not_call refl)
-not_own Callx other = absurd (other.not_callx refl)
-not_own Calls other = absurd (other.not_calls refl)
-not_own Ret other = absurd (other.not_ret refl)
-not_own Flushreg other = absurd (other.not_flushreg refl)
-not_own Modac other = absurd (other.not_modac refl)
-not_own Modtc other = absurd (other.not_modtc refl)
-not_own Modpc other = absurd (other.not_modpc refl)
-not_own Sdma other = absurd (other.not_sdma refl)
-not_own Sysctl other = absurd (other.not_sysctl refl)
-not_own _ other = refl
+pub not_own : (op : Op) → is_barrier_name op ≡ true → IsOther op → is_own op ≡ false
+not_own Lda barrier other = absurd cc
+not_own Atadd barrier other = absurd (other.0 refl)
+not_own Atmod barrier other = absurd (other.1 refl)
+not_own Bx barrier other = absurd cc
+not_own Balx barrier other = absurd cc
+not_own Bal barrier other = absurd cc
+not_own Call barrier other = absurd (other.2 refl)
+not_own Callx barrier other = absurd (other.3 refl)
+not_own Calls barrier other = absurd (other.4 refl)
+not_own Ret barrier other = absurd (other.5 refl)
+not_own Flushreg barrier other = absurd (other.6 refl)
+not_own Modac barrier other = absurd (other.7 refl)
+not_own Modtc barrier other = absurd (other.8 refl)
+not_own Modpc barrier other = absurd (other.9 refl)
+not_own Sdma barrier other = absurd (other.10 refl)
+not_own Sysctl barrier other = absurd (other.11 refl)
+not_own _ barrier other = refl
 
 nothing_written : (op : Op) → (not (destination_words op == 0) && not (is_some (transfer_of op) || has_result op || is_branch op || is_own op)) ≡ false
 nothing_written Lda = refl
 nothing_written _ = refl
 
-no_words : (n : ℕ) (a b c d : Bool) → (not (n == 0) && not (a || b || c || d)) ≡ false → a ≡ false → b ≡ false → c ≡ false → d ≡ false → n ≡ 0
-no_words n false false false false e f g h k = eqb-true n 0 (by (n == 0) e)
-  where
-    by : (z : Bool) → (not z && true) ≡ false → z ≡ true
-    by true e = refl
-    by false e = absurd cc
-no_words n true b c d e f g h k = absurd cc
-no_words n false true c d e f g h k = absurd cc
-no_words n false false true d e f g h k = absurd cc
-no_words n false false false true e f g h k = absurd cc
-
 unbranched : (op : Op) → (asks (question_of op) && not (is_branch op || is_own op)) ≡ false
 unbranched Lda = refl
 unbranched _ = refl
 
-pub no_branch : (a b c : Bool) → (a && not (b || c)) ≡ false → b ≡ false → c ≡ false → a ≡ false
-no_branch true false false e f g = absurd cc
-no_branch true true c e f g = absurd cc
-no_branch true false true e f g = absurd cc
-no_branch false b c e f g = refl
-
 other_action_is : (op : Op) (i : Inst) (s : State) → is_own op ≡ false → is_branch op ≡ false → destination_words i.op ≡ 0 → answer_in i s ≡ None → action_by_name op i s ≡ passing i s
 other_action_is op i s own b words none =
-    plain_action op i s own
-    ∙ unpicked (asks (question_of op)) (branching i s) (resulting i s (answer_in i s)) (no_branch (asks (question_of op)) (is_branch op) (is_own op) (unbranched op) b own)
+    (plain_name op i s own).0
+    ∙ cond-false (asks (question_of op)) _ _ (not_first (asks (question_of op)) (is_branch op || is_own op) (unbranched op) (or_from (is_branch op) (is_own op) b own))
     ∙ ap (resulting i s) none ∙ nothing_given i s words
 
 pub other_plan : (i : Inst) (s : State) (e : Effect) → transfer_of i.op ≡ None → is_own i.op ≡ false → has_result i.op ≡ false
     → is_branch i.op ≡ false → is_some (answer_in i s) ≡ has_result i.op → IsEffect s (passing i s) e
     → (hazard_in s (access_by_name i.op i s) ≡ None) × IsEffect s (action_by_name i.op i s) e
 other_plan i s e still own r b answers is =
-    let words = no_words (destination_words i.op) (is_some (transfer_of i.op)) (has_result i.op) (is_branch i.op) (is_own i.op) (nothing_written i.op) (ap (λ (t : Option Transfer). is_some t) still) r b own in
+    let parts = or_from _ (is_own i.op) (or_from _ (is_branch i.op) (or_from _ (has_result i.op) (ap (λ (t : Option Transfer). is_some t) still) r) b) own in
+    let words = eqb-true _ 0 (not-false _ (not_first (not (destination_words i.op == 0)) _ (nothing_written i.op) parts)) in
     let does = other_action_is i.op i s own b words (none_of (answer_in i s) (answers ∙ r)) in
-    (ap (hazard_in s) (plain_access i.op i s own), subst (λ (a : Action). IsEffect s a e) (sym does) is)
+    (ap (hazard_in s) (plain_name i.op i s own).1, subst (λ (a : Action). IsEffect s a e) (sym does) is)
 
 -- ---- what marks forbid comes first
 

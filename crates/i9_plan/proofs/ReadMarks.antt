@@ -1,13 +1,10 @@
 -- Whether a source is marked, by the set of the resources that an instruction reads.
-use Rattle.std.proofs.Common.{◌≡◌, ℕ, ◌+◌, ◌^◌, ◌<◌, ◌≤◌, Bool, true, false, nat_lt, ◌++◌, refl, sym, ap, ◌∙◌, arith, inl, inr, ◌-◌}
+use Rattle.std.proofs.Common.{◌≡◌, ℕ, ◌+◌, ◌^◌, ◌<◌, ◌≤◌, Bool, true, false, nat_lt, refl, sym, ap, ◌∙◌, arith, inl, inr, ◌-◌}
 use Rattle.i9_course.proofs.Timed.{first_of}
-use Rattle.i9_plan.proofs.Outcomes.{no_branch}
 use Rattle.std.specs.Prelude.{nat_le, ◌==◌, ◌&&◌, ◌||◌, not, bit_and, Option, None, is_some}
-use Rattle.std.proofs.lemmas.Bool.{eqb-true, or_cases, or_parts, and_from}
+use Rattle.std.proofs.lemmas.Bool.{eqb-true, or_cases, or_parts, or_from, or_left, or_right, and_from}
 use Rattle.std.specs.List.{list_any}
-use Rattle.std.specs.Int.{from_bool}
 use Rattle.std.proofs.lemmas.Bool.Decides.{nat_tests}
-use Rattle.std.proofs.lemmas.List.Folds.{list_any-append}
 use Rattle.i9_isa.specs.declared.op.Op.{Op}
 use Rattle.i9_isa.specs.declared.op.Op.TheVariants.{Lda}
 use Rattle.i9_isa.specs.declared.format.Format.{Format}
@@ -26,8 +23,8 @@ use Rattle.i9_isa.specs.Words.{bit}
 use Rattle.i9_model.specs.State.{State}
 use Rattle.i9_model.specs.Stale.{registers_of, sources, is_marked}
 use Rattle.i9_isa.specs.declared.size.Transfer.{Transfer}
-use Rattle.i9_plan.proofs.MarkUses.{is_listed}
-use Rattle.i9_plan.proofs.MarkBits.{zero_bits, some_bit, both_bits, bit_above, none_among, some_among}
+use Rattle.i9_plan.proofs.MarkUses.{is_listed, sources_parts}
+use Rattle.i9_plan.proofs.MarkBits.{as_bool, zero_bits, some_bit, both_bits, bit_above, none_among, some_among, not_first}
 
 -- ---- the registers of an operand
 
@@ -77,17 +74,6 @@ by_part x false false false true e f p q t h j k l = absurd cc
 by_part x false false false false true f p q t h j k l = absurd cc
 by_part x false false false false false f p q t h j k l = l t
 
-part_b : (a b c d e f : Bool) → b ≡ true → (a || b || c || d || e || f) ≡ true
-part_b true b c d e f t = refl
-part_b false true c d e f t = refl
-part_b false false c d e f t = absurd cc
-
-part_c : (a b c d e f : Bool) → c ≡ true → (a || b || c || d || e || f) ≡ true
-part_c true b c d e f t = refl
-part_c false true c d e f t = refl
-part_c false false true d e f t = refl
-part_c false false false d e f t = absurd cc
-
 -- no mark is one of the condition code
 code_unmarked : (w k : ℕ) (reads : Bool) → w < 2 ^ 32 → (reads && (k == CONDITION_CODE)) ≡ true → bit w k ≡ false
 code_unmarked w k true small t = let e = eqb-true k CONDITION_CODE t in bit_above w 32 k small (omega (arith, e))
@@ -104,18 +90,8 @@ no_index e k plain = ap (λ (a : Ea). has_index a.mode && (k == a.index)) plain
 pub sources_marked : (i : Inst) (s : State) (w bits : ℕ) → w < 2 ^ 32 → ((r : ℕ) → bit w r ≡ s.marks r) → IsSetOf bits (is_read i) → i.ea ≡ no_address → not (bit_and w bits == 0) ≡ is_marked s (sources i)
 sources_marked i s w bits small marks reads plain = by (is_marked s (sources i)) refl
   where
-    parts : list_any s.marks (registers_of i.a (words_read (row_of i.op).a) ++ (registers_of i.b (words_read (row_of i.op).b) ++ registers_of i.c (words_read (row_of i.op).c)))
-        ≡ (list_any s.marks (registers_of i.a (words_read (row_of i.op).a)) || (list_any s.marks (registers_of i.b (words_read (row_of i.op).b)) || list_any s.marks (registers_of i.c (words_read (row_of i.op).c))))
-    parts =
-        list_any-append s.marks (registers_of i.a (words_read (row_of i.op).a)) (registers_of i.b (words_read (row_of i.op).b) ++ registers_of i.c (words_read (row_of i.op).c))
-        ∙ ap (λ (b : Bool). list_any s.marks (registers_of i.a (words_read (row_of i.op).a)) || b) (list_any-append s.marks (registers_of i.b (words_read (row_of i.op).b)) (registers_of i.c (words_read (row_of i.op).c)))
-
     read_bit : (k : ℕ) → bit bits k ≡ is_read i k
-    read_bit k = ap (λ (n : ℕ). n == 1) (reads k) ∙ one (is_read i k)
-      where
-        one : (b : Bool) → (from_bool b == 1) ≡ b
-        one true = refl
-        one false = refl
+    read_bit k = ap (λ (n : ℕ). n == 1) (reads k) ∙ as_bool (is_read i k)
 
     set : (k : ℕ) → s.marks k ≡ true → is_read i k ≡ true → not (bit_and w bits == 0) ≡ true
     set k marked read = ap not (some_bit (bit_and w bits) k (both_bits w bits k ∙ and_from (bit w k) (bit bits k) (marks k ∙ marked) (read_bit k ∙ read)))
@@ -126,9 +102,9 @@ sources_marked i s w bits small marks reads plain = by (is_marked s (sources i))
     by : (b : Bool) → is_marked s (sources i) ≡ b → not (bit_and w bits == 0) ≡ b
     by true e =
         let inside_a = λ (k : ℕ) (t : is_in_operand i.a (words_read (row_of i.op).a) k ≡ true). first_of (is_in_operand i.a (words_read (row_of i.op).a) k) _ _ _ _ _ t in
-        let inside_b = λ (k : ℕ) (t : is_in_operand i.b (words_read (row_of i.op).b) k ≡ true). part_b (is_in_operand i.a (words_read (row_of i.op).a) k) (is_in_operand i.b (words_read (row_of i.op).b) k) _ _ _ _ t in
-        let inside_c = λ (k : ℕ) (t : is_in_operand i.c (words_read (row_of i.op).c) k ≡ true). part_c (is_in_operand i.a (words_read (row_of i.op).a) k) (is_in_operand i.b (words_read (row_of i.op).b) k) (is_in_operand i.c (words_read (row_of i.op).c) k) _ _ _ t in
-        elim (or_cases _ _ (sym parts ∙ e)) [
+        let inside_b = λ (k : ℕ) (t : is_in_operand i.b (words_read (row_of i.op).b) k ≡ true). or_left _ _ (or_left _ _ (or_left _ _ (or_left _ _ (or_right (is_in_operand i.a (words_read (row_of i.op).a) k) _ t)))) in
+        let inside_c = λ (k : ℕ) (t : is_in_operand i.c (words_read (row_of i.op).c) k ≡ true). or_left _ _ (or_left _ _ (or_left _ _ (or_right (is_in_operand i.a (words_read (row_of i.op).a) k || is_in_operand i.b (words_read (row_of i.op).b) k) _ t))) in
+        elim (or_cases _ _ (sym (sources_parts i s) ∙ e)) [
           | inl a ↦ found i.a (words_read (row_of i.op).a) a inside_a
           | inr rest ↦ elim (or_cases _ _ rest) [
             | inl b ↦ found i.b (words_read (row_of i.op).b) b inside_b
@@ -136,7 +112,7 @@ sources_marked i s w bits small marks reads plain = by (is_marked s (sources i))
           ]
         ]
     by false e =
-        let split = or_parts _ _ (sym parts ∙ e) in
+        let split = or_parts _ _ (sym (sources_parts i s) ∙ e) in
         let later = or_parts _ _ split.1 in
         ap (λ (x : ℕ). not (x == 0)) (zero_bits (bit_and w bits) (λ k. both_bits w bits k ∙ unmarked k split.0 later.0 later.1))
       where
@@ -166,9 +142,6 @@ fits_none formats.Cobr e none fits = fits
 fits_none formats.Ctrl e none fits = fits
 fits_none formats.Mem e none fits = absurd cc
 
-plain_address : (i : Inst) → IsValid i → is_mem (row_of i.op).format ≡ false → i.ea ≡ no_address
-plain_address i valid none = fits_none (row_of i.op).format i.ea none valid.ea
-
 listed_format : (op : Op) → (is_mem (row_of op).format && not (is_listed op || is_some (transfer_of op))) ≡ false
 listed_format Lda = refl
 listed_format _ = refl
@@ -176,4 +149,5 @@ listed_format _ = refl
 -- nor has a name that is not listed, and neither loads nor stores
 pub other_plain : (i : Inst) → IsValid i → transfer_of i.op ≡ None → is_listed i.op ≡ false → i.ea ≡ no_address
 other_plain i valid still other =
-    plain_address i valid (no_branch (is_mem (row_of i.op).format) (is_listed i.op) (is_some (transfer_of i.op)) (listed_format i.op) other (ap (λ (o : Option Transfer). is_some o) still))
+    let none = or_from (is_listed i.op) (is_some (transfer_of i.op)) other (ap (λ (o : Option Transfer). is_some o) still) in
+    fits_none (row_of i.op).format i.ea (not_first (is_mem (row_of i.op).format) _ (listed_format i.op) none) valid.ea

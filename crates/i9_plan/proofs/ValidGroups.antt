@@ -52,12 +52,7 @@ group_end (suc (suc (suc (suc (suc n))))) r few t = absurd (grind (arith, nat_te
 group_of : (u : Use) (o : Operand) → nat_le (words_written u) 4 ≡ true → takes u o ≡ true → HasGroup o (words_written u)
 group_of (Destination n) (Reg r) few t = group_end n r few t
 group_of (Load n) (Reg r) few t = group_end n r few t
-group_of Change (Reg r) few t = let h = register_small Change r t in omega arith
-group_of Unused (Reg r) few t = let h = register_small Unused r t in omega arith
-group_of (Source n) (Reg r) few t = let h = register_small (Source n) r t in omega arith
-group_of Left (Reg r) few t = let h = register_small Left r t in omega arith
-group_of Right (Reg r) few t = let h = register_small Right r t in omega arith
-group_of (Store n) (Reg r) few t = let h = register_small (Store n) r t in omega arith
+group_of u (Reg r) few t = let h = register_small u r t in omega arith
 group_of u (Lit l) few t = tt
 group_of u (Sfr k) few t = tt
 

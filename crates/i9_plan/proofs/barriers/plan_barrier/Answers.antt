@@ -5,7 +5,7 @@ use Rattle.i9_model.specs.Access.{SavesFrame}
 use Rattle.i9_processor.specs.State.{state_of}
 use Rattle.i9_plan.specs.Planned.{IsPlanFor}
 use Rattle.i9_plan.proofs.Faulting.{calls_number, sdma_channel, sysctl_message}
-use Rattle.i9_plan.proofs.Outcomes.{IsOther, not_own, other_plan, by_name, barrier_moves, barrier_has_no_result, barrier_goes_on}
+use Rattle.i9_plan.proofs.Outcomes.{not_own, other_plan, by_name, barrier_moves, barrier_has_no_result, barrier_goes_on}
 use Rattle.i9_plan.proofs.barriers.plan_barrier.Goals as goal
 
 pub plan_calls-requires-clause-number : goal.plan_calls-requires-clause-number
@@ -64,20 +64,7 @@ returns-in_default c =
     let i = c.args.i.now in
     let s = state_of c.args.p.now in
     let b = c.requires.barrier in
-    let other : IsOther i.op = record {
-      barrier = b;
-      not_atadd = c.in_default.not-Atadd;
-      not_atmod = c.in_default.not-Atmod;
-      not_call = c.in_default.not-Call;
-      not_callx = c.in_default.not-Callx;
-      not_calls = c.in_default.not-Calls;
-      not_ret = c.in_default.not-Ret;
-      not_flushreg = c.in_default.not-Flushreg;
-      not_modac = c.in_default.not-Modac;
-      not_modtc = c.in_default.not-Modtc;
-      not_modpc = c.in_default.not-Modpc;
-      not_sdma = c.in_default.not-Sdma;
-      not_sysctl = c.in_default.not-Sysctl;
-    } in
-    other_plan i s c.passing.result (barrier_moves i.op b) (not_own i.op other) (barrier_has_no_result i.op b) (barrier_goes_on i.op b)
+    let o = c.in_default in
+    let own = not_own i.op b (o.not-Atadd, o.not-Atmod, o.not-Call, o.not-Callx, o.not-Calls, o.not-Ret, o.not-Flushreg, o.not-Modac, o.not-Modtc, o.not-Modpc, o.not-Sdma, o.not-Sysctl) in
+    other_plan i s c.passing.result (barrier_moves i.op b) own (barrier_has_no_result i.op b) (barrier_goes_on i.op b)
     (c.results_by_name.ensures i _ _ _ _) c.passing.ensures.effect
