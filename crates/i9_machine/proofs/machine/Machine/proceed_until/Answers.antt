@@ -94,32 +94,34 @@ returns-in_default c = record {
       (run_only g h (contents_of next) c.args.plan.now next.pipeline.processor _ come.0 follows c.come.ensures.costs.only);
 }
 
-pub returns-in-Some-clause-next : goal.returns-in-Some-clause-next
-returns-in-Some-clause-next c = λ g h stands follows.
+pub returns-in-Some : goal.returns-in-Some
+returns-in-Some c =
     let m = c.args.self.now in
     let mid = c.look-turn.new.self in
     let next = c.pass_to.new.self in
     let u = c.in-Some.until in
-    let turn : (ahead g h).turn ≡ max m.pipeline.turn c.look-turn.result.0 = (c.look-turn.ensures.arrives g h stands
-    follows).turn in
-    let same : mid.pipeline.turn ≡ m.pipeline.turn = λ i. (c.look-turn.ensures.like i).pipeline.turn in
+    let like = c.look-turn.ensures.like in
+    let same : mid.pipeline.turn ≡ m.pipeline.turn = λ i. (like i).pipeline.turn in
     let low : u ≤ c.max.result = c.if-until-max.true in
     let at : c.max.result ≡ max c.look-turn.result.0 mid.pipeline.turn = c.max.ensures in
     let now : next.pipeline.turn ≡ max mid.pipeline.turn u = passed_turn u mid next c.pass_to.ensures.passed in
-    let later : u ≤ (ahead g h).turn = omega (arith, turn, same, low, at) in
-    subst (λ (x : Option ℕ). ProceedsUntil g h x None (vec_capacity c.args.out.now - vec_len c.args.out.now)
-    (progress m c.args.plan.now c.args.out.now.items) (progress next c.args.plan.now c.args.out.now.items))
-    (sym c.in-Some.is)
-    (record {
-      later = later;
-      turn = omega (arith, same, now);
-      stands = passed_stands g h u mid next c.pass_to.ensures.passed later (rw c.look-turn.ensures.like stands);
-      follows = follows;
-      lines = refl;
-    })
-
-pub returns-in-Some-clause-only : goal.returns-in-Some-clause-only
-returns-in-Some-clause-only c = λ g h stands follows.
-    let next = c.pass_to.new.self.pipeline.processor in
-    none_next c.args.self.now.pipeline.processor next (comes_next g h)
-    (rw c.look-turn.ensures.like at c.pass_to.ensures.no_more)
+    record {
+      next = λ g h stands follows.
+          let turn : (ahead g h).turn ≡ max m.pipeline.turn c.look-turn.result.0 =
+          (c.look-turn.ensures.arrives g h stands follows).turn in
+          let later : u ≤ (ahead g h).turn = omega (arith, turn, same, low, at) in
+          subst (λ (x : Option ℕ). ProceedsUntil g h x None (vec_capacity c.args.out.now - vec_len c.args.out.now)
+          (progress m c.args.plan.now c.args.out.now.items) (progress next c.args.plan.now c.args.out.now.items))
+          (sym c.in-Some.is)
+          (record {
+            later = later;
+            turn = omega (arith, same, now);
+            stands = passed_stands g h u mid next c.pass_to.ensures.passed later (rw like stands);
+            follows = follows;
+            lines = refl;
+          });
+      only = λ g h stands follows.
+          none_next m.pipeline.processor next.pipeline.processor (comes_next g h)
+          (rw like at c.pass_to.ensures.no_more);
+      fewer = tt;
+    }
