@@ -22,6 +22,9 @@ pub more_lines : (old mid new : List Line) (xs ys : List Shown) → AddsLines ol
 more_lines old mid new xs ys first then =
     then ∙ ap (λ (ls : List Shown). ls ++ ys) first ∙ append_assoc (map shown_of old) xs ys
 
+pub same_lines : (old mid new : List Line) (xs : List Shown) → AddsLines old mid xs → new ≡ mid → AddsLines old new xs
+same_lines old mid new xs first same = ap (map shown_of) same ∙ first
+
 -- ---- steps
 
 -- records were done since a machine, and a page that is new is one of them
@@ -86,7 +89,7 @@ module _ (g : Given) (h : List Item) (before mid : Progress) (held : SinceOnly g
         later = d.stands.in_time;
         stands = d.stands;
         follows = d.follows;
-        lines = ap (map shown_of) d.lines ∙ since.lines;
+        lines = same_lines before.lines mid.lines after.lines (lines_of since.done) since.lines d.lines;
         pages = pages;
       }
 
@@ -114,7 +117,7 @@ module _ (g : Given) (h : List Item) (before mid : Progress) (held : SinceOnly g
       turn = d.turn ∙ since.turn;
       stands = d.stands;
       follows = d.follows;
-      lines = ap (map shown_of) d.lines ∙ since.lines;
+      lines = same_lines before.lines mid.lines after.lines (lines_of since.done) since.lines d.lines;
     };
     needed = d.needed;
     pages = pages;
