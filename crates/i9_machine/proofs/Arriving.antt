@@ -34,7 +34,7 @@ use Rattle.i9_machine.specs.Step.{event_for, next_for, left_from, steps_left, Le
 use Rattle.i9_machine.specs.declared.step.Step.{Step}
 use Rattle.i9_course.proofs.Barriers.{need_unbound}
 use Rattle.i9_machine.proofs.Overtaking.{calm_precise, ahead_issues}
-use Rattle.i9_machine.proofs.Stepping.{step_where, move_fewer}
+use Rattle.i9_machine.proofs.Stepping.{move_fewer}
 use Rattle.i9_machine.proofs.Turning.{moved_stands, waits_until, comes_at, open_turn, all_now}
 
 -- the need of a kind of record is kept
@@ -187,25 +187,22 @@ like_left before mid plan l = ap (λ (m : Machine). steps_left m plan) l
 
 -- ---- as a step
 
--- an instruction that comes next is planned, once its effect is made
-pub ahead_planned : (m mid : Machine) (plan : Plan) (t : ℕ) (kind : Kind) (step : Step)
-    → (is : IsAhead (outlook m) plan t kind) → mid.need ≡ m.need
-    → IsStepIn (situation m) None plan step is.kept.need mid.effect → IsPlannedIn (situation m) plan step mid
-ahead_planned m mid plan t kind step is need where_none = record {
-  need = is.kept.need;
-  fenced = need ∙ is.kept.fenced;
-  is = step_where (situation m) plan step is.kept.need mid.effect is.none where_none;
-}
-
--- it is planned, once its need is kept
+-- a step that comes where no event stands is planned, once its need is kept and its effect is made
 pub planned : (at : Situation) (m : Machine) (plan : Plan) (step : Step) (need : Need) (e : Effect)
     → m.need ≡ waiting_until at.floor need → m.effect ≡ e → event_for at plan ≡ None → IsStepIn at None plan step need e
     → IsPlannedIn at plan step m
 planned at m plan step need e kept effect none is = record {
   need = need;
   fenced = kept;
-  is = subst (IsStep at plan step need) (sym effect) (step_where at plan step need e none is);
+  is = subst₂ (λ (o : Option Event) (x : Effect). IsStepIn at o plan step need x) (sym none) (sym effect) is;
 }
+
+-- so is an instruction that comes next
+pub ahead_planned : (m mid : Machine) (plan : Plan) (t : ℕ) (kind : Kind) (step : Step)
+    → (is : IsAhead (outlook m) plan t kind) → mid.need ≡ m.need
+    → IsStepIn (situation m) None plan step is.kept.need mid.effect → IsPlannedIn (situation m) plan step mid
+ahead_planned m mid plan t kind step is need where_none =
+    planned (situation m) mid plan step is.kept.need mid.effect (need ∙ is.kept.fenced) refl is.none where_none
 
 -- a step is planned still, where a machine contains the same, and has the same of it
 pub same_planned : (m mid : Machine) (plan : Plan) (step : Step) → contents_of mid ≡ contents_of m

@@ -1,5 +1,6 @@
 -- An end that is answered, of the run or at an imprecise fault.
-use Rattle.std.proofs.Common.{◌≡◌, ◌≢◌, ℕ, ◌+◌, ◌<◌, ◌≤◌, Bool, true, false, cond, ◌||◌, nat_lt, ◌++◌, Option, Some, None, Result, Ok, Err, length, refl, sym, ap, ◌∙◌, subst, arith, length-append}
+use Rattle.std.proofs.Common.{◌≡◌, ◌≢◌, ℕ, ◌+◌, ◌<◌, ◌≤◌, Bool, true, false, cond, nat_lt, ◌++◌, Option, Some, None, Result, Ok, Err, length, refl, sym, ap, ◌∙◌, subst, arith, length-append}
+use Rattle.std.proofs.lemmas.Bool.{lt-ltb}
 use Rattle.i9_model.specs.declared.event.Event.{Event}
 use Rattle.i9_model.specs.declared.faults.Entry.{Entry}
 use Rattle.i9_model.specs.declared.faults.Fault.{Fault}
@@ -15,7 +16,6 @@ use Rattle.i9_model.specs.Memory.{console_byte}
 use Rattle.i9_model.specs.State.{State}
 use Rattle.i9_model.specs.PrintedText.{out_lines, point_lines, record_lines, end_lines, journal_lines, last_lines, view_of}
 use Rattle.i9_model.specs.Run.{Entered, Ends, record_of, action_done, entry_in, next_by_entry, next_in, Finish, finish}
-use Rattle.i9_processor.specs.Effect.{has_writes, is_restart}
 use Rattle.i9_processor.specs.declared.processor.Processor.{Processor}
 use Rattle.i9_machine.specs.declared.line.Turn.{Turn}
 use Rattle.i9_machine.specs.declared.line.Turn.TheVariants as turns
@@ -109,15 +109,7 @@ entry_long s x = by_byte (console_byte (action_done (record_of (Entered x) s)).w
     by_byte (Some b) = omega arith
 
 entry_needs : (s : State) (p : Result Entry FaultStop) → NeedsRoom (next_by_entry s p)
-entry_needs s (Ok x) =
-    by_byte (console_byte (action_done (record_of (Entered x) s)).writes)
-    (has_writes (action_done (record_of (Entered x) s)) || is_restart (action_done (record_of (Entered x) s)).control)
-  where
-    by_byte : (o : Option ℕ) (b : Bool)
-        → (nat_lt 0 (length (out_lines o ++ point_lines (Some points.Fault) (record_of (Entered x) s).after)) || b)
-        ≡ true
-    by_byte None b = refl
-    by_byte (Some c) b = refl
+entry_needs s (Ok x) = rw (lt-ltb 0 (length (record_lines (record_of (Entered x) s))) (entry_long s x))
 entry_needs s (Err (stops.Hazard a)) = tt
 entry_needs s (Err (stops.Dead code a)) = tt
 

@@ -8,29 +8,19 @@ use Rattle.i9_machine.specs.declared.line.Turn.{Turn}
 use Rattle.i9_machine.specs.declared.line.Turn.TheVariants as turns
 use Rattle.i9_machine.specs.declared.machine.Machine.{Machine}
 use Rattle.i9_machine.specs.InRun.{IsInRun}
-use Rattle.i9_machine.specs.StandsFor.{StandsFor, Follows, FollowsUntil, DoesNext, Comes, Advances, AnswersAgain}
+use Rattle.i9_machine.specs.StandsFor.{StandsFor, Follows, FollowsUntil, Comes, Advances, AnswersAgain}
 use Rattle.i9_machine.specs.Turned.{steps_on, Turns}
 use Rattle.i9_machine.specs.Progress.{Progress}
-
-does_in_run : (g : Given) (h : List Item) (answer : Turn) (before after : Progress) → DoesNext g h answer before after
-    → IsInRun after.machine after.plan
-does_in_run g h answer before after d = record {
-  given = g;
-  items = Step d.done ∷ h;
-  end = None;
-  stands = d.stands;
-  follows = d.follows;
-}
 
 -- what came next was done
 pub comes_in_run : (g : Given) (h : List Item) (answer : Turn) (before after : Progress) → Comes g h answer before after
     → IsInRun after.machine after.plan
-comes_in_run g h turns.On before after d = does_in_run g h turns.On before after d
-comes_in_run g h (turns.Issued t) before after d = does_in_run g h (turns.Issued t) before after d
 comes_in_run g h (turns.End e) before after d =
     record { given = g; items = h; end = Some d.finish; stands = d.stands; follows = tt }
 comes_in_run g h turns.Memory before after d =
     record { given = g; items = h; end = None; stands = d.stands; follows = d.follows }
+comes_in_run g h _ before after d =
+    record { given = g; items = Step d.done ∷ h; end = None; stands = d.stands; follows = d.follows }
 
 -- or the turn moved
 pub advances_in_run : (g : Given) (h : List Item) (answer : Turn) (before after : Progress)
@@ -38,9 +28,7 @@ pub advances_in_run : (g : Given) (h : List Item) (answer : Turn) (before after 
 advances_in_run g h turns.On before after (inl w) =
     record { given = g; items = h; end = None; stands = w.stands; follows = w.follows }
 advances_in_run g h turns.On before after (inr d) = comes_in_run g h turns.On before after d
-advances_in_run g h (turns.Issued t) before after d = comes_in_run g h (turns.Issued t) before after d
-advances_in_run g h (turns.End e) before after d = comes_in_run g h (turns.End e) before after d
-advances_in_run g h turns.Memory before after d = comes_in_run g h turns.Memory before after d
+advances_in_run g h answer before after d = comes_in_run g h answer before after d
 
 -- a whole turn
 pub turns_in_run : (g : Given) (h : List Item) (answer : Turn) (before after : Progress) → Turns g h answer before after
@@ -51,13 +39,8 @@ turns_in_run g h (turns.Issued t) before after d = absurd d
 turns_in_run g h (turns.End e) before after d =
     record { given = g; items = steps_on d.done h; end = Some d.finish; stands = d.stands; follows = tt }
 turns_in_run g h turns.Memory before after d =
-    record {
-      given = g;
-      items = steps_on d.since.done h;
-      end = None;
-      stands = d.since.stands;
-      follows = d.since.follows;
-    }
+    let since = d.since in
+    record { given = g; items = steps_on since.done h; end = None; stands = since.stands; follows = since.follows }
 
 -- whether an end was answered before or none
 pub behind_in_run : (before m : Machine) (answer : Turn) (was plan : Plan) (old new : List Line)

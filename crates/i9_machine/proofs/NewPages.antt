@@ -1,5 +1,5 @@
 -- Pages that are new in a machine's processor: none, or one of what comes next.
-use Rattle.std.proofs.Common.{◌≡◌, List, [], ◌∷◌, None, refl, sym, subst}
+use Rattle.std.proofs.Common.{rules, ◌≡◌, List, [], ◌∷◌, None, refl, sym, subst}
 use Rattle.i9_model.specs.Run.{Record, Next, Does, Ends, action_done, Given}
 use Rattle.i9_model.specs.Step.{Action}
 use Rattle.i9_model.specs.Alike.{AreNextAlike}
@@ -26,8 +26,7 @@ none_then old mid new a only none = record {
 
 -- what comes next adds a page of it at most
 pub none_next : (old new : Processor) (n : Next) → AddsNoPage old new → AddsNextOnly old new n
-none_next old new (Does r) none =
-    record { bytes = λ x writes move has. none.bytes x has; marks = λ x marked move has. none.marks x has }
+none_next old new (Does r) none = search rules
 none_next old new (Ends f) none = none
 
 pub next_behind : (old mid new : Processor) (n : Next) → AddsNoPage old mid → AddsNextOnly mid new n
@@ -36,10 +35,7 @@ next_behind old mid new (Does r) none only = record {
   bytes = λ x writes move has. none.bytes x (only.bytes x writes move has);
   marks = λ x marked move has. none.marks x (only.marks x marked move has);
 }
-next_behind old mid new (Ends f) none only = record {
-  bytes = λ x has. none.bytes x (only.bytes x has);
-  marks = λ x has. none.marks x (only.marks x has);
-}
+next_behind old mid new (Ends f) none only = search rules
 
 pub same_next : (old new : Processor) (n : Next) → new ≡ old → AddsNextOnly old new n
 same_next old new n same = none_next old new n (same_pages old new (sym same))

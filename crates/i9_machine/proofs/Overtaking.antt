@@ -93,23 +93,19 @@ late_imprecise g h k a stands late before =
 
 -- ---- the instruction behind it
 
-kind_need : (asked : Option ℕ) (c : Cache) (s t : State) → AreAlike s t → (k : State → Kind) → k t ≡ k s
-    → need_of (sets_in asked t) c t (k t) ≡ need_of (sets_in asked s) c s (k s)
-kind_need asked c s t alike k same =
-    ap (λ (n : ℕ). need_of n c t (k t)) (ap (sets_in asked) alike.rest)
-    ∙ ap (need_of (sets_in asked s) c t) same
-    ∙ need_alike (sets_in asked s) c s t (k s) alike
-
 -- what stands there needs the same in states that are alike
 standing_need : (asked : Option ℕ) (c : Cache) (s t : State) → AreAlike s t → (x : Standing)
     → need_ahead asked c (next_by_standing t x) ≡ need_ahead asked c (next_by_standing s x)
 standing_need asked c s t alike (Meets a) = refl
-standing_need asked c s t alike (Refused number) = kind_need asked c s t alike (λ u. Faulted None (fault_at u number))
-    (ap (λ (u : State). Faulted None (fault_at u number)) alike.rest)
+standing_need asked c s t alike (Refused number) =
+    ap (λ (u : State). need_of (sets_in asked u) c t (Faulted None (fault_at u number))) alike.rest
+    ∙ need_alike (sets_in asked s) c s t (Faulted None (fault_at s number)) alike
 standing_need asked c s t alike (Faults i number) =
-    kind_need asked c s t alike (λ u. Faulted (Some i) (fault_at u number))
-    (ap (λ (u : State). Faulted (Some i) (fault_at u number)) alike.rest)
-standing_need asked c s t alike (Runs i) = kind_need asked c s t alike (λ u. Instruction i) refl
+    ap (λ (u : State). need_of (sets_in asked u) c t (Faulted (Some i) (fault_at u number))) alike.rest
+    ∙ need_alike (sets_in asked s) c s t (Faulted (Some i) (fault_at s number)) alike
+standing_need asked c s t alike (Runs i) =
+    ap (λ (u : State). need_of (sets_in asked u) c t (Instruction i)) alike.rest
+    ∙ need_alike (sets_in asked s) c s t (Instruction i) alike
 
 -- the run reads soft bytes as 0
 pub course_blind : (g : Given) (h : List Item) → IsCourse g h → IsBlind (state_after g (records_of h))

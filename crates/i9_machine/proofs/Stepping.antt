@@ -20,7 +20,7 @@ use Rattle.i9_model.specs.declared.run.Point.{Point}
 use Rattle.i9_model.specs.declared.run.End.TheVariants.{Limit}
 use Rattle.i9_model.specs.Memory.{console_byte}
 use Rattle.i9_model.specs.Step.{Action, acted, counted}
-use Rattle.i9_model.specs.Run.{Kind, Instruction, Reached, Record, Next, Does, Ends, record_of, counts_of, due_by, reached_by, next_by_event, next_by_choice, next_in, finish}
+use Rattle.i9_model.specs.Run.{Kind, Instruction, Reached, Record, Does, Ends, record_of, counts_of, due_by, reached_by, next_by_event, next_by_choice, next_in, finish}
 use Rattle.i9_model.specs.PrintedText.{out_lines, point_lines, bytes_lines, event_lines, record_lines}
 use Rattle.i9_processor.specs.declared.processor.Processor.{Processor}
 use Rattle.i9_model.specs.declared.run.Due.{Due}
@@ -35,7 +35,7 @@ use Rattle.i9_model.specs.declared.run.End.{End}
 use Rattle.i9_machine.specs.declared.line.Turn.{Turn}
 use Rattle.i9_machine.specs.declared.line.Turn.TheVariants as turns
 use Rattle.i9_machine.specs.Contents.{Situation, situation_in, Contents, at_turn}
-use Rattle.i9_machine.specs.Step.{TellsRecord, NeedsRoom, LeavesFewer, IsStepIn, IsStep, HasRoomToDo, HasRoom, turn_at, event_for, next_where, next_for, event_of, plan_behind, records_left, left_from, Stage, next_of, left_of, Did, Steps}
+use Rattle.i9_machine.specs.Step.{TellsRecord, NeedsRoom, LeavesFewer, IsStep, HasRoomToDo, HasRoom, turn_at, event_for, next_where, next_for, event_of, plan_behind, records_left, left_from, Stage, left_of, Did, Steps}
 use Rattle.i9_machine.specs.Opening.{IsFreeToIssue}
 use Rattle.i9_course.specs.Course.{instruction_ahead}
 
@@ -68,26 +68,24 @@ unfolding left_in
 left_alike l ts d s t alike = ap (left_in l ts d) alike.rest
 
 -- a step leaves less
-pub did_fewer : (before after : Stage) (r : Record) → before.contents.pipeline.state.count ≤ before.contents.length
-    → next_of before ≡ Does r → AreAlike r.after after.contents.pipeline.state
-    → after.contents.due ≡ due_by r.kind r.before → after.contents.length ≡ before.contents.length
-    → after.plan ≡ plan_behind before.plan r → after.contents.pipeline.turn ≡ before.contents.pipeline.turn
+pub did_fewer : (before : Stage) (answer : Turn) (after : Stage)
+    → before.contents.pipeline.state.count ≤ before.contents.length → Did before answer after
     → left_of after < left_of before
 unfolding left_from
-did_fewer before after r within is alike due bound behind turn =
+did_fewer before answer after within d =
     let at = situation_in before.contents in
     let was = before.plan in
+    let now = after.contents in
+    let r = d.done in
     let leaves = next_leaves at.length was.events was.place at.due (event_for at was) at.state r
-    (standing_by_place was.events was.place at.state.count (turn_at at)) is in
-    let same : records_left (situation_in after.contents) after.plan ≡ left_in at.length
-    (plan_after was.events was.place r)
-    (due_by r.kind r.before) r.after =
-    (λ i. left_in (bound i) (drop (behind i).place (behind i).events) (due i) after.contents.pipeline.state)
-    ∙ left_alike at.length (plan_after was.events was.place r)
-    (due_by r.kind r.before) r.after after.contents.pipeline.state alike in
-    let less : records_left (situation_in after.contents) after.plan < records_left at was = subst
-    (λ (n : ℕ). n < records_left at
-    was) (sym same) (leaves.less within) in
+    (standing_by_place was.events was.place at.state.count (turn_at at)) d.is_next in
+    let same : records_left (situation_in now) after.plan
+    ≡ left_in at.length (plan_after was.events was.place r) (due_by r.kind r.before) r.after =
+    (λ i. left_in (d.rest i).length (drop (d.behind i).place (d.behind i).events) (d.due i) now.pipeline.state)
+    ∙ left_alike at.length (plan_after was.events was.place r) (due_by r.kind r.before) r.after now.pipeline.state d.state in
+    let less : records_left (situation_in now) after.plan < records_left at was =
+    subst (λ (n : ℕ). n < records_left at was) (sym same) (leaves.less within) in
+    let turn : now.pipeline.turn ≡ before.contents.pipeline.turn = λ i. (d.issued.keeps i).turn in
     omega (arith, less, turn)
 
 -- a move of the turn leaves less
@@ -109,10 +107,6 @@ did_within at was k within is =
 
 -- ---- one instruction comes next
 
-before_length : (b : Bool) (x y : Next) → b ≡ false → cond b x y ≡ y
-before_length false x y e = refl
-before_length true x y e = absurd cc
-
 -- below the length what comes goes by the choice of an interrupt
 pub goes_on : (at : Situation) (stands : Option Event) → at.due ≡ dues.Nothing → at.state.count < at.length
     → next_where at stands ≡ next_by_choice stands at.state (choice_in at.state)
@@ -120,7 +114,7 @@ goes_on at stands none below =
     let s = at.state in
     let other : eqb s.count at.length ≡ false = grind (arith, nat_tests, below) in
     ap (λ (d : Due). next_in at.length d stands s) none
-    ∙ before_length (eqb s.count at.length) (Ends (finish Limit)) (next_by_choice stands s (choice_in s)) other
+    ∙ ap (λ (b : Bool). cond b (Ends (finish Limit)) (next_by_choice stands s (choice_in s))) other
 
 -- where none is chosen it goes by the event that stands there
 pub goes_by_event : (at : Situation) (stands : Option Event) → IsFreeToIssue at
@@ -130,11 +124,6 @@ goes_by_event at stands free = goes_on at stands free.due free.below ∙ ap (nex
 -- and where none stands there it is the instruction's turn
 pub goes_by_itself : (at : Situation) → IsFreeToIssue at → next_where at None ≡ instruction_ahead at.state
 goes_by_itself at free = goes_by_event at None free
-
--- so a step that comes where no event stands comes
-pub step_where : (at : Situation) (plan : Plan) (step : Step) (need : Need) (e : Effect) → event_for at plan ≡ None
-    → IsStepIn at None plan step need e → IsStep at plan step need e
-step_where at plan step need e none is = subst (λ (o : Option Event). IsStepIn at o plan step need e) (sym none) is
 
 -- what is borrowed, or nothing
 pub copied_some : (o : Option (Bor Event)) → is_some o ≡ true → (e : Event) × (option_copied o ≡ Some e)

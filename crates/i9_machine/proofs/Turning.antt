@@ -1,7 +1,7 @@
 -- The turn moves: what is planned stays, and what comes next comes at its turn.
-use Rattle.std.proofs.Common.{◌≡◌, ℕ, ◌+◌, ◌<◌, ◌≤◌, true, List, [], Some, None, refl, sym, ap, ◌∙◌, subst, inl, inr, arith, Bool, false, cond, Option}
+use Rattle.std.proofs.Common.{◌≡◌, ℕ, ◌+◌, ◌<◌, ◌≤◌, true, List, [], Some, None, refl, sym, ap, ◌∙◌, subst, inl, inr, arith, Bool, cond, Option}
 use Rattle.std.specs.List.{slice_get}
-use Rattle.std.specs.Prelude.{IsTrue, nat_le}
+use Rattle.std.specs.Prelude.{IsTrue}
 use Rattle.i9_model.specs.declared.need.Need.{Need}
 use Rattle.i9_model.specs.declared.need.TimedNeed.{TimedNeed}
 use Rattle.i9_model.specs.Run.{Given, Kind, Record, Does, record_of, due_after, state_after}
@@ -191,28 +191,26 @@ is_timely g h k plan stands follows ended =
     }
 
 -- the event that stands there by the machine's turn
-pub timely_event : (at : Situation) (now : ℕ) (plan : Plan) → IsTimely at now plan → IsFreeToIssue at
-    → standing_by plan.events plan.place at.state.count now ≡ event_for at plan
-timely_event at now plan timely free = by_next (slice_get plan.events plan.place) refl
+pub timely_event : (at : Situation) (now n : ℕ) (plan : Plan) (o : Option Event) → IsTimely at now plan
+    → IsFreeToIssue at → n ≡ at.state.count → o ≡ standing_by plan.events plan.place n now → event_for at plan ≡ o
+timely_event at now n plan o timely free count found =
+    sym (found ∙ ap (λ (k : ℕ). standing_by plan.events plan.place k now) count
+    ∙ by_next (slice_get plan.events plan.place) refl)
   where
     by_form : (w : When) (e : Event)
         → (cond (has_come_by at.state.count (turn_at at) w) (Some e) None ≡ None → now ≤ turn_at at)
         → cond (has_come_by at.state.count now w) (Some e) None ≡ cond (has_come_by at.state.count (turn_at at) w)
         (Some e) None
-    by_form (At n) e early = refl
-    by_form (Turn n) e early = elim (cases_lt (turn_at at) n) [
+    by_form (At k) e early = refl
+    by_form (Turn k) e early = elim (cases_lt (turn_at at) k) [
       | inl later ↦
-          let not_yet : nat_le n (turn_at at) ≡ false = lt-leb n (turn_at at) later in
-          let none : cond (nat_le n (turn_at at)) (Some e) None ≡ None = ap (λ (b : Bool). cond b (Some e) None)
-          not_yet in
+          let none = ap (λ (b : Bool). cond b (Some e) None) (lt-leb k (turn_at at) later) in
           let turn : now ≤ turn_at at = early none in
-          let also : nat_le n now ≡ false = lt-leb n now (omega (arith, later, turn)) in
-          ap (λ (b : Bool). cond b (Some e) None) also ∙ sym none
+          ap (λ (b : Bool). cond b (Some e) None) (lt-leb k now (omega (arith, later, turn))) ∙ sym none
       | inr come ↦
-          let here : nat_le n (turn_at at) ≡ true = le-leb n (turn_at at) come in
           let before : turn_at at ≤ now = timely.come in
-          let there : nat_le n now ≡ true = le-leb n now (omega (arith, come, before)) in
-          ap (λ (b : Bool). cond b (Some e) None) (there ∙ sym here)
+          ap (λ (b : Bool). cond b (Some e) None)
+          (le-leb k now (omega (arith, come, before)) ∙ sym (le-leb k (turn_at at) come))
     ]
 
     by_next : (o : Option Timed) → slice_get plan.events plan.place ≡ o

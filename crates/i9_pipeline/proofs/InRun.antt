@@ -1,7 +1,6 @@
 -- A pipeline in a run: at its start, as the turn moves, as a fence is set, and as a record issues.
 use Rattle.std.proofs.Common.{◌≡◌, ℕ, ◌+◌, ◌<◌, ◌≤◌, max, Bool, true, false, List, [], ◌∷◌, ◌++◌, None, refl, sym, ap, ◌∙◌, subst, subst₂, inl, inr, arith}
 use Rattle.std.proofs.lemmas.Bool.{cases_Bool, and_parts}
-use Rattle.std.specs.List.{AllByRecursion}
 use Rattle.i9_model.specs.declared.need.Cell.{Cell}
 use Rattle.i9_model.specs.declared.need.Need.{Need}
 use Rattle.i9_model.specs.declared.need.Placed.{Placed}
@@ -42,7 +41,7 @@ use Rattle.i9_pipeline.specs.Flow.{Flow, flow_of, kernel_of, IsFresh, moved_to, 
 use Rattle.i9_pipeline.specs.InRun.{IsFlowOf, IssuesNext}
 use Rattle.i9_pipeline.specs.Issuing.{IsPlaced}
 use Rattle.i9_pipeline.specs.Raw.{Hides, shades, shades_need, IsShaded}
-use Rattle.i9_pipeline.proofs.Landed.{none_hidden, record_hides, record_leaves}
+use Rattle.i9_pipeline.proofs.Landed.{all_later, done_by, none_hidden, record_hides, record_leaves}
 
 -- ---- at the start
 
@@ -127,16 +126,12 @@ writers_done : (r t : ℕ) (xs : List Late) → AllDone t xs → WritersDone r t
 writers_done r t [] done = tt
 writers_done r t (x ∷ xs) done = (λ fences. done.0, writers_done r t xs done.1)
 
-done_by : (t u : ℕ) (xs : List Late) → t ≤ u → AllByRecursion (λ r. r.done ≤ t) (turns xs) → AllDone u xs
-done_by t u [] le h = tt
-done_by t u (x ∷ xs) le h = (let one : x.timed.done ≤ t = h.0 in omega (arith, one, le), done_by t u xs le h.1)
-
 -- by the turn at which all is done
 pub flow_quiet : (g : Given) (h : List Item) (f : Flow) → IsFlowOf g h f → end_turn (turns (course g h).late) ≤ f.turn
     → IsQuiet f
 flow_quiet g h f is le =
     let xs = (course g h).late in
-    let done = done_by (end_turn (turns xs)) f.turn xs le (all-end (turns xs)).done in
+    let done = all_later (end_turn (turns xs)) f.turn xs le (done_by _ xs (all-end (turns xs)).done) in
     record {
       planned = λ r lt. ap (λ (c : Cell). c.plan) (is.shows.registers r lt)
           ∙ plan-none f.turn r xs (writers_done r f.turn xs done);

@@ -121,7 +121,7 @@ barriers_before t u x (y ∷ ys) le h = (
   barriers_before t u x ys le h.1,
 )
 
-all_later : (t u : ℕ) (xs : List Late) → t ≤ u → AllDone t xs → AllDone u xs
+pub all_later : (t u : ℕ) (xs : List Late) → t ≤ u → AllDone t xs → AllDone u xs
 all_later t u [] le h = tt
 all_later t u (x ∷ xs) le h = (let one : x.timed.done ≤ t = h.0 in omega (arith, one, le), all_later t u xs le h.1)
 
@@ -200,7 +200,7 @@ nothing_over : (held : List Frame) (m : Memory) → held ≡ [] → over held m 
 unfolding over
 nothing_over held m none = ap (λ (fs : List Frame). over fs m) none
 
-done_by : (t : ℕ) (xs : List Late) → AllByRecursion (λ r. r.done ≤ t) (turns xs) → AllDone t xs
+pub done_by : (t : ℕ) (xs : List Late) → AllByRecursion (λ r. r.done ≤ t) (turns xs) → AllDone t xs
 done_by t [] h = tt
 done_by t (x ∷ xs) h = (h.0, done_by t xs h.1)
 

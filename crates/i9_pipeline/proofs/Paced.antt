@@ -1,26 +1,16 @@
 -- Turns stay small.
-use Rattle.std.proofs.Common.{◌≡◌, ℕ, ◌+◌, ◌*◌, ◌^◌, ◌<◌, ◌≤◌, max, List, [], ◌∷◌, sym, subst, arith}
+use Rattle.std.proofs.Common.{◌≡◌, ℕ, ◌+◌, ◌*◌, ◌^◌, ◌<◌, ◌≤◌, max, List, [], ◌∷◌, arith}
 use Rattle.std.specs.List.{AllByRecursion}
 use Rattle.i9_model.specs.declared.need.Need.{Need}
 use Rattle.i9_model.specs.declared.need.TimedNeed.{TimedNeed}
 use Rattle.i9_model.specs.Step.{Action}
-use Rattle.i9_model.specs.Turns.{Pending, StandsFor, IsAllDone, AreAllDone, last_issue, end_turn, done_from, waiting_until, pending_of}
-use Rattle.i9_turns.proofs.TurnOpen.{open-all_done}
+use Rattle.i9_model.specs.Turns.{StandsFor, end_turn, waiting_until}
+use Rattle.i9_turns.proofs.TurnFences.{end-least}
+use Rattle.i9_turns.proofs.TurnStands.{stands-all_done, all_done-stands}
 use Rattle.i9_issue.specs.Room.{IsEarly}
 use Rattle.i9_pipeline.specs.Flow.{Flow, moved_to}
 use Rattle.i9_pipeline.specs.Issuing.{most_turns, IsIssued}
 use Rattle.i9_pipeline.specs.Paced.{IsPaced}
-
-done_least : (t : ℕ) (rs : List TimedNeed) (b : ℕ) → t ≤ b → AllByRecursion (λ r. r.done ≤ b) rs → done_from t rs ≤ b
-done_least t [] b le done = le
-done_least t (r ∷ rs) b le done =
-    let one : r.done ≤ b = done.0 in done_least (max t r.done) rs b (omega (arith, le, one)) done.1
-
--- all records are done by the bound
-ended_by : (p : Pending) (rs : List TimedNeed) (b : ℕ) → StandsFor p rs → IsAllDone p b → end_turn rs ≤ b
-ended_by p rs b stands done =
-    let is : AreAllDone rs b = open-all_done rs b (subst (λ (q : Pending). IsAllDone q b) stands.pending done) in
-    done_least (last_issue rs) rs b is.in_order is.done
 
 -- at the start
 pub paced_first : (f : Flow) (left : ℕ) → StandsFor f.board [] → f.turn ≡ 1 → f.floor ≡ 0
@@ -28,20 +18,17 @@ pub paced_first : (f : Flow) (left : ℕ) → StandsFor f.board [] → f.turn �
 paced_first f left board turn floor far = record {
   bound = 1;
   far = far;
-  done = subst (λ (b : Pending). IsAllDone b 1) (sym board.pending) none_done;
+  done = all_done-stands f.board [] 1 board (record { in_order = omega arith; done = tt });
   now = omega (arith, turn);
   fence = omega (arith, floor);
 }
-  where
-    none_done : IsAllDone (pending_of []) 1
-    none_done = record { in_order = omega arith; done = tt }
 
 -- where the turn moves, and where a fence is set, no further than to the end of what is open
 pub paced_moves : (f : Flow) (rs : List TimedNeed) (t floor left : ℕ) → StandsFor f.board rs
     → t ≤ max f.turn (end_turn rs) → floor ≤ max f.floor (end_turn rs) → IsPaced f left
     → IsPaced (record (moved_to t f) { floor = floor }) left
 paced_moves f rs t floor left stands now fence p =
-    let ended : end_turn rs ≤ p.bound = ended_by f.board rs p.bound stands p.done in
+    let ended : end_turn rs ≤ p.bound = end-least rs p.bound (stands-all_done f.board rs p.bound stands p.done) in
     let turn_was : f.turn ≤ p.bound = p.now in
     let floor_was : f.floor ≤ p.bound = p.fence in
     record {

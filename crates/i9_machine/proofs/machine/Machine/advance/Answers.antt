@@ -1,5 +1,5 @@
 use Rattle.std.specs.Prelude.{◌-◌, vec_capacity, vec_len}
-use Rattle.std.proofs.Common.{◌≡◌, ◌<◌, max, inl, sym, subst, arith}
+use Rattle.std.proofs.Common.{◌≡◌, ◌<◌, max, inl, sym, ◌∙◌, subst, arith}
 use Rattle.i9_course.specs.Course.{ahead, comes_next}
 use Rattle.i9_machine.specs.declared.line.Turn.{Turn}
 use Rattle.i9_machine.specs.declared.machine.Machine.{Machine}
@@ -62,37 +62,6 @@ returns-then-self-turn-clause-fewer c =
     (moved_fewer m c.wait_until.new.self plan t (has_pace m plan (c.requires.stands c.in-None-2.is))
     (rw c.look-turn.ensures.like at c.wait_until.ensures.moved))
 
-pub returns-else-self-turn-clause-next : goal.returns-else-self-turn-clause-next
-returns-else-self-turn-clause-next c = λ g h stands follows.
-    let m = c.args.self.now in
-    let plan = c.args.plan.now in
-    let out = c.args.out.now in
-    let new = c.come.new in
-    let arrives = c.look-turn.ensures.arrives g h stands follows in
-    let turn : (ahead g h).turn ≡ max m.pipeline.turn c.look-turn.result.0 = arrives.turn in
-    let same : c.look-turn.new.self.pipeline.turn ≡ m.pipeline.turn = λ i. (c.look-turn.ensures.like i).pipeline.turn in
-    comes_advances g h c.come.result _ _
-    (came_comes g h (progress m plan out.items) (progress new.self new.plan new.out.items) _ _ stands follows
-    (omega (arith, turn, same, c.if-self-turn.false))
-    c.look-turn.result.1 c.come.result arrives.imprecise
-    (rw c.look-turn.ensures.like at c.come.ensures.came))
-
-pub returns-else-self-turn-clause-lacking : goal.returns-else-self-turn-clause-lacking
-returns-else-self-turn-clause-lacking c = λ g h stands follows is room.
-    let m = c.args.self.now in
-    let out = c.args.out.now in
-    let costs = rw c.look-turn.ensures.like at c.come.ensures.costs in
-    costs.lacking is
-    (next_room g h (contents_of m) c.args.plan.now m.pipeline.processor (vec_capacity out - vec_len out) stands
-    follows room)
-
-pub returns-else-self-turn-clause-still_lacking : goal.returns-else-self-turn-clause-still_lacking
-returns-else-self-turn-clause-still_lacking c = λ g h stands follows is room.
-    let new = c.come.new in
-    c.come.ensures.costs.still_lacking is
-    (next_room g h (contents_of new.self) new.plan new.self.pipeline.processor
-    (vec_capacity new.out - vec_len new.out) stands follows room)
-
 pub returns-in-None-clause-only : goal.returns-in-None-clause-only
 returns-in-None-clause-only c = λ g h stands follows.
     none_next c.args.self.now.pipeline.processor c.move_on.new.self.pipeline.processor (comes_next g h)
@@ -104,9 +73,30 @@ returns-then-self-turn-clause-only c = λ g h stands follows.
     subst (λ (x : Machine). AddsNextOnly x.pipeline.processor new (comes_next g h)) c.look-turn.ensures.like
     (none_next c.look-turn.new.self.pipeline.processor new (comes_next g h) c.wait_until.ensures.no_more)
 
-pub returns-else-self-turn-clause-only : goal.returns-else-self-turn-clause-only
-returns-else-self-turn-clause-only c = λ g h stands follows.
+pub returns-else-self-turn : goal.returns-else-self-turn
+returns-else-self-turn c =
     let m = c.args.self.now in
-    let costs = rw c.look-turn.ensures.like at c.come.ensures.costs in
-    run_only g h (contents_of m) c.args.plan.now m.pipeline.processor c.come.new.self.pipeline.processor stands
-    follows costs.only
+    let plan = c.args.plan.now in
+    let out = c.args.out.now in
+    let new = c.come.new in
+    let like = c.look-turn.ensures.like in
+    let costs = rw like at c.come.ensures.costs in
+    record {
+      next = λ g h stands follows.
+          let arrives = c.look-turn.ensures.arrives g h stands follows in
+          let turn : (ahead g h).turn ≡ max m.pipeline.turn c.look-turn.result.0 = arrives.turn in
+          let same : c.look-turn.new.self.pipeline.turn ≡ m.pipeline.turn = λ i. (like i).pipeline.turn in
+          comes_advances g h c.come.result _ _
+          (came_comes g h (progress m plan out.items) (progress new.self new.plan new.out.items) _ _ stands follows
+          (omega (arith, turn, same, c.if-self-turn.false)) c.look-turn.result.1 c.come.result arrives.imprecise
+          (rw like at c.come.ensures.came));
+      again = λ g h f stands. absurd (cc (sym c.in-None-2.is ∙ stands.ended));
+      lacking = λ g h stands follows is room. costs.lacking is
+          (next_room g h (contents_of m) plan m.pipeline.processor (vec_capacity out - vec_len out) stands follows room);
+      still_lacking = λ g h stands follows is room. costs.still_lacking is
+          (next_room g h (contents_of new.self) new.plan new.self.pipeline.processor
+          (vec_capacity new.out - vec_len new.out) stands follows room);
+      only = λ g h stands follows.
+          run_only g h (contents_of m) plan m.pipeline.processor new.self.pipeline.processor stands follows costs.only;
+      fewer = costs.fewer;
+    }

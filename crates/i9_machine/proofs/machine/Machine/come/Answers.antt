@@ -23,16 +23,13 @@ step_drained-requires-clause-timely c =
     is_timely a.given a.items (contents_of c.args.self.now) c.args.plan.now a.stands a.follows
     (omega (arith, is, c.requires.turn))
 
-pub returns-in-Overtaking-clause-came : goal.returns-in-Overtaking-clause-came
-returns-in-Overtaking-clause-came c =
-    let late = rw c.in-Overtaking.is at c.requires.ready in
-    rw c.in-Overtaking.is
-    (finish_overtakes (stage c.args.self.now c.args.plan.now c.args.out.now) _ c.answer_end.result _ late
-    c.answer_end.ensures.finishes)
-
-pub returns-in-Overtaking-clause-costs : goal.returns-in-Overtaking-clause-costs
-returns-in-Overtaking-clause-costs c =
+pub returns-in-Overtaking : goal.returns-in-Overtaking
+returns-in-Overtaking c =
     let late = rw c.in-Overtaking.is at c.requires.ready in
     let before = stage c.args.self.now c.args.plan.now c.args.out.now in
-    finish_costs before _ c.answer_end.result _
-    (late_fits before _ late) c.answer_end.ensures.processor c.answer_end.ensures.finishes
+    record {
+      came = rw c.in-Overtaking.is
+          (finish_overtakes before _ c.answer_end.result _ late c.answer_end.ensures.finishes);
+      costs = finish_costs before _ c.answer_end.result _ (late_fits before _ late) c.answer_end.ensures.processor
+          c.answer_end.ensures.finishes;
+    }

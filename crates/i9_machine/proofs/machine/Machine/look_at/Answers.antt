@@ -26,28 +26,20 @@ returns-then-is_some-clause-arrives c =
     waits_arrive (contents_of m) plan c.args.until false c.requires.until c.requires.open c.requires.precise
     (event_waits (situation m) plan one.0 (goes_by_event (situation m) (event_for (situation m) plan) next.free) event)
 
-pub returns-else-is_some-clause-arrives : goal.returns-else-is_some-clause-arrives
-returns-else-is_some-clause-arrives c =
+pub returns-else-is_some : goal.returns-else-is_some
+returns-else-is_some c =
     let m = c.args.self.now in
     let plan = c.args.plan.now in
     let next = c.requires.next in
+    let turn = c.issue_turn-turn.ensures in
     let none = open_event m plan _ c.issue_turn-turn.result c.count.result
-    (option_copied c.standing.result) c.requires.stands next
-    c.issue_turn-turn.ensures.computed c.count.ensures c.standing.ensures.event
+    (option_copied c.standing.result) c.requires.stands next turn.computed c.count.ensures c.standing.ensures.event
     ∙ copied_none c.standing.result (sym c.is_some.ensures ∙ c.if-is_some.false) in
-    instruction_arrives (contents_of m) plan next.kind next.kept.need c.issue_turn-turn.result c.args.coming
-    c.requires.precise
-    (instruction_calm (inst_in m.decodes) (situation m).state next.kind c.args.coming next.same)
-    (ap (next_where (situation m)) none ∙ next.is_next) next.kept.is_need
-    (λ rs stands. c.issue_turn-turn.ensures.computed rs stands ∙ ap (issue_turn (last_issue rs) rs) next.kept.fenced)
-
-pub returns-else-is_some-clause-ready : goal.returns-else-is_some-clause-ready
-returns-else-is_some-clause-ready c =
-    let m = c.args.self.now in
-    let plan = c.args.plan.now in
-    let next = c.requires.next in
-    let none = open_event m plan _ c.issue_turn-turn.result c.count.result
-    (option_copied c.standing.result) c.requires.stands next
-    c.issue_turn-turn.ensures.computed c.count.ensures c.standing.ensures.event
-    ∙ copied_none c.standing.result (sym c.is_some.ensures ∙ c.if-is_some.false) in
-    c.requires.ready c.issue_turn-turn.result none c.issue_turn-turn.ensures.least
+    record {
+      arrives = instruction_arrives (contents_of m) plan next.kind next.kept.need c.issue_turn-turn.result c.args.coming
+          c.requires.precise
+          (instruction_calm (inst_in m.decodes) (situation m).state next.kind c.args.coming next.same)
+          (ap (next_where (situation m)) none ∙ next.is_next) next.kept.is_need
+          (λ rs stands. turn.computed rs stands ∙ ap (issue_turn (last_issue rs) rs) next.kept.fenced);
+      ready = c.requires.ready c.issue_turn-turn.result none turn.least;
+    }

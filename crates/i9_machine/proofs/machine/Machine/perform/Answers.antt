@@ -16,6 +16,7 @@ use Rattle.i9_processor.specs.Pages.{AddsActionOnly}
 use Rattle.i9_processor.proofs.NewSets.{made_size, made_takes}
 use Rattle.i9_schedule.specs.Plan.{Plan}
 use Rattle.i9_machine.specs.declared.line.Turn.{Turn}
+use Rattle.i9_machine.specs.declared.line.Turn.TheVariants as turns
 use Rattle.i9_machine.specs.declared.machine.Machine.{Machine}
 use Rattle.i9_machine.specs.declared.step.Step.{Step}
 use Rattle.i9_machine.specs.Contents.{situation, Contents, contents_of}
@@ -93,8 +94,16 @@ act-answer-requires c =
           cached.youngest.whole;
     }
 
-pub returns-in-Ok-clause-steps : goal.returns-in-Ok-clause-steps
-returns-in-Ok-clause-steps c =
+-- what was made room for is what comes next
+made_only : (m new : Machine) (plan : Plan) (step : Step) (need : Need) → IsStep (situation m) plan step need m.effect
+    → AddsActionOnly m.pipeline.processor new.pipeline.processor (action_for m m.effect)
+    → AddsNextOnly m.pipeline.processor new.pipeline.processor (next_for (situation m) plan)
+made_only m new plan step need is only =
+    subst (AddsNextOnly m.pipeline.processor new.pipeline.processor) (sym is.is_next)
+    (subst (AddsActionOnly m.pipeline.processor new.pipeline.processor) is.effect.same only)
+
+pub returns-in-Ok : goal.returns-in-Ok
+returns-in-Ok c =
     let old = c.args.self.now in
     let mid = c.make_room.new.self in
     let new = c.act-answer.new.self in
@@ -107,10 +116,11 @@ returns-in-Ok-clause-steps c =
     let at = situation mid in
     let e = mid.effect in
     let lines = c.args.out.now.items in
+    let before = record (stage old was c.args.out.now) { contents = contents_of mid } in
     let after = stage new c.go_on.new.plan c.act-answer.new.out in
     let made = subst (λ (k : Contents). AreMade k.sets k.pipeline.state.memory e.control c.in-Ok.sets)
     (sym room.same) c.in-Ok.ensures.made in
-    let done : Did (record (stage old was c.args.out.now) { contents = contents_of mid }) step.answer after = record {
+    let done : Did before step.answer after = record {
       done = record_of is.kind at.state;
       is_next = is.is_next;
       need = kept.need;
@@ -135,64 +145,26 @@ returns-in-Ok-clause-steps c =
           ∙ ap (λ (ls : List Shown). map shown_of lines ++ ls) (step_lines at was step kept.need e is);
       tells = is.tells;
     } in
-    subst₂ (λ (k : Contents) (t : Turn). Steps (record (stage old was c.args.out.now) { contents = k }) t after)
-    room.same (sym act.answer)
-    (did_steps _ step.answer after at.state is.kind is.tells done)
-
--- what was made room for is what comes next
-made_only : (m new : Machine) (plan : Plan) (step : Step) (need : Need) → IsStep (situation m) plan step need m.effect
-    → AddsActionOnly m.pipeline.processor new.pipeline.processor (action_for m m.effect)
-    → AddsNextOnly m.pipeline.processor new.pipeline.processor (next_for (situation m) plan)
-made_only m new plan step need is only =
-    subst (AddsNextOnly m.pipeline.processor new.pipeline.processor) (sym is.is_next)
-    (subst (AddsActionOnly m.pipeline.processor new.pipeline.processor) is.effect.same only)
-
-pub returns-in-Ok-clause-costs : goal.returns-in-Ok-clause-costs
-returns-in-Ok-clause-costs c =
-    let old = c.args.self.now in
-    let mid = c.make_room.new.self in
-    let new = c.act-answer.new.self in
-    let was = c.args.plan.now in
-    let step = c.args.step.now in
-    let room = c.make_room.ensures in
-    let act = c.act-answer.ensures in
-    let kept = same_planned old mid was step room.same room.effect room.need c.requires.step in
-    let is = kept.is in
-    let at = situation mid in
-    let none = no_memory is.kind at.state in
-    let before = record (stage old was c.args.out.now) { contents = contents_of mid } in
-    let after = stage new c.go_on.new.plan c.act-answer.new.out in
-    let less = did_fewer before after (record_of is.kind at.state) mid.below is.is_next
-    (subst (λ (t : State). AreAlike t (situation new).state) (step_after at was step kept.need mid.effect is) act.state)
-    (act.due ∙ is.due) (λ i. (act.rest i).length) (c.go_on.ensures ∙ plan_is_behind at was step kept.need mid.effect is)
-    act.turn in
-    let fewer = fewer_by step.answer at.state is.kind (left_of before) (left_of after) is.tells less in
+    let told = λ (refused : c.act-answer.result ≡ turns.Memory).
+    no_memory is.kind at.state (subst (TellsRecord is.kind at.state) (sym act.answer ∙ refused) is.tells) in
     record {
-      lacking = λ refused. absurd (none (subst (TellsRecord is.kind at.state) (sym act.answer ∙ refused) is.tells));
-      still_lacking = λ refused. absurd
-          (none (subst (TellsRecord is.kind at.state) (sym act.answer ∙ refused) is.tells));
-      only = made_only old new was step c.requires.step.need c.requires.step.is
-          (none_then old.pipeline.processor mid.pipeline.processor new.pipeline.processor (action_for old old.effect)
-          room.only act.no_more);
-      fewer = subst₂ (λ (k : Contents) (t : Turn). LeavesFewer t (left_from k was) (left_of after)) room.same
-          (sym act.answer) fewer;
+      steps = subst₂ (λ (k : Contents) (t : Turn). Steps (record (stage old was c.args.out.now) { contents = k }) t after)
+          room.same (sym act.answer) (did_steps _ step.answer after at.state is.kind is.tells done);
+      costs = record {
+        lacking = λ refused. absurd (told refused);
+        still_lacking = λ refused. absurd (told refused);
+        only = made_only old new was step c.requires.step.need c.requires.step.is
+            (none_then old.pipeline.processor mid.pipeline.processor new.pipeline.processor (action_for old old.effect)
+            room.only act.no_more);
+        fewer = subst₂ (λ (k : Contents) (t : Turn). LeavesFewer t (left_from k was) (left_of after)) room.same
+            (sym act.answer)
+            (fewer_by step.answer at.state is.kind (left_of before) (left_of after) is.tells
+            (did_fewer before step.answer after mid.below done));
+      };
     }
 
-pub returns-in-Err-clause-steps : goal.returns-in-Err-clause-steps
-returns-in-Err-clause-steps c =
-    let m = c.args.self.now in
-    let made = c.make_room.ensures in
-    let new = c.make_room.new.self in
-    record {
-      same = (λ i. record
-          (stage new c.args.plan.now c.make_room.new.out) { contents = made.same i; lines = made.items i });
-      needed = step_needs (situation m) c.args.plan.now c.args.step.now c.requires.step.need m.effect c.requires.step.is
-          (ap (asks_room (situation m).state m.effect c.args.step.now) (sym c.next_event-event.ensures.event)
-          ∙ c.in-Err.ensures.needed);
-    }
-
-pub returns-in-Err-clause-costs : goal.returns-in-Err-clause-costs
-returns-in-Err-clause-costs c =
+pub returns-in-Err : goal.returns-in-Err
+returns-in-Err c =
     let old = c.args.self.now in
     let new = c.make_room.new.self in
     let plan = c.args.plan.now in
@@ -204,12 +176,19 @@ returns-in-Err-clause-costs c =
     let was = stage old plan c.args.out.now in
     let now = stage new plan c.make_room.new.out in
     record {
-      lacking = λ refused room. c.in-Err.ensures.lacking
-          (subst (HasRoomForStep was.processor was.spare old.effect step) event
-          (step_room (situation old) plan step is.need old.effect is.is was.processor was.spare room));
-      still_lacking = λ refused room. c.in-Err.ensures.still_lacking
-          (subst (HasRoomForStep now.processor now.spare new.effect step) event
-          (step_room (situation new) plan step still.need new.effect still.is now.processor now.spare room));
-      only = made_only old new plan step is.need is.is made.only;
-      fewer = tt;
+      steps = record {
+        same = (λ i. record now { contents = made.same i; lines = made.items i });
+        needed = step_needs (situation old) plan step is.need old.effect is.is
+            (ap (asks_room (situation old).state old.effect step) event ∙ c.in-Err.ensures.needed);
+      };
+      costs = record {
+        lacking = λ refused room. c.in-Err.ensures.lacking
+            (subst (HasRoomForStep was.processor was.spare old.effect step) event
+            (step_room (situation old) plan step is.need old.effect is.is was.processor was.spare room));
+        still_lacking = λ refused room. c.in-Err.ensures.still_lacking
+            (subst (HasRoomForStep now.processor now.spare new.effect step) event
+            (step_room (situation new) plan step still.need new.effect still.is now.processor now.spare room));
+        only = made_only old new plan step is.need is.is made.only;
+        fewer = tt;
+      };
     }

@@ -1,24 +1,19 @@
-use Rattle.std.proofs.Common.{max, ap, ◌∙◌}
+use Rattle.std.proofs.Common.{rules, max, ap, ◌∙◌}
 use Rattle.i9_machine.specs.Contents.{contents_of}
 use Rattle.i9_machine.proofs.Settling.{fenced, over, levels}
 use Rattle.i9_machine.proofs.machine.Machine.settle.Goals as goal
 
-pub returns-clause-fenced : goal.returns-clause-fenced
-returns-clause-fenced c = λ g h stands.
-    fenced g h _ (contents_of c.args.self.now) _ c.settle.ensures.settled c.is_none-fenced.ensures stands
-
-pub returns-clause-ended : goal.returns-clause-ended
-returns-clause-ended c = λ g h f stands.
-    over g h _ (contents_of c.args.self.now) _ c.settle.ensures.settled c.is_none-fenced.ensures f stands
-
-pub returns-clause-turn : goal.returns-clause-turn
-returns-clause-turn c = λ rs stands. (λ i. (c.settle.ensures.settled.settled i).turn)
-    ∙ ap (max c.args.self.now.pipeline.turn) (c.settle.ensures.settled.end rs stands)
-
-pub returns-clause-quiet : goal.returns-clause-quiet
-returns-clause-quiet c = λ g h end stands.
-    (levels g h _ (contents_of c.args.self.now) _ c.settle.ensures.settled c.is_none-fenced.ensures end stands).0
-
-pub returns-clause-level : goal.returns-clause-level
-returns-clause-level c = λ g h end stands.
-    (levels g h _ (contents_of c.args.self.now) _ c.settle.ensures.settled c.is_none-fenced.ensures end stands).1
+pub returns : goal.returns
+returns c =
+    let k = contents_of c.args.self.now in
+    let at = c.settle.ensures.settled in
+    let none = c.is_none-fenced.ensures in
+    record {
+      fenced = λ g h stands. fenced g h _ k _ at none stands;
+      ended = λ g h f stands. over g h _ k _ at none f stands;
+      turn = λ rs stands. (λ i. (at.settled i).turn) ∙ ap (max k.pipeline.turn) (at.end rs stands);
+      quiet = λ g h end stands. (levels g h _ k _ at none end stands).0;
+      level = λ g h end stands. (levels g h _ k _ at none end stands).1;
+      room = search rules;
+      no_more = search rules;
+    }
