@@ -1,25 +1,18 @@
 -- Memory that is written late.
 use Rattle.std.proofs.Common.{◌≡◌, ℕ, ◌<◌, ◌≤◌, true, false, leb, List, [], ◌∷◌, ◌++◌, refl, sym, ap, ◌∙◌, inl, inr, arith, append_assoc, append-nil}
 use Rattle.std.proofs.lemmas.Bool.{cases_Bool, cases_lt, cond-true, cond-false, lt-ltb, le-ltb, le-leb, lt-leb, and_from, and_left, and_right}
+use Rattle.std.proofs.lemmas.Bool.Decides.{nat_tests}
 use Rattle.i9_model.specs.Memory.{stored}
 use Rattle.i9_model.proofs.Stored.{stored-append, stored-none}
 use Rattle.i9_model.specs.Late.{Late, wait_of, Wait, IsOrderly, IssuedBy, RequestsDone, AllDone, is_waiting, waiting, acted_memory, settled_memory, due_puts, left_waiting, all_puts}
 
 due-append : (u : ℕ) (vs ws : List Wait) → due_puts u (vs ++ ws) ≡ due_puts u vs ++ due_puts u ws
 due-append u [] ws = refl
-due-append u (v ∷ vs) ws =
-    elim (cases_lt u v.due) [
-      | inl waits ↦ cond-false _ _ _ (lt-leb v.due u waits) ∙ due-append u vs ws ∙ sym (ap (λ ps. ps ++ due_puts u ws) (cond-false (leb v.due u) (v.puts ++ due_puts u vs) (due_puts u vs) (lt-leb v.due u waits)))
-      | inr over ↦ cond-true _ _ _ (le-leb v.due u over) ∙ ap (λ ps. v.puts ++ ps) (due-append u vs ws) ∙ sym (append_assoc v.puts (due_puts u vs) (due_puts u ws)) ∙ sym (ap (λ ps. ps ++ due_puts u ws) (cond-true (leb v.due u) (v.puts ++ due_puts u vs) (due_puts u vs) (le-leb v.due u over)))
-    ]
+due-append u (v ∷ vs) ws = grind (arith, nat_tests, append_assoc, due-append u vs ws)
 
 left-append : (u : ℕ) (vs ws : List Wait) → left_waiting u (vs ++ ws) ≡ left_waiting u vs ++ left_waiting u ws
 left-append u [] ws = refl
-left-append u (v ∷ vs) ws =
-    elim (cases_lt u v.due) [
-      | inl waits ↦ cond-false _ _ _ (lt-leb v.due u waits) ∙ ap (λ zs. v ∷ zs) (left-append u vs ws) ∙ sym (ap (λ ps. ps ++ left_waiting u ws) (cond-false (leb v.due u) (left_waiting u vs) (v ∷ left_waiting u vs) (lt-leb v.due u waits)))
-      | inr over ↦ cond-true _ _ _ (le-leb v.due u over) ∙ left-append u vs ws ∙ sym (ap (λ ps. ps ++ left_waiting u ws) (cond-true (leb v.due u) (left_waiting u vs) (v ∷ left_waiting u vs) (le-leb v.due u over)))
-    ]
+left-append u (v ∷ vs) ws = grind (arith, nat_tests, left-append u vs ws)
 
 -- one more request at the end
 due-last : (u : ℕ) (vs : List Wait) (w : Wait) → w.due ≤ u → due_puts u (vs ++ w ∷ []) ≡ due_puts u vs ++ w.puts

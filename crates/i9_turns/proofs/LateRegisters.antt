@@ -1,6 +1,7 @@
 -- Registers that are written late.
-use Rattle.std.proofs.Common.{◌≡◌, ℕ, ◌<◌, ◌≤◌, true, false, ◌||◌, ltb, List, [], ◌∷◌, Option, Some, None, refl, sym, ap, ◌∙◌, inl, inr, arith}
+use Rattle.std.proofs.Common.{◌≡◌, ℕ, ◌<◌, ◌≤◌, true, false, List, [], ◌∷◌, Option, Some, None, refl, sym, ap, ◌∙◌, inl, inr, arith}
 use Rattle.std.proofs.lemmas.Bool.{cases_Bool, cases_lt, cond-true, cond-false, lt-ltb, le-ltb, le-leb, lt-leb, and_from, and_left, and_right}
+use Rattle.std.proofs.lemmas.Bool.Decides.{nat_tests}
 use Rattle.i9_model.specs.State.{State}
 use Rattle.i9_model.specs.Late.{Late, resource, resources, cell, Passes, IsOrderly, IssuedBy, Leaves, WritersDone, marks, raw_value, planned, cell_at, landed, landed_value, landed_plan, latest, latest_value, last_state, is_busy, is_plan_open}
 
@@ -132,12 +133,4 @@ cell-latest first t r (x ∷ xs) lt i o l =
 -- A register is busy where a value is planned for it.
 pub cell-busy : (t r : ℕ) (xs : List Late) → is_plan_open t (planned t xs r) ≡ is_busy t xs r
 cell-busy t r [] = refl
-cell-busy t r (x ∷ xs) =
-    elim (cases_lt t x.timed.done) [
-      | inr done ↦ ap (is_plan_open t) (plan-done t r x xs done) ∙ cell-busy t r xs ∙ sym (ap (λ b. b || is_busy t xs r) (and_right (marks x r) (ltb t x.timed.done) (le-ltb t x.timed.done done)))
-      | inl op ↦
-          elim (cases_Bool (marks x r)) [
-            | inr n ↦ ap (is_plan_open t) (plan-other t r x xs n) ∙ cell-busy t r xs ∙ sym (ap (λ b. b || is_busy t xs r) (and_left (marks x r) (ltb t x.timed.done) n))
-            | inl w ↦ ap (is_plan_open t) (plan-yes t r x xs w op) ∙ lt-ltb t x.timed.done op ∙ sym (ap (λ b. b || is_busy t xs r) (and_from (marks x r) (ltb t x.timed.done) w (lt-ltb t x.timed.done op)))
-          ]
-    ]
+cell-busy t r (x ∷ xs) = grind (arith, nat_tests, cell-busy t r xs)
