@@ -47,11 +47,7 @@ all-requests t (x ∷ xs) h = ((λ w. h.0), all-requests t xs h.1)
 -- where no request is open, none waits
 pub none-wait : (t : ℕ) (xs : List Late) → RequestsDone t xs → waiting t xs ≡ []
 none-wait t [] h = refl
-none-wait t (x ∷ xs) h =
-    elim (cases_Bool x.timed.need.request) [
-      | inl q ↦ waiting-no t x xs (waits-not t x (h.0 q)) ∙ none-wait t xs h.1
-      | inr n ↦ waiting-no t x xs (and_left _ _ n) ∙ none-wait t xs h.1
-    ]
+none-wait t (x ∷ xs) h = grind (arith, nat_tests, h.0, none-wait t xs h.1)
 
 pub acted-still : (m : ℕ → ℕ) (t u : ℕ) (xs : List Late) → t ≤ u → RequestsDone t xs → acted_memory m u xs ≡ acted_memory m t xs
 acted-still m t u [] le h = refl

@@ -25,19 +25,11 @@ plan-done t r x xs d = cond-false _ _ _ (and_right _ _ (le-ltb t x.timed.done d)
 
 pub plan-none : (t r : ℕ) (xs : List Late) → WritersDone r t xs → planned t xs r ≡ None
 plan-none t r [] h = refl
-plan-none t r (x ∷ xs) h =
-    elim (cases_Bool (marks x r)) [
-      | inl w ↦ plan-done t r x xs (h.0 w) ∙ plan-none t r xs h.1
-      | inr n ↦ plan-other t r x xs n ∙ plan-none t r xs h.1
-    ]
+plan-none t r (x ∷ xs) h = grind (arith, nat_tests, h.0, plan-none t r xs h.1)
 
 pub raw-still : (first : State) (t u r : ℕ) (xs : List Late) → t ≤ u → WritersDone r t xs → raw_value first u xs r ≡ raw_value first t xs r
 raw-still first t u r [] le h = refl
-raw-still first t u r (x ∷ xs) le h =
-    elim (cases_Bool (marks x r)) [
-      | inl w ↦ let d : x.timed.done ≤ t = h.0 w in raw-yes first u r x xs w (omega arith) ∙ sym (raw-yes first t r x xs w d)
-      | inr n ↦ raw-other first u r x xs n ∙ raw-still first t u r xs le h.1 ∙ sym (raw-other first t r x xs n)
-    ]
+raw-still first t u r (x ∷ xs) le h = grind (arith, nat_tests, h.0, raw-still first t u r xs le h.1)
 
 pub writers-later : (r t u : ℕ) (xs : List Late) → t ≤ u → WritersDone r t xs → WritersDone r u xs
 writers-later r t u [] le h = tt
