@@ -51,13 +51,7 @@ none-wait t (x ∷ xs) h = grind (arith, nat_tests, h.0, none-wait t xs h.1)
 
 pub acted-still : (m : ℕ → ℕ) (t u : ℕ) (xs : List Late) → t ≤ u → RequestsDone t xs → acted_memory m u xs ≡ acted_memory m t xs
 acted-still m t u [] le h = refl
-acted-still m t u (x ∷ xs) le h =
-    elim (cases_Bool x.timed.need.request) [
-      | inl q ↦
-          let d : x.timed.done ≤ t = h.0 q in
-          acted-no m u x xs (waits-not u x (omega arith)) ∙ ap (λ n. stored n x.puts) (acted-still m t u xs le h.1) ∙ sym (acted-no m t x xs (waits-not t x d))
-      | inr n ↦ acted-no m u x xs (and_left _ _ n) ∙ ap (λ n. stored n x.puts) (acted-still m t u xs le h.1) ∙ sym (acted-no m t x xs (and_left _ _ n))
-    ]
+acted-still m t u (x ∷ xs) le h = grind (arith, nat_tests, h.0, acted-still m t u xs le h.1)
 
 -- the memory once what is due by u has landed
 Moves : (ℕ → ℕ) → ℕ → ℕ → List Late → Type 0
@@ -145,11 +139,7 @@ all-last (v ∷ vs) w = ap (λ ps. v.puts ++ ps) (all-last vs w) ∙ sym (append
 
 settled-still : (m : ℕ → ℕ) (t : ℕ) (xs : List Late) → RequestsDone t xs → acted_memory m t xs ≡ settled_memory m xs
 settled-still m t [] h = refl
-settled-still m t (x ∷ xs) h =
-    elim (cases_Bool x.timed.need.request) [
-      | inl q ↦ acted-no m t x xs (waits-not t x (h.0 q)) ∙ ap (λ n. stored n x.puts) (settled-still m t xs h.1)
-      | inr n ↦ acted-no m t x xs (and_left _ _ n) ∙ ap (λ n. stored n x.puts) (settled-still m t xs h.1)
-    ]
+settled-still m t (x ∷ xs) h = grind (arith, nat_tests, h.0, settled-still m t xs h.1)
 
 settled-after-done : (m : ℕ → ℕ) (t : ℕ) (x : Late) (xs : List Late) → is_waiting t x ≡ false → RequestsDone t xs → stored (acted_memory m t (x ∷ xs)) (all_puts (waiting t (x ∷ xs))) ≡ settled_memory m (x ∷ xs)
 settled-after-done m t x xs nt h =
