@@ -52,7 +52,8 @@ allowed_other false a x h = h
 word_other : (s : State) (r : Result Inst BadWord) → IsOther (by_word s r)
 word_other s (Err Opcode) = λ h. absurd (omega (arith, h))
 word_other s (Err Operand) = λ h. absurd (omega (arith, h))
-word_other s (Ok i) = allowed_other (misuses i s) s.ip (by_raised i s (raised_in i s)) (raised_other i s (raised_in i s))
+word_other s (Ok i) =
+    allowed_other (misuses i s) s.ip (by_raised i s (raised_in i s)) (raised_other i s (raised_in i s))
 
 fetch_other : (s : State) (o : Option ℕ) → IsOther (by_fetch s o)
 fetch_other s (Some a) = tt
@@ -142,7 +143,8 @@ next_named g o rs r does =
     subst (IsPlain s) does (in_plain g.length (due_after rs) o s (due_plain rs))
 
 pub next_plain : (g : Given) (o : Option Event) (rs : List Record) (e : Finish) → next_with g o rs ≡ Ends e → is_imprecise e.end ≡ false
-next_plain g o rs e ends = subst (IsPlain (state_after g rs)) ends (in_plain g.length (due_after rs) o (state_after g rs) (due_plain rs))
+next_plain g o rs e ends =
+    subst (IsPlain (state_after g rs)) ends (in_plain g.length (due_after rs) o (state_after g rs) (due_plain rs))
 
 pub run_plain : (g : Given) (rs : List Record) (e : Finish) → IsRun g rs e → is_imprecise e.end ≡ false
 run_plain g rs e run = next_plain g (event_after g rs) rs e run.ends
