@@ -2,6 +2,7 @@
 use Rattle.std.proofs.Common.{◌≡◌, ℕ, ◌≤◌, Bool, true, false, ◌||◌, List, [], ◌∷◌, Some, None, refl, ◌⊎◌, inl, arith}
 use Rattle.std.specs.Prelude.{IsTrue}
 use Rattle.std.specs.List.{AllByRecursion}
+use Rattle.std.proofs.lemmas.Bool.Decides.{nat_tests}
 use Rattle.i9_model.specs.declared.need.Need.{Need}
 use Rattle.i9_model.specs.declared.need.TimedNeed.{TimedNeed}
 use Rattle.i9_model.specs.State.{State}
@@ -111,11 +112,7 @@ next_barrier g h o b = barrier_after g h (need_after g h o) b (next_unbound g h 
 -- ---- which do
 
 by_fault : (a b c d e f : Bool) → (d || a) ≡ true → (a || b || c || d || e || f) ≡ true
-by_fault true b c d e f h = refl
-by_fault false true c d e f h = refl
-by_fault false false true d e f h = refl
-by_fault false false false true e f h = refl
-by_fault false false false false e f h = absurd (cc h)
+by_fault a b c d e f h = grind (arith, nat_tests, h)
 
 pub kind_barrier : (n : ℕ) (c : Cache) (s : State) (k : Kind) → IsTrue (is_barrier_kind k)
     → IsTrue (need_of n c s k).barrier

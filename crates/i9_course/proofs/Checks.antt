@@ -41,7 +41,7 @@ acted_check s a keeps =
 instruction_check : (i : Inst) (s : State) → is_barrier_name i.op ≡ false → (acted s (traced_action i s)).check ≡ false
 instruction_check i s other =
     let keeps = instruction_keeps i s other in
-    acted_check s (traced_action i s) keeps.0 ∙ keeps.1
+    acted_check s (traced_action i s) keeps.control ∙ keeps.check
 
 fault_check : (words : ℕ) (s : State) → (acted s (faulting words s)).check ≡ false
 fault_check words s = acted_check s (faulting words s) refl

@@ -3,7 +3,7 @@
 use Rattle.std.proofs.Common.{◌≡◌, ℕ, Bool, true, false, ◌&&◌, [], Option, Some, None, refl, sym, ◌∙◌, ◌⊎◌, inl, inr}
 use Rattle.std.specs.Prelude.{is_some}
 use Rattle.i9_isa.specs.declared.op.Op.{Op}
-use Rattle.i9_isa.specs.declared.op.Op.TheVariants.{Ret, Modpc, Sysctl}
+use Rattle.i9_isa.specs.declared.op.Op.TheVariants.{Ret, Modpc, Modtc, Sysctl}
 use Rattle.i9_isa.specs.declared.size.Size.{Size}
 use Rattle.i9_isa.specs.declared.size.Direction.{Direction}
 use Rattle.i9_isa.specs.declared.size.Direction.TheVariants.{Load, Store}
@@ -13,7 +13,7 @@ use Rattle.i9_isa.specs.Transfers.{transfer_of}
 use Rattle.i9_model.specs.State.{State}
 use Rattle.i9_model.specs.HeldFrames.{Cache}
 use Rattle.i9_model.specs.Controls.{KeepsControls}
-use Rattle.i9_model.specs.Step.{Stays, moving, action_by_name, action_by, action_of}
+use Rattle.i9_model.specs.Step.{Action, Stays, moving, action_by_name, action_by, action_of}
 use Rattle.i9_model.specs.Run.{Kind, Instruction, Faulted, Entered, Interrupted, Reached, action_by_kind}
 use Rattle.i9_model.specs.Needs.{is_request_name, is_barrier_name}
 use Rattle.i9_turns.proofs.NeedLaws.{first_false, quiet}
@@ -21,30 +21,31 @@ use Rattle.i9_course.specs.NeedOf.{need_of}
 
 -- ---- an instruction
 
-name_keeps : (op : Op) (i : Inst) (s : State) → is_barrier_name op ≡ false
-    → ((action_by_name op i s).control ≡ KeepsControls) × ((action_by_name op i s).check ≡ false)
+-- it keeps the controls and the trace controls, and leaves the check flag clear
+pub record Keeps (s : State) (a : Action) : Type 0 where
+  pub control : a.control ≡ KeepsControls
+  pub check : a.check ≡ false
+  pub tc : a.tc ≡ s.trace.tc
+
+name_keeps : (op : Op) (i : Inst) (s : State) → is_barrier_name op ≡ false → Keeps s (action_by_name op i s)
 name_keeps Ret i s b = absurd (cc b)
 name_keeps Modpc i s b = absurd (cc b)
+name_keeps Modtc i s b = absurd (cc b)
 name_keeps Sysctl i s b = absurd (cc b)
-name_keeps _ i s b = (refl, refl)
+name_keeps _ i s b = record { control = refl; check = refl; tc = refl }
 
 moving_keeps : (d : Direction) (size : Size) (signed : Bool) (i : Inst) (s : State)
-    → ((moving d size signed i s).move ≡ Stays) × ((moving d size signed i s).control ≡ KeepsControls)
-    × ((moving d size signed i s).check ≡ false)
-moving_keeps Load size signed i s = (refl, refl, refl)
-moving_keeps Store size signed i s = (refl, refl, refl)
+    → ((moving d size signed i s).move ≡ Stays) × Keeps s (moving d size signed i s)
+moving_keeps Load size signed i s = (refl, record { control = refl; check = refl; tc = refl })
+moving_keeps Store size signed i s = (refl, record { control = refl; check = refl; tc = refl })
 
--- one that is no barrier by its name keeps the controls, and leaves the check flag clear
-pub instruction_keeps : (i : Inst) (s : State) → is_barrier_name i.op ≡ false
-    → ((action_of i s).control ≡ KeepsControls) × ((action_of i s).check ≡ false)
+-- so does one that is no barrier by its name
+pub instruction_keeps : (i : Inst) (s : State) → is_barrier_name i.op ≡ false → Keeps s (action_of i s)
 unfolding action_of
 instruction_keeps i s b = by_transfer (transfer_of i.op)
   where
-    by_transfer : (o : Option Transfer)
-        → ((action_by o i s).control ≡ KeepsControls) × ((action_by o i s).check ≡ false)
-    by_transfer (Some t) =
-        let k = moving_keeps t.direction t.size t.signed i s in
-        (k.1, k.2)
+    by_transfer : (o : Option Transfer) → Keeps s (action_by o i s)
+    by_transfer (Some t) = (moving_keeps t.direction t.size t.signed i s).1
     by_transfer None = name_keeps i.op i s b
 
 -- a load or a store moves no frames and keeps the controls
@@ -57,7 +58,7 @@ request_keeps i s q = by_transfer (transfer_of i.op) q
         → ((action_by o i s).move ≡ Stays) × ((action_by o i s).control ≡ KeepsControls)
     by_transfer (Some t) e =
         let k = moving_keeps t.direction t.size t.signed i s in
-        (k.0, k.1)
+        (k.0, k.1.control)
     by_transfer None e = absurd (cc e)
 
 -- ---- by the kind
@@ -74,7 +75,7 @@ unfolding need_of
 need_still n c s (Instruction i) q b =
     let other : is_barrier_name i.op ≡ false = first_false (is_barrier_name i.op) _ _ _ _ _ b in
     let none = quiet i s (sym (calm_request (is_request_name i.op)) ∙ q) other in
-    (none.0, none.1, (instruction_keeps i s other).0)
+    (none.0, none.1, (instruction_keeps i s other).control)
 need_still n c s (Faulted None fault) q b = (refl, refl, refl)
 need_still n c s (Faulted (Some i) fault) q b = (refl, refl, refl)
 need_still n c s (Entered e) q b = absurd (cc b)

@@ -3,7 +3,7 @@ use Rattle.std.proofs.Common.{◌≡◌, ℕ, Bool, true, false, ◌||◌, Optio
 use Rattle.std.specs.Option.{is_some, option_map}
 use Rattle.std.proofs.lemmas.Bool.{cases_Bool}
 use Rattle.i9_isa.specs.declared.op.Op.{Op}
-use Rattle.i9_isa.specs.declared.op.Op.TheVariants.{Calls, Ret, Modtc, Sysctl}
+use Rattle.i9_isa.specs.declared.op.Op.TheVariants.{Calls, Ret, Sysctl}
 use Rattle.i9_isa.specs.declared.inst.Inst.{Inst}
 use Rattle.i9_isa.specs.declared.size.Size.{Size}
 use Rattle.i9_isa.specs.declared.size.Direction.{Direction}
@@ -14,7 +14,7 @@ use Rattle.i9_model.specs.declared.need.Facts.{Facts}
 use Rattle.i9_model.specs.declared.trace.Seen.{Seen}
 use Rattle.i9_model.specs.declared.trace.Trace.{Trace}
 use Rattle.i9_model.specs.State.{State, TraceControls}
-use Rattle.i9_model.specs.Controls.{Control, KeepsControls, controlled}
+use Rattle.i9_model.specs.Controls.{Control, controlled}
 use Rattle.i9_model.specs.Branches.{is_taken}
 use Rattle.i9_model.specs.Operands.{value}
 use Rattle.i9_model.specs.Tracing.{trace_of}
@@ -26,85 +26,50 @@ use Rattle.i9_model.specs.HeldFrames.{Cache, sets_in}
 use Rattle.i9_model.specs.Run.{Next, Does, Ends, Kind, Instruction, Faulted, Entered, Interrupted, Reached}
 use Rattle.i9_model.specs.Needs.{is_barrier_name, inst_need, writes_sfr}
 use Rattle.i9_past.proofs.Untraced.{action_untraced}
+use Rattle.i9_course.proofs.NeedActs.{Keeps, instruction_keeps}
 use Rattle.i9_course.specs.NeedOf.{moved_frames, touches_port, access_waits, facts_of, is_early, need_of, need_ahead}
 
--- ---- the frames that are moved do not depend on bytes of memory
+-- ---- the frames that are moved and the access do not depend on bytes of memory
 
-message_frames : (n : ℕ) (c : Cache) (m : Message) (i : Inst) (s : State) (bytes : ℕ → ℕ)
-    → moved_frames n c (message_action m i (with_memory s bytes)).move ≡ moved_frames n c (message_action m i s).move
-message_frames n c AsksNothing i s bytes = refl
-message_frames n c AsksCheck i s bytes = refl
-message_frames n c AsksInterrupt i s bytes = refl
-message_frames n c AsksRestart i s bytes = refl
-message_frames n c AsksGroup i s bytes = refl
+abbrev AreSame : ℕ → Cache → Action → Action → Access → Access → Type 0
+AreSame n c a b x y = (moved_frames n c a.move ≡ moved_frames n c b.move) × (x ≡ y)
 
-name_frames : (n : ℕ) (c : Cache) (op : Op) (i : Inst) (s : State) (bytes : ℕ → ℕ)
-    → moved_frames n c (action_by_name op i (with_memory s bytes)).move
-    ≡ moved_frames n c (action_by_name op i s).move
-name_frames n c Sysctl i s bytes = message_frames n c (asked_message i s) i s bytes
-name_frames n c _ i s bytes = refl
+module _ (n : ℕ) (c : Cache) (i : Inst) (s : State) (bytes : ℕ → ℕ) where
+  message_same : (m : Message)
+      → AreSame n c (message_action m i (with_memory s bytes)) (message_action m i s)
+      (message_access m i (with_memory s bytes)) (message_access m i s)
+  message_same AsksNothing = (refl, refl)
+  message_same AsksCheck = (refl, refl)
+  message_same AsksInterrupt = (refl, refl)
+  message_same AsksRestart = (refl, refl)
+  message_same AsksGroup = (refl, refl)
 
-moving_frames : (n : ℕ) (c : Cache) (d : Direction) (size : Size) (signed : Bool) (i : Inst) (s t : State)
-    → moved_frames n c (moving d size signed i t).move ≡ moved_frames n c (moving d size signed i s).move
-moving_frames n c Load size signed i s t = refl
-moving_frames n c Store size signed i s t = refl
+  name_same : (op : Op)
+      → AreSame n c (action_by_name op i (with_memory s bytes)) (action_by_name op i s)
+      (access_by_name op i (with_memory s bytes)) (access_by_name op i s)
+  name_same Sysctl = message_same (asked_message i s)
+  name_same _ = (refl, refl)
 
-action_frames : (n : ℕ) (c : Cache) (i : Inst) (s : State) (bytes : ℕ → ℕ)
-    → moved_frames n c (action_of i (with_memory s bytes)).move ≡ moved_frames n c (action_of i s).move
-unfolding action_of
-action_frames n c i s bytes = by_transfer (transfer_of i.op)
-  where
-    by_transfer : (o : Option Transfer)
-        → moved_frames n c (action_by o i (with_memory s bytes)).move ≡ moved_frames n c (action_by o i s).move
-    by_transfer (Some t) = moving_frames n c t.direction t.size t.signed i s (with_memory s bytes)
-    by_transfer None = name_frames n c i.op i s bytes
+  moving_frames : (d : Direction) (size : Size) (signed : Bool)
+      → moved_frames n c (moving d size signed i (with_memory s bytes)).move
+      ≡ moved_frames n c (moving d size signed i s).move
+  moving_frames Load size signed = refl
+  moving_frames Store size signed = refl
 
--- ---- nor does the access
-
-message_access_same : (m : Message) (i : Inst) (s : State) (bytes : ℕ → ℕ) → message_access m i (with_memory s bytes) ≡ message_access m i s
-message_access_same AsksNothing i s bytes = refl
-message_access_same AsksCheck i s bytes = refl
-message_access_same AsksInterrupt i s bytes = refl
-message_access_same AsksRestart i s bytes = refl
-message_access_same AsksGroup i s bytes = refl
-
-name_access_same : (op : Op) (i : Inst) (s : State) (bytes : ℕ → ℕ) → access_by_name op i (with_memory s bytes) ≡ access_by_name op i s
-name_access_same Sysctl i s bytes = message_access_same (asked_message i s) i s bytes
-name_access_same _ i s bytes = refl
-
-access_same : (i : Inst) (s : State) (bytes : ℕ → ℕ) → access_of i (with_memory s bytes) ≡ access_of i s
-access_same i s bytes = by_transfer (transfer_of i.op)
-  where
-    by_transfer : (o : Option Transfer) → access_by o i (with_memory s bytes) ≡ access_by o i s
-    by_transfer (Some t) = refl
-    by_transfer None = name_access_same i.op i s bytes
+  action_same : AreSame n c (action_of i (with_memory s bytes)) (action_of i s)
+      (access_of i (with_memory s bytes)) (access_of i s)
+  unfolding action_of
+  action_same = by_transfer (transfer_of i.op)
+    where
+      by_transfer : (o : Option Transfer)
+          → AreSame n c (action_by o i (with_memory s bytes)) (action_by o i s)
+          (access_by o i (with_memory s bytes)) (access_by o i s)
+      by_transfer (Some t) = (moving_frames t.direction t.size t.signed, refl)
+      by_transfer None = name_same i.op
 
 -- ---- nor do the trace events of what is no barrier by its name
 
--- it keeps the trace controls and the breakpoints
-record KeepsTrace (s : State) (a : Action) : Type 0 where
-  tc : a.tc ≡ s.trace.tc
-  control : a.control ≡ KeepsControls
-
-name_keeps : (op : Op) (i : Inst) (s : State) → is_barrier_name op ≡ false → KeepsTrace s (action_by_name op i s)
-name_keeps Sysctl i s h = absurd (cc h)
-name_keeps Modtc i s h = absurd (cc h)
-name_keeps _ i s h = record { tc = refl; control = refl }
-
-moving_keeps : (d : Direction) (size : Size) (signed : Bool) (i : Inst) (s : State)
-    → KeepsTrace s (moving d size signed i s)
-moving_keeps Load size signed i s = record { tc = refl; control = refl }
-moving_keeps Store size signed i s = record { tc = refl; control = refl }
-
-action_keeps : (i : Inst) (s : State) → is_barrier_name i.op ≡ false → KeepsTrace s (action_of i s)
-unfolding action_of
-action_keeps i s h = by_transfer (transfer_of i.op)
-  where
-    by_transfer : (o : Option Transfer) → KeepsTrace s (action_by o i s)
-    by_transfer (Some t) = moving_keeps t.direction t.size t.signed i s
-    by_transfer None = name_keeps i.op i s h
-
-trace_kept : (s : State) (a : Action) → a.trace ≡ None → KeepsTrace s a → (acted s a).trace ≡ s.trace
+trace_kept : (s : State) (a : Action) → a.trace ≡ None → Keeps s a → (acted s a).trace ≡ s.trace
 unfolding acted moved
 trace_kept s a none k =
     ap (λ (o : Option Trace). (flagged o (controlled (moved s a) a.control)).trace) none
@@ -129,15 +94,16 @@ plain_trace : (i : Inst) (s : State) → is_barrier_name i.op ≡ false
     → (traced_action i s).trace ≡ trace_of s.trace.tc s.pc i (plain_seen i s (access_of i s)) s.trace.breaks
 plain_trace i s h =
     let a = action_of i s in
-    ap (λ (x : TraceControls). trace_left i s a x) (trace_kept s a (action_untraced i s) (action_keeps i s h))
+    ap (λ (x : TraceControls). trace_left i s a x) (trace_kept s a (action_untraced i s) (instruction_keeps i s h))
     ∙ ap (λ (b : Bool). trace_of s.trace.tc s.pc i (record (seen_of i s a) { switched = b }) s.trace.breaks)
     (no_switch i.op s a h)
 
-trace_same : (i : Inst) (s : State) (bytes : ℕ → ℕ) → is_barrier_name i.op ≡ false
+trace_same : (i : Inst) (s : State) (bytes : ℕ → ℕ) → access_of i (with_memory s bytes) ≡ access_of i s
+    → is_barrier_name i.op ≡ false
     → (traced_action i (with_memory s bytes)).trace ≡ (traced_action i s).trace
-trace_same i s bytes h =
+trace_same i s bytes access h =
     plain_trace i (with_memory s bytes) h
-    ∙ ap (λ (x : Access). trace_of s.trace.tc s.pc i (plain_seen i s x) s.trace.breaks) (access_same i s bytes)
+    ∙ ap (λ (x : Access). trace_of s.trace.tc s.pc i (plain_seen i s x) s.trace.breaks) access
     ∙ sym (plain_trace i s h)
 
 -- ---- the facts of an instruction
@@ -155,10 +121,11 @@ facts_by i s x waits frames fault trace =
     record (facts_of i s frames fault trace) { access = data_of x; port = touches_port (data_of x); waits = waits }
 
 facts_same : (i : Inst) (s : State) (bytes : ℕ → ℕ) (frames : ℕ) (fault trace : Bool)
+    → access_of i (with_memory s bytes) ≡ access_of i s
     → facts_of i (with_memory s bytes) frames fault trace ≡ facts_of i s frames fault trace
-facts_same i s bytes frames fault trace =
+facts_same i s bytes frames fault trace access =
     let t = with_memory s bytes in
-    ap (λ (x : Access). facts_by i s x (access_waits t.memory x) frames fault trace) (access_same i s bytes)
+    ap (λ (x : Access). facts_by i s x (access_waits t.memory x) frames fault trace) access
     ∙ ap (λ (w : ℕ). facts_by i s (access_of i s) w frames fault trace) (waits_same s bytes (access_of i s))
 
 -- whether it raises a trace fault decides only whether it is a barrier
@@ -186,17 +153,19 @@ instruction_same n c i s bytes =
     let t = with_memory s bytes in
     let frames = moved_frames n c (action_of i s).move in
     let trace = is_some (traced_action i t).trace in
-    ap (λ (f : ℕ). inst_need i (facts_of i t f false trace)) (action_frames n c i s bytes)
-    ∙ ap (inst_need i) (facts_same i s bytes frames false trace)
+    let same = action_same n c i s bytes in
+    ap (λ (f : ℕ). inst_need i (facts_of i t f false trace)) same.0
+    ∙ ap (inst_need i) (facts_same i s bytes frames false trace same.1)
     ∙ trace_needed i s frames trace (is_some (traced_action i s).trace)
-    (λ h. ap (λ (o : Option Trace). is_some o) (trace_same i s bytes h))
+    (λ h. ap (λ (o : Option Trace). is_some o) (trace_same i s bytes same.1 h))
 
 need_same : (n : ℕ) (c : Cache) (k : Kind) (s : State) (bytes : ℕ → ℕ)
     → need_of n c (with_memory s bytes) k ≡ need_of n c s k
 unfolding need_of
 need_same n c (Instruction i) s bytes = instruction_same n c i s bytes
 need_same n c (Faulted None fault) s bytes = refl
-need_same n c (Faulted (Some i) fault) s bytes = ap (inst_need i) (facts_same i s bytes 0 (is_early fault) false)
+need_same n c (Faulted (Some i) fault) s bytes =
+    ap (inst_need i) (facts_same i s bytes 0 (is_early fault) false (action_same n c i s bytes).1)
 need_same n c (Entered e) s bytes = refl
 need_same n c (Interrupted x e) s bytes = refl
 need_same n c (Reached e u) s bytes = refl

@@ -1,12 +1,11 @@
 -- The writes of a need cover what is changed.
-use Rattle.std.proofs.Common.{◌≡◌, ℕ, ◌<◌, ◌%◌, Bool, true, false, ◌&&◌, ◌||◌, List, Some, None, refl, ap, ◌∙◌, subst, arith}
+use Rattle.std.proofs.Common.{◌≡◌, ℕ, ◌<◌, ◌%◌, Bool, true, false, ◌||◌, List, Some, None, refl, ap, ◌∙◌, subst, arith}
 use Rattle.std.specs.Prelude.{◌==◌, IsTrue}
 use Rattle.std.specs.Int.{from_bool, IsBitSet}
+use Rattle.std.proofs.lemmas.Bool.Decides.{nat_tests}
 use Rattle.i9_isa.specs.declared.inst.Inst.{Inst}
-use Rattle.i9_isa.specs.declared.resources.TheConstants.{CONDITION_CODE, LINK}
-use Rattle.i9_isa.specs.Operands.{words_written}
-use Rattle.i9_isa.specs.Resources.{is_in_frame, is_in_operand, writes_link, changes_frame, writes_code, is_written}
-use Rattle.i9_isa.specs.Table.{row_of}
+use Rattle.i9_isa.specs.declared.resources.TheConstants.{CONDITION_CODE}
+use Rattle.i9_isa.specs.Resources.{is_in_frame, changes_frame, writes_code, is_written}
 use Rattle.i9_model.specs.declared.need.Facts.{Facts}
 use Rattle.i9_model.specs.declared.push.Push.{Push}
 use Rattle.i9_model.specs.Writes.{last_put}
@@ -33,23 +32,10 @@ is_in p r lt h = one-set (set_of p) r (set_bits 33 r p lt ∙ ap from_bool h)
 
 -- ---- what starts the processor anew
 
-by_either : (a c l p q x y : Bool) → p ≡ true → q ≡ true → (x || y) ≡ true
-    → (a || c || l || (p && x) || (q && y)) ≡ true
-by_either true c l p q x y e d h = refl
-by_either false true l p q x y e d h = refl
-by_either false false true p q x y e d h = refl
-by_either false false false false q x y e d h = absurd (cc e)
-by_either false false false true false x y e d h = absurd (cc d)
-by_either false false false true true x y e d h = h
-
 -- it writes the frame and the condition code
 start_written : (i : Inst) (r : ℕ) → changes_frame i.op ≡ true → writes_code i.op ≡ true
     → IsTrue (is_in_frame r || r == CONDITION_CODE) → is_written i r ≡ true
-start_written i r frame code h =
-    by_either (is_in_operand i.a (words_written (row_of i.op).a) r)
-    (is_in_operand i.c (words_written (row_of i.op).c) r)
-    (writes_link i.op && (r == LINK)) (changes_frame i.op) (writes_code i.op) (is_in_frame r) (r == CONDITION_CODE)
-    frame code h
+start_written i r frame code h = grind (arith, nat_tests, frame, code, h)
 
 starts : (i : Inst) (s : State) → StartsAnew (action_of i s).control
     → (changes_frame i.op ≡ true) × (writes_code i.op ≡ true)

@@ -1,25 +1,18 @@
 -- Memory that is written late.
 use Rattle.std.proofs.Common.{◌≡◌, ℕ, ◌<◌, ◌≤◌, true, false, leb, List, [], ◌∷◌, ◌++◌, refl, sym, ap, ◌∙◌, inl, inr, arith, append_assoc, append-nil}
 use Rattle.std.proofs.lemmas.Bool.{cases_Bool, cases_lt, cond-true, cond-false, lt-ltb, le-ltb, le-leb, lt-leb, and_from, and_left, and_right}
+use Rattle.std.proofs.lemmas.Bool.Decides.{nat_tests}
 use Rattle.i9_model.specs.Memory.{stored}
 use Rattle.i9_model.proofs.Stored.{stored-append, stored-none}
 use Rattle.i9_model.specs.Late.{Late, wait_of, Wait, IsOrderly, IssuedBy, RequestsDone, AllDone, is_waiting, waiting, acted_memory, settled_memory, due_puts, left_waiting, all_puts}
 
 due-append : (u : ℕ) (vs ws : List Wait) → due_puts u (vs ++ ws) ≡ due_puts u vs ++ due_puts u ws
 due-append u [] ws = refl
-due-append u (v ∷ vs) ws =
-    elim (cases_lt u v.due) [
-      | inl waits ↦ cond-false _ _ _ (lt-leb v.due u waits) ∙ due-append u vs ws ∙ sym (ap (λ ps. ps ++ due_puts u ws) (cond-false (leb v.due u) (v.puts ++ due_puts u vs) (due_puts u vs) (lt-leb v.due u waits)))
-      | inr over ↦ cond-true _ _ _ (le-leb v.due u over) ∙ ap (λ ps. v.puts ++ ps) (due-append u vs ws) ∙ sym (append_assoc v.puts (due_puts u vs) (due_puts u ws)) ∙ sym (ap (λ ps. ps ++ due_puts u ws) (cond-true (leb v.due u) (v.puts ++ due_puts u vs) (due_puts u vs) (le-leb v.due u over)))
-    ]
+due-append u (v ∷ vs) ws = grind (arith, nat_tests, append_assoc, due-append u vs ws)
 
 left-append : (u : ℕ) (vs ws : List Wait) → left_waiting u (vs ++ ws) ≡ left_waiting u vs ++ left_waiting u ws
 left-append u [] ws = refl
-left-append u (v ∷ vs) ws =
-    elim (cases_lt u v.due) [
-      | inl waits ↦ cond-false _ _ _ (lt-leb v.due u waits) ∙ ap (λ zs. v ∷ zs) (left-append u vs ws) ∙ sym (ap (λ ps. ps ++ left_waiting u ws) (cond-false (leb v.due u) (left_waiting u vs) (v ∷ left_waiting u vs) (lt-leb v.due u waits)))
-      | inr over ↦ cond-true _ _ _ (le-leb v.due u over) ∙ left-append u vs ws ∙ sym (ap (λ ps. ps ++ left_waiting u ws) (cond-true (leb v.due u) (left_waiting u vs) (v ∷ left_waiting u vs) (le-leb v.due u over)))
-    ]
+left-append u (v ∷ vs) ws = grind (arith, nat_tests, left-append u vs ws)
 
 -- one more request at the end
 due-last : (u : ℕ) (vs : List Wait) (w : Wait) → w.due ≤ u → due_puts u (vs ++ w ∷ []) ≡ due_puts u vs ++ w.puts
@@ -54,21 +47,11 @@ all-requests t (x ∷ xs) h = ((λ w. h.0), all-requests t xs h.1)
 -- where no request is open, none waits
 pub none-wait : (t : ℕ) (xs : List Late) → RequestsDone t xs → waiting t xs ≡ []
 none-wait t [] h = refl
-none-wait t (x ∷ xs) h =
-    elim (cases_Bool x.timed.need.request) [
-      | inl q ↦ waiting-no t x xs (waits-not t x (h.0 q)) ∙ none-wait t xs h.1
-      | inr n ↦ waiting-no t x xs (and_left _ _ n) ∙ none-wait t xs h.1
-    ]
+none-wait t (x ∷ xs) h = grind (arith, nat_tests, h.0, none-wait t xs h.1)
 
 pub acted-still : (m : ℕ → ℕ) (t u : ℕ) (xs : List Late) → t ≤ u → RequestsDone t xs → acted_memory m u xs ≡ acted_memory m t xs
 acted-still m t u [] le h = refl
-acted-still m t u (x ∷ xs) le h =
-    elim (cases_Bool x.timed.need.request) [
-      | inl q ↦
-          let d : x.timed.done ≤ t = h.0 q in
-          acted-no m u x xs (waits-not u x (omega arith)) ∙ ap (λ n. stored n x.puts) (acted-still m t u xs le h.1) ∙ sym (acted-no m t x xs (waits-not t x d))
-      | inr n ↦ acted-no m u x xs (and_left _ _ n) ∙ ap (λ n. stored n x.puts) (acted-still m t u xs le h.1) ∙ sym (acted-no m t x xs (and_left _ _ n))
-    ]
+acted-still m t u (x ∷ xs) le h = grind (arith, nat_tests, h.0, acted-still m t u xs le h.1)
 
 -- the memory once what is due by u has landed
 Moves : (ℕ → ℕ) → ℕ → ℕ → List Late → Type 0
@@ -156,11 +139,7 @@ all-last (v ∷ vs) w = ap (λ ps. v.puts ++ ps) (all-last vs w) ∙ sym (append
 
 settled-still : (m : ℕ → ℕ) (t : ℕ) (xs : List Late) → RequestsDone t xs → acted_memory m t xs ≡ settled_memory m xs
 settled-still m t [] h = refl
-settled-still m t (x ∷ xs) h =
-    elim (cases_Bool x.timed.need.request) [
-      | inl q ↦ acted-no m t x xs (waits-not t x (h.0 q)) ∙ ap (λ n. stored n x.puts) (settled-still m t xs h.1)
-      | inr n ↦ acted-no m t x xs (and_left _ _ n) ∙ ap (λ n. stored n x.puts) (settled-still m t xs h.1)
-    ]
+settled-still m t (x ∷ xs) h = grind (arith, nat_tests, h.0, settled-still m t xs h.1)
 
 settled-after-done : (m : ℕ → ℕ) (t : ℕ) (x : Late) (xs : List Late) → is_waiting t x ≡ false → RequestsDone t xs → stored (acted_memory m t (x ∷ xs)) (all_puts (waiting t (x ∷ xs))) ≡ settled_memory m (x ∷ xs)
 settled-after-done m t x xs nt h =

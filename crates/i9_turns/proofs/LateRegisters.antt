@@ -1,6 +1,7 @@
 -- Registers that are written late.
-use Rattle.std.proofs.Common.{◌≡◌, ℕ, ◌<◌, ◌≤◌, true, false, ◌||◌, ltb, List, [], ◌∷◌, Option, Some, None, refl, sym, ap, ◌∙◌, inl, inr, arith}
+use Rattle.std.proofs.Common.{◌≡◌, ℕ, ◌<◌, ◌≤◌, true, false, List, [], ◌∷◌, Option, Some, None, refl, sym, ap, ◌∙◌, inl, inr, arith}
 use Rattle.std.proofs.lemmas.Bool.{cases_Bool, cases_lt, cond-true, cond-false, lt-ltb, le-ltb, le-leb, lt-leb, and_from, and_left, and_right}
+use Rattle.std.proofs.lemmas.Bool.Decides.{nat_tests}
 use Rattle.i9_model.specs.State.{State}
 use Rattle.i9_model.specs.Late.{Late, resource, resources, cell, Passes, IsOrderly, IssuedBy, Leaves, WritersDone, marks, raw_value, planned, cell_at, landed, landed_value, landed_plan, latest, latest_value, last_state, is_busy, is_plan_open}
 
@@ -24,19 +25,11 @@ plan-done t r x xs d = cond-false _ _ _ (and_right _ _ (le-ltb t x.timed.done d)
 
 pub plan-none : (t r : ℕ) (xs : List Late) → WritersDone r t xs → planned t xs r ≡ None
 plan-none t r [] h = refl
-plan-none t r (x ∷ xs) h =
-    elim (cases_Bool (marks x r)) [
-      | inl w ↦ plan-done t r x xs (h.0 w) ∙ plan-none t r xs h.1
-      | inr n ↦ plan-other t r x xs n ∙ plan-none t r xs h.1
-    ]
+plan-none t r (x ∷ xs) h = grind (arith, nat_tests, h.0, plan-none t r xs h.1)
 
 pub raw-still : (first : State) (t u r : ℕ) (xs : List Late) → t ≤ u → WritersDone r t xs → raw_value first u xs r ≡ raw_value first t xs r
 raw-still first t u r [] le h = refl
-raw-still first t u r (x ∷ xs) le h =
-    elim (cases_Bool (marks x r)) [
-      | inl w ↦ let d : x.timed.done ≤ t = h.0 w in raw-yes first u r x xs w (omega arith) ∙ sym (raw-yes first t r x xs w d)
-      | inr n ↦ raw-other first u r x xs n ∙ raw-still first t u r xs le h.1 ∙ sym (raw-other first t r x xs n)
-    ]
+raw-still first t u r (x ∷ xs) le h = grind (arith, nat_tests, h.0, raw-still first t u r xs le h.1)
 
 pub writers-later : (r t u : ℕ) (xs : List Late) → t ≤ u → WritersDone r t xs → WritersDone r u xs
 writers-later r t u [] le h = tt
@@ -132,12 +125,4 @@ cell-latest first t r (x ∷ xs) lt i o l =
 -- A register is busy where a value is planned for it.
 pub cell-busy : (t r : ℕ) (xs : List Late) → is_plan_open t (planned t xs r) ≡ is_busy t xs r
 cell-busy t r [] = refl
-cell-busy t r (x ∷ xs) =
-    elim (cases_lt t x.timed.done) [
-      | inr done ↦ ap (is_plan_open t) (plan-done t r x xs done) ∙ cell-busy t r xs ∙ sym (ap (λ b. b || is_busy t xs r) (and_right (marks x r) (ltb t x.timed.done) (le-ltb t x.timed.done done)))
-      | inl op ↦
-          elim (cases_Bool (marks x r)) [
-            | inr n ↦ ap (is_plan_open t) (plan-other t r x xs n) ∙ cell-busy t r xs ∙ sym (ap (λ b. b || is_busy t xs r) (and_left (marks x r) (ltb t x.timed.done) n))
-            | inl w ↦ ap (is_plan_open t) (plan-yes t r x xs w op) ∙ lt-ltb t x.timed.done op ∙ sym (ap (λ b. b || is_busy t xs r) (and_from (marks x r) (ltb t x.timed.done) w (lt-ltb t x.timed.done op)))
-          ]
-    ]
+cell-busy t r (x ∷ xs) = grind (arith, nat_tests, cell-busy t r xs)

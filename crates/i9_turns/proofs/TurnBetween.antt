@@ -1,13 +1,13 @@
 -- After a barrier the turns depend on what follows it alone.
-use Rattle.std.proofs.Common.{◌≡◌, ℕ, ◌+◌, ◌-◌, ◌<◌, ◌≤◌, max, cond, ◌&&◌, ltb, List, [], ◌∷◌, ◌++◌, sym, refl, ap, ◌∙◌, subst, inl, inr, arith}
+use Rattle.std.proofs.Common.{◌≡◌, ℕ, ◌+◌, ◌-◌, ◌<◌, ◌≤◌, max, cond, ◌&&◌, ltb, List, [], ◌∷◌, ◌++◌, sym, refl, ap, ◌∙◌, subst, inl, arith}
 use Rattle.std.specs.Prelude.{IsTrue, nat_lt, map}
 use Rattle.std.specs.List.{AllByRecursion}
-use Rattle.std.proofs.lemmas.Bool.{cases_Bool, cases_lt, cond-true, cond-false, lt-ltb, le-ltb}
 use Rattle.std.proofs.lemmas.List.Sums.{sum_by-cons}
+use Rattle.std.proofs.lemmas.Bool.Decides.{nat_tests}
 use Rattle.i9_model.specs.declared.need.Need.{Need}
 use Rattle.i9_model.specs.declared.need.TimedNeed.{TimedNeed}
 use Rattle.i9_model.specs.Turns.{Permits, CanIssue, IssuesAt, IsTimed, TakesTurns, open_at, open_requests, done_turn, last_request, last_issue, later, later_by, WaitForNone, timed, overtakes}
-use Rattle.i9_turns.proofs.TurnDropped.{TakeTime, open-yes, open-no, can-open, open-can, done_turn-open, last_request-yes, last_request-no, issues-once}
+use Rattle.i9_turns.proofs.TurnDropped.{TakeTime, open-yes, open-no, can-open, open-can, done_turn-open, issues-once}
 use Rattle.i9_turns.proofs.TurnOpen.{timed-take_time, timed-in_order}
 use Rattle.i9_turns.proofs.TurnWhole.{IsTimed-timed, needs-timed}
 
@@ -159,10 +159,7 @@ each-sooner d n t [] h = tt
 each-sooner d n t (r ∷ rs) h = (permits-sooner d n t r h.0, each-sooner d n t rs h.1)
 
 pub ltb-later : (d a b : ℕ) → ltb (a + d) (b + d) ≡ ltb a b
-ltb-later d a b = elim (cases_lt a b) [
-  | inl lt ↦ lt-ltb (a + d) (b + d) (omega arith) ∙ sym (lt-ltb a b lt)
-  | inr le ↦ le-ltb (a + d) (b + d) (omega arith) ∙ sym (le-ltb a b le)
-]
+ltb-later d a b = grind (arith, nat_tests)
 
 abbrev pub open_one : ℕ → TimedNeed → ℕ
 open_one t r = cond (r.need.request && nat_lt t r.done) 1 0
@@ -209,19 +206,11 @@ later-issues d last rs n t z h =
 
 pub last_request-later : (d t : ℕ) (rs : List TimedNeed) → max (t + d) (last_request (later_by d rs)) ≡ max t (last_request rs) + d
 last_request-later d t [] = omega arith
-last_request-later d t (r ∷ rs) =
-    elim (cases_Bool r.need.request) [
-      | inl is ↦ omega (arith, last_request-yes (later d r) (later_by d rs) is, last_request-yes r rs is)
-      | inr none ↦ omega (arith, last_request-no (later d r) (later_by d rs) none, last_request-no r rs none, last_request-later d t rs)
-    ]
+last_request-later d t (r ∷ rs) = grind (arith, nat_tests, last_request-later d t rs)
 
 pub done_turn-later : (d t : ℕ) (rs : List TimedNeed) (n : Need) → done_turn (later_by d rs) n (t + d) ≡ done_turn rs n t + d
 done_turn-later d t rs n =
-    let e = last_request-later d t rs in
-    elim (cases_Bool n.request) [
-      | inl is ↦ omega (arith, e, cond-true n.request (max (t + d) (last_request (later_by d rs))) (t + d) is, cond-true n.request (max t (last_request rs)) t is)
-      | inr none ↦ omega (arith, cond-false n.request (max (t + d) (last_request (later_by d rs))) (t + d) none, cond-false n.request (max t (last_request rs)) t none)
-    ]
+    grind (arith, nat_tests, last_request-later d t rs)
 
 pub last_from-later : (d base : ℕ) (rs : List TimedNeed) → last_from (base + d) (later_by d rs) ≡ last_from base rs + d
 last_from-later d base [] = refl

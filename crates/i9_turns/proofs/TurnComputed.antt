@@ -3,6 +3,7 @@ use Rattle.std.proofs.Common.{◌≡◌, ◌≢◌, ℕ, ◌+◌, ◌-◌, ◌<�
 use Rattle.std.specs.Prelude.{IsTrue, nat_lt, nat_le, ◌⊎◌}
 use Rattle.std.specs.List.{AllByRecursion}
 use Rattle.std.proofs.lemmas.Bool.{cases_Bool, cases_lt, cond-true, cond-false, lt-ltb, le-ltb, le-leb, leb-true, or_cases, or_left, or_right, and_from, and_parts, and_left, and_right, both_ways}
+use Rattle.std.proofs.lemmas.Bool.Decides.{nat_tests}
 use Rattle.std.proofs.lemmas.List.Sums.{sum_by-cons}
 use Rattle.i9_model.specs.declared.need.Need.{Need}
 use Rattle.i9_model.specs.declared.need.TimedNeed.{TimedNeed}
@@ -26,48 +27,16 @@ pub record Waits (n : Need) (v : ℕ) (r : TimedNeed) : Type 0 where
   pub alone : (n.barrier ≡ true) ⊎ (n.alone ≡ true) → r.done ≤ v
 
 pub waits-done : (n : Need) (v : ℕ) (r : TimedNeed) → Waits n v r → waits_for n r.need ≡ true → r.done ≤ v
-waits-done n v r w h =
-    let a = changes_value r.need n in
-    let b = n.slow && r.need.slow in
-    let c = changes_words r.need.store n.code in
-    elim (or_cases (a || b || c || r.need.barrier || n.barrier) n.alone h) [
-      | inr e ↦ w.alone (inr e)
-      | inl h5 ↦ elim (or_cases (a || b || c || r.need.barrier) n.barrier h5) [
-        | inr e ↦ w.alone (inl e)
-        | inl h4 ↦ elim (or_cases (a || b || c) r.need.barrier h4) [
-          | inr e ↦ w.barrier e
-          | inl h3 ↦ elim (or_cases (a || b) c h3) [
-            | inr e ↦ w.words e
-            | inl h2 ↦ elim (or_cases a b h2) [
-              | inr e ↦ let p = and_parts n.slow r.need.slow e in w.slow p.0 p.1
-              | inl e ↦ w.values e
-            ]
-          ]
-        ]
-      ]
-    ]
+waits-done n v r w h = grind (arith, nat_tests, h, w.values, w.slow, w.words, w.barrier, w.alone)
 
 pub done-waits : (n : Need) (v : ℕ) (r : TimedNeed) → (waits_for n r.need ≡ true → r.done ≤ v) → Waits n v r
-done-waits n v r h =
-    let a = changes_value r.need n in
-    let b = n.slow && r.need.slow in
-    let c = changes_words r.need.store n.code in
-    let abc = a || b || c in
-    let abcd = abc || r.need.barrier in
-    let abcde = abcd || n.barrier in
-    let from4 : abcd ≡ true → waits_for n r.need ≡ true = λ e. or_left abcde n.alone (or_left abcd n.barrier e) in
-    let from3 : abc ≡ true → waits_for n r.need ≡ true = λ e. from4 (or_left abc r.need.barrier e) in
-    let from2 : (a || b) ≡ true → waits_for n r.need ≡ true = λ e. from3 (or_left (a || b) c e) in
-    record {
-      values = λ e. h (from2 (or_left a b e));
-      slow = λ e f. h (from2 (or_right a b (and_from n.slow r.need.slow e f)));
-      words = λ e. h (from3 (or_right (a || b) c e));
-      barrier = λ e. h (from4 (or_right abc r.need.barrier e));
-      alone = λ e. elim e [
-        | inl f ↦ h (or_left abcde n.alone (or_right abcd n.barrier f))
-        | inr f ↦ h (or_right abcde n.alone f)
-      ];
-    }
+done-waits n v r h = record {
+  values = λ e. h (grind (arith, nat_tests, e));
+  slow = λ e f. h (grind (arith, nat_tests, e, f));
+  words = λ e. h (grind (arith, nat_tests, e));
+  barrier = λ e. h (grind (arith, nat_tests, e));
+  alone = λ e. h (grind (arith, nat_tests, e));
+}
 
 -- a fact that may be refuted by a smaller turn
 pub done-unless : (v d : ℕ) → ((v < d → ⊥) → d ≤ v)

@@ -2,8 +2,9 @@
 use Rattle.std.proofs.Common.{◌≡◌, ℕ, ◌+◌, ◌<◌, ◌≤◌, max, Bool, false, cond, ◌&&◌, ltb, List, [], ◌∷◌, sym, refl, ap, ◌∙◌, subst, inl, inr, arith}
 use Rattle.std.specs.Prelude.{IsTrue, nat_lt}
 use Rattle.std.specs.List.{AllByRecursion, count_by}
-use Rattle.std.proofs.lemmas.Bool.{cases_Bool, cond-true, cond-false, cases_lt, lt-ltb, le-ltb, and_right}
+use Rattle.std.proofs.lemmas.Bool.{cond-true, cond-false, cases_lt, lt-ltb, le-ltb, and_right}
 use Rattle.std.proofs.lemmas.List.Sums.{sum_by-cons}
+use Rattle.std.proofs.lemmas.Bool.Decides.{nat_tests}
 use Rattle.i9_model.specs.declared.need.Need.{Need}
 use Rattle.i9_model.specs.declared.need.TimedNeed.{TimedNeed}
 use Rattle.i9_model.specs.Turns.{RequestsInOrder, Permits, CanIssue, IssuesAt, open_at, done_turn, last_request}
@@ -115,19 +116,7 @@ last_request-no r rs h = cond-false r.need.request r.done (last_request rs) h
 pub max-last_request-open : (u t : ℕ) → u ≤ t → (rs : List TimedNeed) → RequestsInOrder rs → max t (last_request (open_at u rs)) ≡ max t (last_request rs)
 max-last_request-open u t le [] h = refl
 max-last_request-open u t le (r ∷ rs) h =
-    let rest = max-last_request-open u t le rs h.1 in
-    elim (cases_lt u r.done) [
-      | inl later ↦
-          elim (cases_Bool r.need.request) [
-            | inl is ↦ ap (λ xs. max t (last_request xs)) (open-yes u r rs later) ∙ ap (λ m. max t m) (last_request-yes r (open_at u rs) is ∙ sym (last_request-yes r rs is))
-            | inr not ↦ ap (λ xs. max t (last_request xs)) (open-yes u r rs later) ∙ ap (λ m. max t m) (last_request-no r (open_at u rs) not) ∙ rest ∙ ap (λ m. max t m) (sym (last_request-no r rs not))
-          ]
-      | inr over ↦
-          elim (cases_Bool r.need.request) [
-            | inl is ↦ let before : last_request rs ≤ r.done = h.0 is in ap (λ xs. max t (last_request xs)) (open-no u r rs over) ∙ omega (arith, rest, before, last_request-yes r rs is)
-            | inr not ↦ ap (λ xs. max t (last_request xs)) (open-no u r rs over) ∙ rest ∙ ap (λ m. max t m) (sym (last_request-no r rs not))
-          ]
-    ]
+    grind (arith, nat_tests, h.0, max-last_request-open u t le rs h.1)
 
 pub done_turn-open : (u t : ℕ) → u ≤ t → (rs : List TimedNeed) (n : Need) → RequestsInOrder rs → done_turn (open_at u rs) n t ≡ done_turn rs n t
 done_turn-open u t le rs n h = ap (λ m. cond n.request m t + n.cost) (max-last_request-open u t le rs h)

@@ -1,13 +1,14 @@
 -- The turns are the least solution of the rules.
-use Rattle.std.proofs.Common.{◌≡◌, ℕ, ◌≤◌, max, ◌&&◌, List, [], ◌∷◌, sym, ap, ◌∙◌, subst, inl, inr, arith}
+use Rattle.std.proofs.Common.{◌≡◌, ℕ, ◌≤◌, ◌&&◌, List, [], ◌∷◌, sym, ap, ◌∙◌, subst, inl, inr, arith}
 use Rattle.std.specs.Prelude.{IsTrue, nat_lt, map}
 use Rattle.std.specs.List.{AllByRecursion, AllZip}
-use Rattle.std.proofs.lemmas.Bool.{cases_Bool, cases_lt, cond-true, cond-false}
+use Rattle.std.proofs.lemmas.Bool.{cases_Bool}
+use Rattle.std.proofs.lemmas.Bool.Decides.{nat_tests}
 use Rattle.i9_model.specs.declared.need.Need.{Need}
 use Rattle.i9_model.specs.declared.need.TimedNeed.{TimedNeed}
 use Rattle.i9_model.specs.Turns.{Permits, CanIssue, IsTimed, Solves, IsNoLater, open_requests, done_turn, last_request, last_issue, keeps_side, ChangesValue, ChangesWords}
 use Rattle.i9_turns.proofs.TurnDropped.{last_request-yes, last_request-no}
-use Rattle.i9_turns.proofs.TurnComputed.{IssuedBy, issued-later, open_requests-cons, one_if, one-yes, one-no, one-done}
+use Rattle.i9_turns.proofs.TurnComputed.{IssuedBy, issued-later, open_requests-cons, one_if}
 
 abbrev pub NoLater : List TimedNeed → List TimedNeed → Type 0
 NoLater xs ys = AllZip IsNoLater xs ys
@@ -51,13 +52,7 @@ pub one-no_later : (t : ℕ) (x y : TimedNeed) → IsNoLater x y → one_if (x.n
 one-no_later t x y h =
     let done : x.done ≤ y.done = h.done in
     let same : x.need.request ≡ y.need.request = ap (λ (m : Need). m.request) h.need in
-    elim (cases_lt t x.done) [
-      | inr over ↦ omega (arith, one-done t x over)
-      | inl later ↦ elim (cases_Bool x.need.request) [
-        | inr none ↦ omega (arith, one-no t x none)
-        | inl is ↦ omega (arith, one-yes t x is later, one-yes t y (sym same ∙ is) (omega arith))
-      ]
-    ]
+    grind (arith, nat_tests, done, same)
 
 pub requests-no_later : (t : ℕ) (xs ys : List TimedNeed) → NoLater xs ys → open_requests t xs ≤ open_requests t ys
 requests-no_later t [] [] h = omega arith
@@ -90,10 +85,7 @@ can-no_later xs ys n t b h c =
 
 pub done-no_later : (xs ys : List TimedNeed) (n : Need) (t u : ℕ) → NoLater xs ys → t ≤ u → done_turn xs n t ≤ done_turn ys n u
 done-no_later xs ys n t u h le =
-    elim (cases_Bool n.request) [
-      | inl is ↦ omega (arith, last_request-no_later xs ys h, cond-true n.request (max t (last_request xs)) t is, cond-true n.request (max u (last_request ys)) u is)
-      | inr none ↦ omega (arith, cond-false n.request (max t (last_request xs)) t none, cond-false n.request (max u (last_request ys)) u none)
-    ]
+    grind (arith, nat_tests, last_request-no_later xs ys h)
 
 pub timed-least : (xs ys : List TimedNeed) → IsTimed xs → Solves ys → map (λ r. r.need) xs ≡ map (λ r. r.need) ys → NoLater xs ys
 timed-least [] [] h s e = tt

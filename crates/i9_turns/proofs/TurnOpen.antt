@@ -3,6 +3,7 @@ use Rattle.std.proofs.Common.{◌≡◌, ℕ, ◌<◌, ◌≤◌, max, List, [],
 use Rattle.std.specs.Prelude.{IsTrue}
 use Rattle.std.proofs.lemmas.Bool.{cases_Bool, cond-true, cond-false, cases_lt}
 use Rattle.std.specs.List.{AllByRecursion}
+use Rattle.std.proofs.lemmas.Bool.Decides.{nat_tests}
 use Rattle.i9_model.specs.declared.need.Need.{Need}
 use Rattle.i9_model.specs.declared.need.TimedNeed.{TimedNeed}
 use Rattle.i9_model.specs.Turns.{RequestsInOrder, open_at, done_turn, last_request, last_issue, Follows, IsTimed, TakesTurns, pending_of, pending_after, FollowsOpen, IsAllDone, AreAllDone}
@@ -32,15 +33,7 @@ timed-in_order (r ∷ rs) h =
 
 pub open-open : (t u : ℕ) → t ≤ u → (rs : List TimedNeed) → open_at u (open_at t rs) ≡ open_at u rs
 open-open t u le [] = refl
-open-open t u le (r ∷ rs) =
-    elim (cases_lt t r.done) [
-      | inl later ↦
-          elim (cases_lt u r.done) [
-            | inl still ↦ ap (open_at u) (open-yes t r rs later) ∙ open-yes u r (open_at t rs) still ∙ ap (λ xs. r ∷ xs) (open-open t u le rs) ∙ sym (open-yes u r rs still)
-            | inr over ↦ ap (open_at u) (open-yes t r rs later) ∙ open-no u r (open_at t rs) over ∙ open-open t u le rs ∙ sym (open-no u r rs over)
-          ]
-      | inr over ↦ ap (open_at u) (open-no t r rs over) ∙ open-open t u le rs ∙ sym (open-no u r rs (omega arith))
-    ]
+open-open t u le (r ∷ rs) = grind (arith, nat_tests, open-open t u le rs)
 
 -- the first law: a record that follows the open ones follows them all, and the other way round
 pub follows-open : (rs : List TimedNeed) (r : TimedNeed) → IsTimed rs → TakesTurns rs → Follows rs r → FollowsOpen (pending_of rs) r

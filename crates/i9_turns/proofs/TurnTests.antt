@@ -2,7 +2,8 @@
 use Rattle.std.proofs.Common.{◌≡◌, ℕ, ◌+◌, ◌-◌, ◌%◌, ◌^◌, ◌<◌, ◌≤◌, true, false, ◌&&◌, eqb, Option, Some, None, sym, ap, ◌∙◌, inl, inr, arith}
 use Rattle.std.specs.Prelude.{nat_lt, bit_and, bit_or}
 use Rattle.std.specs.Int.{bit_at}
-use Rattle.std.proofs.lemmas.Bool.{cases_lt, lt-ltb, ltb-true, eq-eqb, ne_eqb, or_cases, or_left, or_right, and_from, and_parts, not_from_false, not_from_true, false≢true}
+use Rattle.std.proofs.lemmas.Bool.{cases_lt, ltb-true, eq-eqb, ne_eqb, or_cases, and_parts, not_from_false, not_from_true, false≢true}
+use Rattle.std.proofs.lemmas.Bool.Decides.{nat_tests}
 use Rattle.std.proofs.lemmas.Nat.Bits.{bit_at_and, bit_at_or, bit_at-zero, same_from_bits, bit_at-lt}
 use Rattle.i9_model.specs.declared.need.Need.{Need}
 use Rattle.i9_model.specs.Turns.{ChangesValue, Overlaps, ChangesWords, changes_value, overlaps, changes_words, distance}
@@ -54,12 +55,10 @@ overlaps-from a b h =
     elim (cases_lt i j) [
       | inl before ↦
           let near : distance b.0 a.0 ≤ j - i = distance-small a.0 b.0 i j same (omega arith) in
-          or_left (nat_lt 0 a.1 && nat_lt (distance b.0 a.0) b.1) (nat_lt 0 b.1 && nat_lt (distance a.0 b.0) a.1)
-          (and_from (nat_lt 0 a.1) (nat_lt (distance b.0 a.0) b.1) (lt-ltb 0 a.1 (omega arith)) (lt-ltb (distance b.0 a.0) b.1 (omega (arith, near))))
+          grind (arith, nat_tests, ia, jb, near)
       | inr behind ↦
           let near : distance a.0 b.0 ≤ i - j = distance-small b.0 a.0 j i (sym same) behind in
-          or_right (nat_lt 0 a.1 && nat_lt (distance b.0 a.0) b.1) (nat_lt 0 b.1 && nat_lt (distance a.0 b.0) a.1)
-          (and_from (nat_lt 0 b.1) (nat_lt (distance a.0 b.0) a.1) (lt-ltb 0 b.1 (omega arith)) (lt-ltb (distance a.0 b.0) a.1 (omega (arith, near))))
+          grind (arith, nat_tests, ia, jb, near)
     ]
 
 pub overlaps-true : (a b : ℕ × ℕ) → overlaps a b ≡ true → Overlaps a b
