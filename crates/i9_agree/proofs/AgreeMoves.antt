@@ -29,26 +29,13 @@ open-hard hides f x h = or_left _ _ h
 
 -- fewer marks leave more open
 open-marked : (hides : Bool) (f : Frames) (lost : List ℕ) (x : ℕ) → is_open hides (with_marked f lost) x ≡ true → is_open hides f x ≡ true
-open-marked hides f lost x h = by_cases hides (is_hard f x) (has lost x) (f.marked x) (in_frames f.live x) h
-  where
-    by_cases : (hides hard l m live : Bool) → (hard || cond (shows hides (l || m)) live false) ≡ true → (hard || cond (shows hides m) live false) ≡ true
-    by_cases hides hard l m live k = grind arith
+open-marked hides f lost x h = grind arith
 
 open-returned : (hides : Bool) (f : Frames) (x : ℕ) → is_open hides (returned f) x ≡ true → is_open hides f x ≡ true
-open-returned hides f x h = by_cases hides (is_hard f x) (f.marked x) (in_frames (drop 1 f.live) x) (in_frames f.live x) (in_rest f.live) h
-  where
-    in_rest : (live : List ℕ) → in_frames (drop 1 live) x ≡ true → in_frames live x ≡ true
-    in_rest [] t = t
-    in_rest (g ∷ live) t = or_right (in_bytes g FRAME_SIZE x) (in_frames live x) t
-
-    by_cases : (hides hard m rest live : Bool) → (rest ≡ true → live ≡ true) → (hard || cond (shows hides (m && rest)) rest false) ≡ true → (hard || cond (shows hides m) live false) ≡ true
-    by_cases hides hard m rest live sub k = grind arith
+open-returned hides f x h = grind arith
 
 pub open-flushed : (hides : Bool) (f : Frames) (x : ℕ) → is_open hides (flushed f) x ≡ true → is_open hides f x ≡ true
-open-flushed hides f x h = by_cases hides (is_beyond x) (f.soft x) (f.marked x) (in_frames f.live x) h
-  where
-    by_cases : (hides beyond soft m live : Bool) → ((beyond || not (soft && not (cond (not m) live false))) || cond (shows hides false) false false) ≡ true → ((beyond || not soft) || cond (shows hides m) live false) ≡ true
-    by_cases hides beyond soft m live k = grind arith
+open-flushed hides f x h = grind arith
 
 -- ---- writes
 

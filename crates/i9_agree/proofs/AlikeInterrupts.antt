@@ -86,17 +86,11 @@ clearing_writes_same Soft f m bytes table v same none = taken_writes_same f m by
 
 -- what may be read behind a save was so before it
 saved_hard : (f : Frames) (a x : ℕ) → is_hard (saved f a) x ≡ true → is_hard f x ≡ true
-saved_hard f a x h = by_cases (is_beyond x) (f.soft x) (in_bytes a FRAME_SIZE x) h
-  where
-    by_cases : (beyond soft here : Bool) → (beyond || not (here || soft)) ≡ true → (beyond || not soft) ≡ true
-    by_cases beyond soft here h = grind arith
+saved_hard f a x h = grind arith
 
 -- and behind writes it was, or is written
 wrote_hard : (f : Frames) (ps : List (ℕ × ℕ)) (x : ℕ) → is_put ps x ≡ false → is_hard (wrote f ps) x ≡ true → is_hard f x ≡ true
-wrote_hard f ps x out h = by_cases (is_beyond x) (f.soft x) (is_put ps x) out h
-  where
-    by_cases : (beyond soft here : Bool) → here ≡ false → (beyond || not (soft && not here)) ≡ true → (beyond || not soft) ≡ true
-    by_cases beyond soft here o h = grind arith
+wrote_hard f ps x out h = grind arith
 
 port_hard : (f : Frames) (x : ℕ) → in_port_page x ≡ true → is_hard f x ≡ true
 port_hard f x p = ap (λ (b : Bool). (b || nat_le address_count x) || not (f.soft x)) p

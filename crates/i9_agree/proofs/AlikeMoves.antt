@@ -29,12 +29,7 @@ beside_saved f a x out h = by_cases (is_beyond x) (f.soft x) (in_frames f.live x
     by_cases beyond soft live here o h = grind arith
 
 pub after_return : (f : Frames) (x : ℕ) → is_compared (returned f) x ≡ true → is_compared f x ≡ true
-after_return f x h = by_live f.live (is_hard f x) h
-  where
-    by_live : (live : List ℕ) (hard : Bool) → (hard || in_frames (drop 1 live) x) ≡ true → (hard || in_frames live x) ≡ true
-    by_live live true h = refl
-    by_live [] false h = h
-    by_live (g ∷ live) false h = or_right (in_bytes g FRAME_SIZE x) (in_frames live x) h
+after_return f x h = grind arith
 
 after_flush : (f : Frames) (x : ℕ) → is_compared (flushed f) x ≡ true → is_compared f x ≡ true
 after_flush f x h = by_cases (is_beyond x) (f.soft x) (f.marked x) (in_frames f.live x) h
