@@ -1,7 +1,7 @@
 -- Actions that are alike leave states that agree.
-use Rattle.std.proofs.Common.{◌≡◌, ℕ, ◌+◌, ◌*◌, Bool, true, false, cond, List, [], ◌∷◌, length, drop, nat_le, refl, sym, ap, ◌∙◌, subst, arith}
+use Rattle.std.proofs.Common.{◌≡◌, ℕ, ◌+◌, ◌*◌, Bool, true, false, cond, List, [], ◌∷◌, length, nat_le, refl, sym, ap, ◌∙◌, subst, arith}
 use Rattle.std.specs.Prelude.{not, ◌&&◌, ◌||◌, replicate}
-use Rattle.std.proofs.lemmas.Bool.{or_left, or_right}
+use Rattle.std.proofs.lemmas.Bool.{or_left}
 use Rattle.i9_model.specs.declared.layout.TheConstants.{FRAME_SIZE}
 use Rattle.i9_model.specs.Writes.{address_count, wrapped, written, upwards}
 use Rattle.i9_model.specs.Memory.{Memory, in_port_page, stored, word_bytes, with_bytes, with_writes}
@@ -15,8 +15,7 @@ use Rattle.i9_model.specs.Free.{IsWhole}
 use Rattle.i9_model.proofs.Runs.{is_put-upwards}
 use Rattle.i9_model.proofs.Lengths.{four_bytes, words_long}
 use Rattle.i9_model.proofs.Storing.{stored_words_same, words_as_bytes}
-use Rattle.i9_agree.proofs.AlikeMoves.{move_mcon}
-use Rattle.i9_agree.proofs.Agreeing.{shows-none, shows-unmarked, shows-after, values-append, values-marked, writes-picked, puts-same, written-alike, stored-alike}
+use Rattle.i9_agree.proofs.Agreeing.{shows-after, values-append, values-marked, writes-same, writes-picked, puts-same, written-alike, stored-alike}
 
 -- ---- which bytes are open
 
@@ -44,26 +43,21 @@ abbrev pub AreInside : Frames → List ℕ → Type 0
 AreInside f stale = (x : ℕ) → has stale x ≡ true → (is_beyond x ≡ false) × (in_frames f.live x ≡ false)
 
 -- of a byte that is open afterwards, the mark is shown, and unless it is written it was open
-open-wrote : (hides : Bool) (f : Frames) (ps : List (ℕ × ℕ)) (stale : List ℕ) (x : ℕ) → AreInside f stale → is_open hides (softened (wrote f ps) stale) x ≡ true
-    → (has stale x ≡ false) × (is_put ps x ≡ false → is_open hides f x ≡ true)
-open-wrote hides f ps stale x inside h = by_stale (has stale x) refl h
+open-wrote : (hides : Bool) (f : Frames) (ps : List (ℕ × ℕ)) (stale : List ℕ) (x : ℕ) → (hides ≡ true → AreInside f stale) → is_open hides (softened (wrote f ps) stale) x ≡ true
+    → (shows hides (has stale x) ≡ true) × (is_put ps x ≡ false → is_open hides f x ≡ true)
+open-wrote hides f ps stale x inside h = by_cases hides (has stale x) (λ e t. inside e x t) h
   where
-    beside : (beyond soft put : Bool) (rest : Bool) → put ≡ false → ((beyond || not (soft && not put)) || rest) ≡ true → ((beyond || not soft) || rest) ≡ true
-    beside beyond soft put rest o k = grind arith
+    by_cases : (hides s : Bool) → (hides ≡ true → s ≡ true → (is_beyond x ≡ false) × (in_frames f.live x ≡ false)) → ((is_beyond x || not (s || (f.soft x && not (is_put ps x)))) || cond (shows hides (f.marked x)) (in_frames f.live x) false) ≡ true
+        → (shows hides s ≡ true) × (is_put ps x ≡ false → is_open hides f x ≡ true)
+    by_cases true true away k = let out = away refl refl in absurd (grind arith)
+    by_cases _ _ away k = (grind arith, λ out. grind arith)
 
-    nowhere : (beyond live s : Bool) → beyond ≡ false → live ≡ false → ((beyond || false) || cond s live false) ≡ true → ⊥
-    nowhere beyond live s o n k = grind arith
-
-    by_stale : (b : Bool) → has stale x ≡ b → ((is_beyond x || not (b || (f.soft x && not (is_put ps x)))) || cond (shows hides (f.marked x)) (in_frames f.live x) false) ≡ true
-        → (has stale x ≡ false) × (is_put ps x ≡ false → is_open hides f x ≡ true)
-    by_stale true t k = let away = inside x t in absurd (nowhere (is_beyond x) (in_frames f.live x) (shows hides (f.marked x)) away.0 away.1 k)
-    by_stale false t k = (t, λ out. beside (is_beyond x) (f.soft x) (is_put ps x) (cond (shows hides (f.marked x)) (in_frames f.live x) false) out k)
-
-writes-agree : (hides : Bool) (f : Frames) (m : Memory) (bytes : ℕ → ℕ) (ps qs : List (ℕ × ℕ)) (stale : List ℕ) → AreInside f stale → AreWritesAlike hides stale ps qs → AgreeWhere (is_open hides f) m bytes
+-- writes that are alike keep memories that agree
+pub writes-agree : (hides : Bool) (f : Frames) (m : Memory) (bytes : ℕ → ℕ) (ps qs : List (ℕ × ℕ)) (stale : List ℕ) → (hides ≡ true → AreInside f stale) → AreWritesAlike hides stale ps qs → AgreeWhere (is_open hides f) m bytes
     → AgreeWhere (is_open hides (softened (wrote f ps) stale)) (with_writes m ps) (stored bytes qs)
 writes-agree hides f m bytes ps qs stale inside alike same = λ x h.
     let found = open-wrote hides f ps stale x inside h in
-    stored-alike hides stale m.bytes bytes ps qs x alike (λ p. same x (open-port hides f x p)) (λ p. shows-none hides (has stale x) found.0) (λ out. same x (found.1 out))
+    stored-alike hides stale m.bytes bytes ps qs x alike (λ p. same x (open-port hides f x p)) (λ p. found.0) (λ out. same x (found.1 out))
 
 -- ---- moves of frames
 
@@ -82,45 +76,54 @@ abbrev pub AreOfSave : Move → List ℕ → Type 0
 AreOfSave (Saves a ws) lost = (x : ℕ) → has lost x ≡ true → (is_beyond x ≡ false) × (in_bytes a FRAME_SIZE x ≡ true)
 AreOfSave _ lost = Unit {0}
 
-open-saved : (hides : Bool) (f : Frames) (a : ℕ) (lost : List ℕ) (x : ℕ) → ((y : ℕ) → has lost y ≡ true → (is_beyond y ≡ false) × (in_bytes a FRAME_SIZE y ≡ true))
+open-saved : (hides : Bool) (f : Frames) (a : ℕ) (lost : List ℕ) (x : ℕ) → (hides ≡ true → has lost x ≡ true → (is_beyond x ≡ false) × (in_bytes a FRAME_SIZE x ≡ true))
     → is_open hides (with_marked (saved f a) lost) x ≡ true → (shows hides (has lost x) ≡ true) × (in_bytes a FRAME_SIZE x ≡ false → is_open hides f x ≡ true)
-open-saved hides f a lost x inside h = (by_lost (has lost x) refl h, λ out. beside (is_beyond x) (f.soft x) (in_bytes a FRAME_SIZE x) (has lost x) (f.marked x) (in_frames f.live x) out (λ t. let no : true ≡ false = sym (inside x t).1 ∙ out in cc no) h)
+open-saved hides f a lost x inside h = by_cases hides (has lost x) inside h
   where
-    by_lost : (b : Bool) → has lost x ≡ b → ((is_beyond x || not (in_bytes a FRAME_SIZE x || f.soft x)) || cond (shows hides (b || f.marked x)) (in_bytes a FRAME_SIZE x || in_frames f.live x) false) ≡ true → shows hides b ≡ true
-    by_lost false t k = shows-unmarked hides
-    by_lost true t k = let away = inside x t in within hides (is_beyond x) (in_bytes a FRAME_SIZE x) (f.soft x) (f.marked x) (in_frames f.live x) away.0 away.1 k
-      where
-        within : (hides beyond here soft m live : Bool) → beyond ≡ false → here ≡ true → ((beyond || not (here || soft)) || cond (shows hides (true || m)) (here || live) false) ≡ true → shows hides true ≡ true
-        within hides beyond here soft m live e d k = grind arith
+    by_cases : (hides l : Bool) → (hides ≡ true → l ≡ true → (is_beyond x ≡ false) × (in_bytes a FRAME_SIZE x ≡ true)) → ((is_beyond x || not (in_bytes a FRAME_SIZE x || f.soft x)) || cond (shows hides (l || f.marked x)) (in_bytes a FRAME_SIZE x || in_frames f.live x) false) ≡ true
+        → (shows hides l ≡ true) × (in_bytes a FRAME_SIZE x ≡ false → is_open hides f x ≡ true)
+    by_cases true true away k = let here = away refl refl in absurd (grind arith)
+    by_cases _ _ away k = (grind arith, λ out. grind arith)
 
-    beside : (beyond soft here l m live : Bool) → here ≡ false → (l ≡ true → ⊥) → ((beyond || not (here || soft)) || cond (shows hides (l || m)) (here || live) false) ≡ true → ((beyond || not soft) || cond (shows hides m) live false) ≡ true
-    beside beyond soft false false m live o n k = k
-    beside beyond soft false true m live o n k = absurd (n refl)
-    beside beyond soft true l m live o n k = absurd cc
-
-saves-agree : (hides : Bool) (f : Frames) (m : Memory) (bytes : ℕ → ℕ) (a : ℕ) (lost : List ℕ) (vs ws : List ℕ) → AreOfSave (Saves a vs) lost → IsWhole (Saves a vs) → AreMovesAlike hides lost (Saves a vs) (Saves a ws)
-    → AgreeWhere (is_open hides f) m bytes → AgreeWhere (is_open hides (with_marked (saved f a) lost)) (memory_after m (Saves a vs)) (memory_after (with_other m bytes) (Saves a ws)).bytes
-saves-agree hides f m bytes a lost vs ws inside whole alike same = λ x h.
-    let bs = alike.1.0 in
-    let found = open-saved hides f a lost x inside h in
+-- frames whose bytes are alike are saved
+saves-agree : (hides : Bool) (f : Frames) (m : Memory) (bytes : ℕ → ℕ) (a : ℕ) (lost : List ℕ) (vs ws : List ℕ) → (hides ≡ true → AreOfSave (Saves a vs) lost) → IsWhole (Saves a vs)
+    → AreWritesAlike hides lost (upwards a (bytes_of_words m a vs)) (upwards a (bytes_of_words m a ws)) → AgreeWhere (is_open hides f) m bytes
+    → AgreeWhere (is_open hides (with_marked (saved f a) lost)) (memory_after m (Saves a vs)) (memory_after (with_other m bytes) (Saves a ws)).bytes
+saves-agree hides f m bytes a lost vs ws inside whole writes same = λ x h.
+    let found = open-saved hides f a lost x (λ e t. inside e x t) h in
     let xs = bytes_of_words m a vs in
-    let ys = bytes_of_words m a ws in
     let long : length xs ≡ FRAME_SIZE = words_long m a vs ∙ ap (λ (n : ℕ). 4 * n) whole in
     let put : is_put (upwards a xs) x ≡ in_bytes a FRAME_SIZE x = is_put-upwards a xs x ∙ ap (λ (n : ℕ). in_bytes a n x) long in
-    let writes : AreWritesAlike hides lost (upwards a xs) (upwards a ys) =
-    subst (λ (l : List ℕ). AreWritesAlike hides l (upwards a xs) (upwards a ys)) (sym alike.1.1) (writes-picked hides wrapped a (byte_marks bs) xs ys (bytes-alike hides m a bs vs ws alike.1.2)) in
     ap (λ (k : Memory). k.bytes x) (words_as_bytes (with_other m bytes) a ws ∙ ap (with_bytes (with_other m bytes) a) (stored_words_same m bytes a ws))
-    ∙ stored-alike hides lost m.bytes bytes (upwards a xs) (upwards a ys) x writes (λ p. same x (open-port hides f x p)) (λ p. found.0) (λ out. same x (found.1 (sym put ∙ out)))
+    ∙ stored-alike hides lost m.bytes bytes (upwards a xs) (upwards a (bytes_of_words m a ws)) x writes (λ p. same x (open-port hides f x p)) (λ p. found.0) (λ out. same x (found.1 (sym put ∙ out)))
     ∙ sym (ap (λ (k : Memory). k.bytes x) (words_as_bytes m a vs))
 
-move-agree : (hides : Bool) (v w : Move) (lost : List ℕ) (f : Frames) (m : Memory) (bytes : ℕ → ℕ) → AreOfSave v lost → IsWhole v → AreMovesAlike hides lost v w → AgreeWhere (is_open hides f) m bytes
+-- the words of a frame that is saved are alike, and so are its bytes
+save-alike : (hides : Bool) (m : Memory) (a : ℕ) (lost : List ℕ) (vs ws : List ℕ) → AreMovesAlike hides lost (Saves a vs) (Saves a ws) → AreWritesAlike hides lost (upwards a (bytes_of_words m a vs)) (upwards a (bytes_of_words m a ws))
+save-alike hides m a lost vs ws alike =
+    let bs = alike.1.0 in
+    rw alike.1.1 (writes-picked hides wrapped a (byte_marks bs) (bytes_of_words m a vs) (bytes_of_words m a ws) (bytes-alike hides m a bs vs ws alike.1.2))
+
+move-agree : (hides : Bool) (v w : Move) (lost : List ℕ) (f : Frames) (m : Memory) (bytes : ℕ → ℕ) → (hides ≡ true → AreOfSave v lost) → IsWhole v → AreMovesAlike hides lost v w → AgreeWhere (is_open hides f) m bytes
     → AgreeWhere (is_open hides (with_marked (frames_after f v) lost)) (memory_after m v) (memory_after (with_other m bytes) w).bytes
-move-agree hides Stays w lost f m bytes inside whole alike same = λ x h. ap (λ (u : Move). (memory_after (with_other m bytes) u).bytes x) alike ∙ same x (open-marked hides f lost x h)
-move-agree hides Returns w lost f m bytes inside whole alike same = λ x h. ap (λ (u : Move). (memory_after (with_other m bytes) u).bytes x) alike ∙ same x (open-returned hides f x (open-marked hides (returned f) lost x h))
-move-agree hides Flushes w lost f m bytes inside whole alike same = λ x h. ap (λ (u : Move). (memory_after (with_other m bytes) u).bytes x) alike ∙ same x (open-flushed hides f x (open-marked hides (flushed f) lost x h))
+move-agree hides Stays w lost f m bytes inside whole alike same = λ x h. rw alike (same x (open-marked hides f lost x h))
+move-agree hides Returns w lost f m bytes inside whole alike same = λ x h. rw alike (same x (open-returned hides f x (open-marked hides (returned f) lost x h)))
+move-agree hides Flushes w lost f m bytes inside whole alike same = λ x h. rw alike (same x (open-flushed hides f x (open-marked hides (flushed f) lost x h)))
 move-agree hides (Saves a vs) (Saves b ws) lost f m bytes inside whole alike same = λ x h.
-    ap (λ (c : ℕ). (memory_after (with_other m bytes) (Saves c ws)).bytes x) alike.0 ∙ saves-agree hides f m bytes a lost vs ws inside whole (refl, alike.1) same x h
+    rw alike.0 (saves-agree hides f m bytes a lost vs ws inside whole (save-alike hides m a lost vs ws (refl, alike.1)) same x h)
 move-agree hides (Saves a vs) _ lost f m bytes inside whole alike same = absurd alike
+
+-- the same move keeps states that are alike so
+pub move_alike : (v : Move) (f : Frames) (m : Memory) (bytes : ℕ → ℕ) → IsWhole v → AgreeWhere (is_open false f) m bytes → AgreeWhere (is_open false (frames_after f v)) (memory_after m v) (memory_after (with_other m bytes) v).bytes
+move_alike (Saves a ws) f m bytes whole same = saves-agree false f m bytes a [] ws ws (λ e. absurd cc) whole (writes-same false [] (upwards a (bytes_of_words m a ws))) same
+move_alike Stays f m bytes whole same = same
+move_alike Returns f m bytes whole same = λ x h. same x (open-returned false f x h)
+move_alike Flushes f m bytes whole same = λ x h. same x (open-flushed false f x h)
+
+-- no move changes a configuration word
+pub move_mcon : (v : Move) (m : Memory) → (memory_after m v).mcon ≡ m.mcon
+move_mcon (Saves save words) m = ap (λ (k : Memory). k.mcon) (words_as_bytes m save words)
+move_mcon _ m = refl
 
 -- frames go by addresses alone
 move-frames : (hides : Bool) (v w : Move) (lost : List ℕ) (f : Frames) → AreMovesAlike hides lost v w → frames_after f w ≡ frames_after f v
@@ -173,8 +176,8 @@ moved-agree hides s t a b inside alike agree =
       regs = λ r h.
           let shown = shows-after hides s.marks a.sets a.marked r h in
           written-alike hides a.marked s.regs regs a.sets b.sets r alike.sets shown.0 (λ out. agree.regs r (shown.1 out));
-      bytes = writes-agree hides (with_marked (frames_after s.frames a.move) a.lost) (memory_after s.memory a.move) k.bytes a.writes b.writes a.stale inside.stale alike.writes
-          (move-agree hides a.move b.move a.lost s.frames s.memory bytes inside.lost inside.whole alike.move agree.bytes);
+      bytes = writes-agree hides (with_marked (frames_after s.frames a.move) a.lost) (memory_after s.memory a.move) k.bytes a.writes b.writes a.stale (λ e. inside.stale) alike.writes
+          (move-agree hides a.move b.move a.lost s.frames s.memory bytes (λ e. inside.lost) inside.whole alike.move agree.bytes);
       reading = agree.reading;
     } in
     let same : moved t b ≡ with_values (moved s a) (written regs b.sets) (stored k.bytes b.writes) reading =

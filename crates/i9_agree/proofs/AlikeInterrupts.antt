@@ -2,7 +2,7 @@
 use Rattle.std.proofs.Common.{◌≡◌, ℕ, ◌+◌, ◌/◌, ◌%◌, ◌<◌, Bool, true, false, cond, List, [], ◌∷◌, ◌++◌, Option, Some, None, Result, Ok, refl, ap, ◌∙◌, arith}
 use Rattle.std.specs.Prelude.{not, ◌&&◌, ◌||◌, ◌==◌, nat_le}
 use Rattle.i9_isa.specs.Words.{bit}
-use Rattle.i9_model.specs.declared.layout.TheConstants.{FRAME_SIZE, RECORD_SIZE, INTERRUPT_RETURN}
+use Rattle.i9_model.specs.declared.layout.TheConstants.{RECORD_SIZE, INTERRUPT_RETURN}
 use Rattle.i9_model.specs.declared.push.Push.{Push}
 use Rattle.i9_model.specs.declared.faults.Entry.{Entry}
 use Rattle.i9_model.specs.declared.interrupts.Cause.{Cause}
@@ -12,12 +12,12 @@ use Rattle.i9_model.specs.declared.interrupts.TheConstants.{PENDING_SIZE, PENDIN
 use Rattle.i9_model.specs.Writes.{address_count, upwards}
 use Rattle.i9_model.specs.Memory.{Memory, in_port_page, stored, with_writes}
 use Rattle.i9_model.specs.State.{State, Frames, Interrupts, aligned}
-use Rattle.i9_model.specs.Frames.{in_bytes, is_put, saved, wrote, record_address, pushed}
+use Rattle.i9_model.specs.Frames.{is_put, saved, wrote, record_address, pushed}
 use Rattle.i9_model.specs.Calls.{Caller, save_area}
 use Rattle.i9_model.specs.Hazards.{or_else, unless, read_hazard, record_write_hazard}
 use Rattle.i9_model.specs.Interrupts.{vector_priority, priority_place, pending_place, is_requested, chosen_of, chosen, chosen_soft, without_bit, byte_hazard, left_pending, taken_writes, priority_hazard, taken_hazard, clearing_writes, clearing_hazard, vector_place, interrupt_push, interrupt_record, record_writes, cleared_hazard, interrupt_hazard, interrupt_entry, planned_interrupt, planned_interrupt_by}
 use Rattle.i9_model.specs.Before.{choice_in, entry_writes}
-use Rattle.i9_model.specs.Alike.{is_beyond, is_hard, AgreeWhere, with_other, with_memory}
+use Rattle.i9_model.specs.Alike.{is_hard, AgreeWhere, with_other, with_memory}
 use Rattle.i9_model.proofs.CallLaws.{first_none, second_none}
 use Rattle.i9_model.proofs.Readings.{byte_same, first_same, word_same}
 use Rattle.i9_model.proofs.Storing.{stored_agree, stored_words_same}

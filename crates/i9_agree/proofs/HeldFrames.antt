@@ -9,7 +9,7 @@ use Rattle.i9_model.specs.declared.frame.Frame.{Frame}
 use Rattle.i9_model.specs.Writes.{address_count}
 use Rattle.i9_model.specs.Memory.{Memory, in_port_page, with_writes, with_words}
 use Rattle.i9_model.specs.State.{State, Frames}
-use Rattle.i9_model.specs.Frames.{in_bytes, in_frames, is_put, saved, returned, wrote}
+use Rattle.i9_model.specs.Frames.{in_bytes, in_frames, is_put, saved, returned}
 use Rattle.i9_model.specs.Hazards.{writes_hazard}
 use Rattle.i9_model.specs.Sound.{AreApart, IsSound}
 use Rattle.i9_model.specs.Step.{Move, Stays, Saves, Returns, Flushes, Action, memory_after, frames_after, moved}
@@ -18,7 +18,8 @@ use Rattle.i9_model.proofs.Among.{bytes-among, among-address}
 use Rattle.i9_model.specs.HeldFrames.{Cache, frame_at, over, overlaid, spilled, with_room, holding, cache_moved, cache_acted, youngest_first, AreWhole, AreYoungest}
 use Rattle.i9_model.proofs.FrameLaws.{writes_hazard-none}
 use Rattle.i9_model.specs.Free.{IsWhole}
-use Rattle.i9_agree.proofs.AlikeMoves.{stored_alike, softened_compared}
+use Rattle.i9_agree.proofs.Agreeing.{writes-same}
+use Rattle.i9_agree.proofs.AgreeMoves.{writes-agree}
 use Rattle.i9_agree.proofs.Overlays.{over_push, overlaid_holding, words_kept, AreBeside, over_stored, AreKept, over_kept}
 
 -- ---- the youngest live frames are held
@@ -177,7 +178,7 @@ acted_stands n s a c is sound y whole free = λ x h.
     let still = move_keeps n a.move c s.frames whole y in
     let m = memory_after (overlaid c) a.move in
     ap (λ (k : Memory). k.bytes x) (over_stored d.held d.behind a.writes still.whole (write_beside f a.writes d.held still free))
-    ∙ stored_alike f m (overlaid d).bytes a.writes (move_stands n a.move c s.frames sound y) x (softened_compared (wrote f a.writes) a.stale x h)
+    ∙ writes-agree false f m (overlaid d).bytes a.writes a.writes a.stale (λ e. absurd cc) (writes-same false a.stale a.writes) (move_stands n a.move c s.frames sound y) x h
     ∙ sym (ap (λ (k : Memory). (with_writes (memory_after k a.move) a.writes).bytes x) is)
 
 -- ---- the memory behind

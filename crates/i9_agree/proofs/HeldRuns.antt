@@ -9,7 +9,7 @@ use Rattle.i9_model.specs.Boot.{setup_of}
 use Rattle.i9_model.specs.Tables.{group_words}
 use Rattle.i9_model.specs.State.{State, Frames, started, boot}
 use Rattle.i9_model.specs.Controls.{Control, KeepsControls, Restarts, LoadsGroup, controlled}
-use Rattle.i9_model.specs.Step.{Move, Stays, Saves, Returns, Flushes, Action, memory_after, moved, acted, counted}
+use Rattle.i9_model.specs.Step.{Move, Stays, Saves, Returns, Flushes, Action, frames_after, memory_after, moved, acted, counted}
 use Rattle.i9_model.specs.Sound.{IsSound}
 use Rattle.i9_model.specs.Run.{Given, action_by_kind, action_done, counts_of, Record, record_of, Does, state_after, due_after, next_in, next_with, IsPastOfSome}
 use Rattle.i9_model.specs.declared.run.Due.{Due}
@@ -20,7 +20,8 @@ use Rattle.i9_model.proofs.Stored.{with_none}
 use Rattle.i9_model.proofs.ControlLaws.{flagged-others, acted-frames}
 use Rattle.i9_past.proofs.Comes.{next_comes}
 use Rattle.i9_agree.proofs.SoundRuns.{kind_clear, sound-after}
-use Rattle.i9_agree.proofs.AlikeMoves.{move_mcon, moved_alike}
+use Rattle.i9_agree.proofs.Agreeing.{writes-same}
+use Rattle.i9_agree.proofs.AgreeMoves.{writes-agree, move_alike, move_mcon}
 use Rattle.i9_agree.proofs.AgreeSteps.{controlled_bytes, group-rest}
 use Rattle.i9_agree.proofs.Overlays.{words_mcon, over_mcon}
 use Rattle.i9_agree.proofs.HeldFrames.{move_keeps, acted_stands}
@@ -91,14 +92,16 @@ cached-acted n s a c sound free cached =
     let bytes = (overlaid c).bytes in
     let t = with_memory s bytes in
     let stands = acted_stands n t a c (overlaid_memory s c cached.regions) sound cached.youngest free.whole free.free in
-    let alike = moved_alike s a bytes free.whole cached.bytes in
+    let moves = move_alike a.move s.frames s.memory bytes free.whole cached.bytes in
+    let f = frames_after s.frames a.move in
+    let alike = writes-agree false f (memory_after s.memory a.move) (memory_after t.memory a.move).bytes a.writes a.writes a.stale (λ e. absurd cc) (writes-same false a.stale a.writes) moves in
     let frames = acted-frames s a in
     record {
       bytes = λ x h.
           let compared : is_compared (moved s a).frames x ≡ true = ap (λ (f : Frames). is_compared f x) (sym frames) ∙ h in
           ap (λ (b : ℕ → ℕ). b x) (configured_same (acted s a).memory (cache_acted n a c) (regions_after n s a c free.controls cached.regions))
           ∙ stands x compared
-          ∙ alike.bytes x compared
+          ∙ alike x compared
           ∙ sym (ap (λ (b : ℕ → ℕ). b x) (acted_bytes s a));
       regions = refl;
       youngest = subst (λ (f : Frames). AreYoungest (cache_moved n a.move c).held f.live) (sym frames) (move_keeps n a.move c s.frames free.whole cached.youngest);

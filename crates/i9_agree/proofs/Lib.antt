@@ -3,7 +3,6 @@ pub mod SoundRuns
 pub mod AlikeActions
 pub mod SecondWords
 pub mod AlikeFetches
-pub mod AlikeMoves
 pub mod Agreeing
 pub mod AgreeMoves
 pub mod AgreeActions
