@@ -16,8 +16,9 @@ use Rattle.i9_model.specs.State.{State}
 use Rattle.i9_model.specs.Needs.{set_below}
 use Rattle.i9_model.specs.Overlay.{overlay}
 use Rattle.i9_model.specs.declared.run.End.{End}
-use Rattle.i9_model.specs.declared.run.End.TheVariants.{Exit, Limit, Hazard, Dead, Imprecise}
-use Rattle.i9_model.specs.Run.{Finish, Kind, Instruction, Faulted, Entered, Interrupted, Reached, Record, point_of, action_by_kind, action_done}
+use Rattle.i9_model.specs.declared.run.End.TheVariants.{Imprecise}
+use Rattle.i9_model.specs.Run.{Finish, Kind, Reached, Record, point_of, action_by_kind, action_done, reached_by}
+use Rattle.i9_model.specs.ScheduleText.{timed_at}
 use Rattle.i9_model.specs.declared.run.Point.{Point}
 use Rattle.i9_model.specs.PrintedText.{Shown, Journal, Bytes, Last, register_list, view_of, out_lines, point_lines, overlays, bytes_lines, event_lines, record_lines, journal_lines, last_lines, end_lines, spaced, words_text, drained_text, point_text, spaced_register, registers_text, point_shown, shown_text, text_of}
 use Rattle.i9_model.specs.Alike.{shows, Agree, DoAgree}
@@ -31,8 +32,7 @@ mark-bit : (p : ℕ → Bool) (r : ℕ) → r < 32 → bit (set_below 32 p) r �
 mark-bit p r lt = ap (λ (n : ℕ). n == 1) (set_bits 32 r p lt) ∙ as_bool (p r)
   where
     as_bool : (b : Bool) → (from_bool b == 1) ≡ b
-    as_bool true = refl
-    as_bool false = refl
+    as_bool b = grind arith
 
 listed : (f : ℕ → ℕ) (r : ℕ) → r < 32 → slice_index (register_list f) r ≡ f r
 unfolding register_list
@@ -62,15 +62,13 @@ register-same s t r lt agree =
     ∙ sym (register-shown s r lt)
   where
     by_mark : (b : Bool) → (shows true b ≡ true → t.regs r ≡ s.regs r) → cond b (codes " --------") (spaced (t.regs r)) ≡ cond b (codes " --------") (spaced (s.regs r))
-    by_mark true e = refl
-    by_mark false e = ap (λ (w : ℕ). spaced w) (e refl)
+    by_mark b e = grind arith
 
 registers-same : (s t : State) (a n : ℕ) → a + n ≤ 32 → Agree true s t
     → flat_map (spaced_register (view_of t)) (range_with_len a n) ≡ flat_map (spaced_register (view_of s)) (range_with_len a n)
 registers-same s t a zero most agree = refl
 registers-same s t a (suc n) most agree =
-    ap (λ (x : List ℕ). x ++ flat_map (spaced_register (view_of t)) (range_with_len (a + 1) n)) (register-same s t a (omega (arith, most)) agree)
-    ∙ ap (λ (x : List ℕ). spaced_register (view_of s) a ++ x) (registers-same s t (a + 1) n (omega (arith, most)) agree)
+    rw (register-same s t a (omega (arith, most)) agree, registers-same s t (a + 1) n (omega (arith, most)) agree) refl
 
 line-same : (label : List ℕ) (s t : State) (first : ℕ) → first + 16 ≤ 32 → Agree true s t → registers_text label (view_of t) first ≡ registers_text label (view_of s) first
 unfolding registers_text
@@ -83,11 +81,7 @@ heading-same k s t agree =
 
 pub point-shown-same : (k : Point) (s t : State) → Agree true s t → point_shown k (view_of t) ≡ point_shown k (view_of s)
 point-shown-same k s t agree =
-    let globals = line-same (codes "#g") s t 16 (omega arith) agree in
-    let locals = line-same (codes "#l") s t 0 (omega arith) agree in
-    ap (λ (x : List ℕ). x ++ (registers_text (codes "#g") (view_of t) 16 ++ registers_text (codes "#l") (view_of t) 0)) (heading-same k s t agree)
-    ∙ ap (λ (x : List ℕ). point_text k (view_of s) ++ (x ++ registers_text (codes "#l") (view_of t) 0)) globals
-    ∙ ap (λ (x : List ℕ). point_text k (view_of s) ++ (registers_text (codes "#g") (view_of s) 16 ++ x)) locals
+    rw (heading-same k s t agree, line-same (codes "#g") s t 16 (omega arith) agree, line-same (codes "#l") s t 0 (omega arith) agree) refl
 
 -- ---- the lines of a record
 
@@ -100,28 +94,24 @@ overlays-same s t a n agree = by_places (range_with_len 0 n)
   where
     by_places : (ks : List ℕ) → map (λ k. overlay t (wrapped (a + k))) ks ≡ map (λ k. overlay s (wrapped (a + k))) ks
     by_places [] = refl
-    by_places (k ∷ ks) =
-        ap (λ (b : Option ℕ). b ∷ map (λ j. overlay t (wrapped (a + j))) ks) (overlay-agree s t (wrapped (a + k)) agree) ∙ ap (λ (bs : List (Option ℕ)). overlay s (wrapped (a + k)) ∷ bs) (by_places ks)
+    by_places (k ∷ ks) = cc (overlay-agree s t (wrapped (a + k)) agree, by_places ks)
 
 bytes-same : (e : Event) (s t : State) → Agree true s t → bytes_lines e t ≡ bytes_lines e s
-bytes-same (events.Pin x) s t agree = refl
-bytes-same (events.Low x) s t agree = refl
-bytes-same (events.High x) s t agree = refl
-bytes-same events.Nmi s t agree = refl
-bytes-same (events.Dma c) s t agree = refl
-bytes-same (events.Feed c bytes) s t agree = refl
 bytes-same (events.Show a n) s t agree = ap (λ (bs : List (Option ℕ)). Bytes a bs ∷ []) (overlays-same s t a n agree)
+bytes-same _ s t agree = refl
 
 journal-same : (e : Event) (s t : State) → Agree true s t → ◌≡◌ {A = List Shown} (Journal t.count e ∷ bytes_lines e t) (Journal s.count e ∷ bytes_lines e s)
 journal-same e s t agree =
     ap (λ (u : State). Journal u.count e ∷ bytes_lines e t) agree.rest ∙ ap (λ (ls : List Shown). Journal s.count e ∷ ls) (bytes-same e s t agree)
 
-events-same : (k : Kind) (s t : State) → Agree true s t → event_lines k t ≡ event_lines k s
-events-same (Instruction i) s t agree = refl
-events-same (Faulted inst fault) s t agree = refl
-events-same (Entered e) s t agree = refl
-events-same (Interrupted c e) s t agree = refl
+pub events-same : (k : Kind) (s t : State) → Agree true s t → event_lines k t ≡ event_lines k s
 events-same (Reached e u) s t agree = journal-same e s t agree
+events-same _ s t agree = refl
+
+-- which event was reached
+pub reached-same : (k : Kind) (s t : State) → Agree true s t → reached_by k t ≡ reached_by k s
+reached-same (Reached e u) s t agree = ap (λ (v : State). timed_at v.count e ∷ []) agree.rest
+reached-same _ s t agree = refl
 
 three : (xs ys zs : List Shown) → text_of (xs ++ (ys ++ zs)) ≡ text_of xs ++ (text_of ys ++ text_of zs)
 three xs ys zs = flat_map-append shown_text xs (ys ++ zs) ∙ ap (λ (b : List ℕ). text_of xs ++ b) (flat_map-append shown_text ys zs)
@@ -142,11 +132,8 @@ record-text-same r q same =
 -- ---- the end of a run
 
 last-same : (f : End) (s t : State) → Agree true s t → text_of (last_lines (view_of t) f) ≡ text_of (last_lines (view_of s) f)
-last-same (Exit w) s t agree = ap (λ (x : List ℕ). x ++ text_of (Last (Exit w) ∷ [])) (point-shown-same points.End s t agree)
-last-same Limit s t agree = ap (λ (x : List ℕ). x ++ text_of (Last Limit ∷ [])) (point-shown-same points.End s t agree)
-last-same (Hazard a) s t agree = ap (λ (x : List ℕ). x ++ text_of (Last (Hazard a) ∷ [])) (point-shown-same points.End s t agree)
-last-same (Dead code a) s t agree = ap (λ (x : List ℕ). x ++ text_of (Last (Dead code a) ∷ [])) (point-shown-same points.End s t agree)
 last-same (Imprecise a) s t agree = refl
+last-same f s t agree = ap (λ (x : List ℕ). x ++ text_of (Last f ∷ [])) (point-shown-same points.End s t agree)
 
 pub end-text-same : (f : Finish) (s t : State) → Agree true s t → text_of (end_lines t f) ≡ text_of (end_lines s f)
 end-text-same f s t agree =

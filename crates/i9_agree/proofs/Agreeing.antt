@@ -58,10 +58,7 @@ values-marked hides b (suc n) (v ∷ vs) (w ∷ ws) e d same = (
   (λ h. let all = same h in let one : w ≡ v = cc in one),
   values-marked hides b n vs ws (omega (arith, e)) (omega (arith, d)) (λ h. let all = same h in let rest : ws ≡ vs = cc in rest),
 )
-values-marked hides b zero (v ∷ vs) ws e d same = absurd (omega (arith, e))
-values-marked hides b zero [] (w ∷ ws) e d same = absurd (omega (arith, d))
-values-marked hides b (suc n) [] ws e d same = absurd (omega (arith, e))
-values-marked hides b (suc n) (v ∷ vs) [] e d same = absurd (omega (arith, d))
+values-marked hides b _ _ _ e d same = absurd (omega arith)
 
 -- in a row of numbers
 pub values-mapped : (hides : Bool) (f : ℕ → Bool) (g h : ℕ → ℕ) (a n : ℕ) → ((k : ℕ) → k < a + n → shows hides (f k) ≡ true → h k ≡ g k)

@@ -25,12 +25,8 @@ use Rattle.i9_agree.proofs.HeldRuns.{cached-after}
 -- ---- a word by its four bytes
 
 pub four_list : (bs : List ℕ) → length bs ≡ 4 → get_or bs 0 0 ∷ get_or bs 1 0 ∷ get_or bs 2 0 ∷ get_or bs 3 0 ∷ [] ≡ bs
-four_list [] h = absurd (omega arith)
-four_list (a ∷ []) h = absurd (omega arith)
-four_list (a ∷ b ∷ []) h = absurd (omega arith)
-four_list (a ∷ b ∷ c ∷ []) h = absurd (omega arith)
 four_list (a ∷ b ∷ c ∷ d ∷ []) h = refl
-four_list (a ∷ b ∷ c ∷ d ∷ e ∷ bs) h = absurd (omega arith)
+four_list _ h = absurd (omega arith)
 
 pub by_order : (big : Bool) (w : ℕ) → w < 2 ^ 32 → cond big (from_be_bytes w32 (cond big (to_be_bytes w32 w) (to_le_bytes w32 w))) (from_le_bytes w32 (cond big (to_be_bytes w32 w) (to_le_bytes w32 w))) ≡ w
 by_order true w h = from_be_bytes-to_be_bytes_4 w h

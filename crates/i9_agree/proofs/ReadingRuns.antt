@@ -3,9 +3,9 @@ use Rattle.std.proofs.Common.{◌≡◌, ℕ, true, List, [], ◌∷◌, ◌++�
 use Rattle.std.proofs.lemmas.Grind.{flat_map-append}
 use Rattle.i9_model.specs.declared.event.Event.{Event}
 use Rattle.i9_model.specs.declared.event.Timed.{Timed}
-use Rattle.i9_model.specs.ScheduleText.{timed_at, standing}
+use Rattle.i9_model.specs.ScheduleText.{standing}
 use Rattle.i9_model.specs.State.{State, boot}
-use Rattle.i9_model.specs.Run.{Given, Finish, Kind, Instruction, Faulted, Entered, Interrupted, Reached, Record, Next, Does, Ends, due_by, state_after, due_after, reached_by, reached_after, event_after, next_in, next, IsPast, IsPastOf, IsRun}
+use Rattle.i9_model.specs.Run.{Given, Finish, Kind, Record, Next, Does, Ends, due_by, state_after, due_after, reached_by, reached_after, event_after, next_in, next, IsPast, IsPastOf, IsRun}
 use Rattle.i9_model.specs.declared.run.Due.{Due}
 use Rattle.i9_model.specs.PrintedText.{record_lines, end_lines, lines_of, shown_text, text_of, run_text}
 use Rattle.i9_model.specs.Alike.{Agree, DoAgree, NextsAgree}
@@ -14,16 +14,9 @@ use Rattle.i9_agree.proofs.SoundRuns.{sound-after}
 use Rattle.i9_past.proofs.Heedful.{past_of_some}
 use Rattle.i9_past.proofs.Unique.{same_records, same_end}
 use Rattle.i9_agree.proofs.AgreeSteps.{next-agree}
-use Rattle.i9_agree.proofs.AgreeTexts.{record-text-same, end-text-same}
+use Rattle.i9_agree.proofs.AgreeTexts.{record-text-same, reached-same, end-text-same}
 
 -- ---- records of one machine beside those of another
-
-reached-same : (k : Kind) (s t : State) → Agree true s t → reached_by k t ≡ reached_by k s
-reached-same (Instruction i) s t agree = refl
-reached-same (Faulted inst fault) s t agree = refl
-reached-same (Entered e) s t agree = refl
-reached-same (Interrupted c e) s t agree = refl
-reached-same (Reached e u) s t agree = ap (λ (v : State). timed_at v.count e ∷ []) agree.rest
 
 record AreBeside (g : Given) (b : State) (rs qs : List Record) : Type 0 where
   pub state : Agree true (state_after g rs) (state_from b qs)

@@ -49,13 +49,9 @@ unit_same f m bytes d c given same =
 -- what an event does goes by hard bytes alone
 pub received_same : (s : State) (bytes : ℕ → ℕ) (e : Event) → AgreeWhere (is_hard s.frames) s.memory bytes → received_in (with_memory s bytes) e ≡ received_in s e
 unfolding received_in
-received_same s bytes (events.Pin x) same = refl
-received_same s bytes (events.Low x) same = refl
-received_same s bytes (events.High x) same = refl
-received_same s bytes events.Nmi same = refl
 received_same s bytes (events.Dma c) same = ap (received_by s c) (unit_same s.frames s.memory bytes s.dma c None same)
 received_same s bytes (events.Feed c given) same = ap (received_by s c) (unit_same s.frames s.memory bytes s.dma c (Some given.items) same)
-received_same s bytes (events.Show a n) same = refl
+received_same s bytes _ same = refl
 
 -- ---- beside live frames
 
@@ -109,10 +105,6 @@ quiet_free s r u none is =
 -- what an event does writes beside live frames
 pub received_free : (s : State) (e : Event) (u : Received) → received_in s e ≡ Ok u → writes_hazard s.frames u.writes ≡ None
 unfolding received_in
-received_free s (events.Pin x) u is = quiet_free s _ u refl is
-received_free s (events.Low x) u is = quiet_free s _ u refl is
-received_free s (events.High x) u is = quiet_free s _ u refl is
-received_free s events.Nmi u is = quiet_free s _ u refl is
 received_free s (events.Dma c) u is = by_unit_free s c None (next_unit s.memory s.frames s.dma c None) u refl is
 received_free s (events.Feed c given) u is = by_unit_free s c (Some given.items) (next_unit s.memory s.frames s.dma c (Some given.items)) u refl is
-received_free s (events.Show a n) u is = quiet_free s _ u refl is
+received_free s _ u is = quiet_free s _ u refl is
