@@ -27,7 +27,7 @@ pub system_hazard_by_same : (f : Frames) (m : Memory) (bytes : ℕ → ℕ) (tab
 system_hazard_by_same f m bytes table n pc area same =
     let at = entry_address table n in
     or_else_same (read_hazard f at 4) _ _ (λ none.
-    ap (λ (w : ℕ). or_else (stack_hazard f table (is_switch w pc)) (area (is_switch w pc))) (word_same f m bytes at 4 same none (omega arith)))
+    rw (word_same f m bytes at 4 same none (omega arith)) refl)
 
 pub system_hazard_same : (f : Frames) (m : Memory) (bytes : ℕ → ℕ) (table n pc fp : ℕ) → AgreeWhere (is_hard f) m bytes → system_hazard (with_other m bytes) f table n pc fp ≡ system_hazard m f table n pc fp
 unfolding system_hazard
@@ -45,10 +45,9 @@ entered_same : (f : Frames) (m : Memory) (bytes : ℕ → ℕ) (table entry pc f
     → cond switched (entered_switched entry (word_in (with_other m bytes) (stack_address table)) pc fp2 extra (kind true)) (entered_here entry pc fp2 sp2 extra (kind false))
     ≡ cond switched (entered_switched entry (word_in m (stack_address table)) pc fp extra (kind true)) (entered_here entry pc fp sp extra (kind false))
 entered_same f m bytes table entry pc fp sp fp2 sp2 extra kind false same none one two =
-    ap (λ (x : ℕ). entered_here entry pc x sp2 extra (kind false)) one ∙ ap (λ (x : ℕ). entered_here entry pc fp x extra (kind false)) (two refl)
+    rw (one, two refl) refl
 entered_same f m bytes table entry pc fp sp fp2 sp2 extra kind true same none one two =
-    ap (λ (w : ℕ). entered_switched entry w pc fp2 extra (kind true)) (word_same f m bytes (stack_address table) 4 same none (omega arith))
-    ∙ ap (λ (x : ℕ). entered_switched entry (word_in m (stack_address table)) pc x extra (kind true)) one
+    rw (word_same f m bytes (stack_address table) 4 same none (omega arith), one) refl
 
 pub system_by_same : (c : Caller) (bytes : ℕ → ℕ) (table n fp sp extra : ℕ) (kind : Bool → ℕ) (area : Bool → Option ℕ) → AgreeWhere (is_hard c.frames) c.memory bytes → AreKnown area c.fp c.sp fp sp → system_hazard_by c.memory c.frames table n c.pc area ≡ None
     → system_entered (other_caller c bytes fp sp) table n extra kind ≡ system_entered c table n extra kind
@@ -63,8 +62,8 @@ system_by_same c bytes table n fp sp extra kind area same known none =
     let later = second_none (read_hazard f at 4) (or_else stack (area switched)) none in
     let read = first_none (read_hazard f at 4) (or_else stack (area switched)) none in
     let push = known switched (second_none stack (area switched) later) in
-    ap (λ (w : ℕ). cond (is_switch w c.pc) (entered_switched w (word_in (with_other m bytes) (stack_address table)) c.pc fp extra (kind true)) (entered_here w c.pc fp sp extra (kind false))) (word_same f m bytes at 4 same read (omega arith))
-    ∙ entered_same f m bytes table entry c.pc c.fp c.sp fp sp extra kind switched same (first_none stack (area switched) later) push.0 push.1
+    rw (word_same f m bytes at 4 same read (omega arith))
+    (entered_same f m bytes table entry c.pc c.fp c.sp fp sp extra kind switched same (first_none stack (area switched) later) push.0 push.1)
 
 pub system_same : (c : Caller) (bytes : ℕ → ℕ) (table n extra : ℕ) (kind : Bool → ℕ) → AgreeWhere (is_hard c.frames) c.memory bytes → system_hazard c.memory c.frames table n c.pc c.fp ≡ None
     → system_entered (other_caller c bytes c.fp c.sp) table n extra kind ≡ system_entered c table n extra kind
@@ -72,17 +71,16 @@ unfolding system_hazard
 system_same c bytes table n extra kind same none = system_by_same c bytes table n c.fp c.sp extra kind (save_area c.frames c.fp) same (λ b e. (refl, λ d. refl)) none
 
 pub saved_pc_same : (f : Frames) (m : Memory) (bytes : ℕ → ℕ) (kind fp pc : ℕ) → AgreeWhere (is_hard f) m bytes → controls_hazard f kind fp ≡ None → returned_pc (with_other m bytes) kind fp pc ≡ returned_pc m kind fp pc
-saved_pc_same f m bytes kind fp pc same none = by_record (in_supervisor_mode pc) (takes_record kind) none
+saved_pc_same f m bytes kind fp pc same none = by_record (takes_record kind) none
   where
     a : ℕ
     a = record_address fp
 
-    by_record : (supervisor takes : Bool) → cond takes (record_hazard f fp) None ≡ None
-        → cond (not supervisor) pc (cond takes (bit_and (word_in (with_other m bytes) a) PC_MASK) (cond (leaves_supervisor kind) (without_supervisor pc (kind % 2)) pc))
-        ≡ cond (not supervisor) pc (cond takes (bit_and (word_in m a) PC_MASK) (cond (leaves_supervisor kind) (without_supervisor pc (kind % 2)) pc))
-    by_record false takes e = refl
-    by_record true false e = refl
-    by_record true true e = ap (λ (w : ℕ). bit_and w PC_MASK) (word_same f m bytes a 4 same (first_none (read_hazard f a 4) (read_hazard f (wrapped (a + 4)) 4) e) (omega arith))
+    by_record : (takes : Bool) → cond takes (record_hazard f fp) None ≡ None
+        → cond (not (in_supervisor_mode pc)) pc (cond takes (bit_and (word_in (with_other m bytes) a) PC_MASK) (cond (leaves_supervisor kind) (without_supervisor pc (kind % 2)) pc))
+        ≡ cond (not (in_supervisor_mode pc)) pc (cond takes (bit_and (word_in m a) PC_MASK) (cond (leaves_supervisor kind) (without_supervisor pc (kind % 2)) pc))
+    by_record false e = refl
+    by_record true e = rw (word_same f m bytes a 4 same (first_none (read_hazard f a 4) (read_hazard f (wrapped (a + 4)) 4) e) (omega arith)) refl
 
 pub saved_ac_same : (f : Frames) (m : Memory) (bytes : ℕ → ℕ) (kind fp ac : ℕ) → AgreeWhere (is_hard f) m bytes → controls_hazard f kind fp ≡ None → returned_ac (with_other m bytes) kind fp ac ≡ returned_ac m kind fp ac
 saved_ac_same f m bytes kind fp ac same none = by_record (takes_record kind) none
@@ -108,5 +106,4 @@ request_same f m bytes table v same none =
     let written = or_else (byte_hazard f p) (byte_hazard f q) in
     let first : bytes p ≡ m.bytes p = first_same f m bytes p 1 same (first_none one (or_else two written) none) (omega arith) in
     let second : bytes q ≡ m.bytes q = first_same f m bytes q 1 same (first_none two written (second_none one (or_else two written) none)) (omega arith) in
-    ap (λ (b : ℕ). (p, with_bit b (vector_priority v % 8)) ∷ (q, with_bit (bytes q) (v % 8)) ∷ []) first
-    ∙ ap (λ (b : ℕ). (p, with_bit (m.bytes p) (vector_priority v % 8)) ∷ (q, with_bit b (v % 8)) ∷ []) second
+    rw (first, second) refl

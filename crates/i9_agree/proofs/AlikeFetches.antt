@@ -2,7 +2,7 @@
 -- fault is entered.
 use Rattle.std.proofs.Common.{◌≡◌, ℕ, ◌+◌, Bool, true, false, cond, eqb, nat_le, Option, Some, None, Result, Ok, Err, refl, sym, ap, ◌∙◌, inl, inr, arith}
 use Rattle.std.specs.Prelude.{◌⊎◌}
-use Rattle.std.proofs.lemmas.Bool.{eqb-true}
+use Rattle.std.proofs.lemmas.Bool.{cases_Bool, eqb-true}
 use Rattle.i9_isa.specs.declared.inst.Mode.{Mode}
 use Rattle.i9_isa.specs.declared.inst.Mode.TheVariants.{Offset, BaseOffset, Base, Ip, BaseIndex, Disp, BaseDisp, IndexDisp, BaseIndexDisp}
 use Rattle.i9_isa.specs.declared.inst.Inst.{Inst}
@@ -56,33 +56,14 @@ unfolding fetch_hazard
 fetch_hazard_same s bytes same =
     let t = with_memory s bytes in
     or_else_same (read_hazard s.frames s.ip 4) _ _ (λ none.
-    ap (λ (w : ℕ). second_hazard t (decoded w (next_word t))) (first_word_same s bytes same none)
-    ∙ second_hazard_same s bytes (decoded (first_word s) (next_word s)) (decoded (first_word s) (next_word t)) (decoded_alike (first_word s) (next_word s) (next_word t)))
-
--- an instruction has one word or two
-one_or_two : (i : Inst) → (words_of i ≡ 1) ⊎ (words_of i ≡ 2)
-one_or_two i = by_mode i.ea.mode
-  where
-    by_mode : (m : Mode) → (words_of_mode m ≡ 1) ⊎ (words_of_mode m ≡ 2)
-    by_mode Offset = inl refl
-    by_mode BaseOffset = inl refl
-    by_mode Base = inl refl
-    by_mode BaseIndex = inl refl
-    by_mode Ip = inr refl
-    by_mode Disp = inr refl
-    by_mode BaseDisp = inr refl
-    by_mode IndexDisp = inr refl
-    by_mode BaseIndexDisp = inr refl
+    rw (first_word_same s bytes same none) (second_hazard_same s bytes (decoded (first_word s) (next_word s)) (decoded (first_word s) (next_word t)) (decoded_alike (first_word s) (next_word s) (next_word t))))
 
 -- where the second word isn't read it doesn't matter, and where it is, it is the same
 pub decoded_same : (s : State) (bytes : ℕ → ℕ) (r q : Result Inst BadWord) → AgreeWhere (is_hard s.frames) s.memory bytes → AreOfWord r q → second_hazard s r ≡ None → (next_word (with_memory s bytes) ≡ next_word s → q ≡ r) → q ≡ r
 decoded_same s bytes (Err e) (Err d) same h none next = ap (λ (x : BadWord). Err x) h
-decoded_same s bytes (Ok i) (Ok j) same h none next = elim (one_or_two i) [
-  | inl one ↦ ap (λ (x : Inst). Ok x) (h.1 one)
-  | inr two ↦
-      let a = wrapped (s.ip + 4) in
-      let read : read_hazard s.frames a 4 ≡ None = sym (ap (λ (n : ℕ). cond (eqb n 2) (read_hazard s.frames a 4) None) two) ∙ none in
-      next (word_same s.frames s.memory bytes a 4 same read (omega arith))
+decoded_same s bytes (Ok i) (Ok j) same h none next = elim (cases_Bool (eqb (words_of i) 2)) [
+  | inr one ↦ ap (λ (x : Inst). Ok x) (h.1 one)
+  | inl two ↦ next (word_same s.frames s.memory bytes (wrapped (s.ip + 4)) 4 same (rw two at none) (omega arith))
 ]
 decoded_same s bytes _ _ same h none next = absurd h
 
@@ -125,16 +106,14 @@ planned_system_same : (c : Caller) (bytes : ℕ → ℕ) (table n extra : ℕ) (
 planned_system_same c bytes table n extra kind same =
     let entered = λ (d : Caller). system_entered d table n extra kind in
     let other = other_caller c bytes c.fp c.sp in
-    ap (λ (h : Option ℕ). unless h (entered other)) (system_hazard_same c.frames c.memory bytes table n c.pc c.fp same)
-    ∙ unless_same (system_hazard c.memory c.frames table n c.pc c.fp) (entered c) (entered other) (λ none. system_same c bytes table n extra kind same none)
+    rw (system_hazard_same c.frames c.memory bytes table n c.pc c.fp same)
+    (unless_same (system_hazard c.memory c.frames table n c.pc c.fp) (entered c) (entered other) (λ none. system_same c bytes table n extra kind same none))
 
 planned_frame_same : (c : Caller) (bytes : ℕ → ℕ) (system fp sp : ℕ) (area : Bool → Option ℕ) (h : Handler) → AgreeWhere (is_hard c.frames) c.memory bytes → AreKnown area c.fp c.sp fp sp → planned_frame (other_caller c bytes fp sp) system area h ≡ planned_frame c system area h
 unfolding planned_frame
 planned_frame_same c bytes system fp sp area (Local target) same known =
     let here = λ (x y : ℕ). entered_here target c.pc x y RECORD_SIZE FAULT_RETURN in
-    unless_same (area false) (here c.fp c.sp) (here fp sp) (λ none.
-    let push = known false none in
-    ap (λ (x : ℕ). here x sp) push.0 ∙ ap (here c.fp) (push.1 refl))
+    unless_same (area false) (here c.fp c.sp) (here fp sp) (λ none. let push = known false none in rw (push.0, push.1 refl) refl)
 planned_frame_same c bytes system fp sp area (System n) same known =
     let entered = λ (d : Caller). system_entered d system n RECORD_SIZE (λ _. FAULT_RETURN) in
     let other = other_caller c bytes fp sp in
@@ -165,8 +144,4 @@ planned_ret_same f m bytes pfp fp pc ac same =
     let kind = return_type pfp in
     unless_same (ret_hazard f pfp fp) (popped m f pfp fp pc ac) (popped (with_other m bytes) f pfp fp pc ac) (λ none.
     let controls = first_none (controls_hazard f kind fp) (return_hazard f (rounded_down pfp)) none in
-    pop_by (popped m f pfp fp pc ac) (returned_pc (with_other m bytes) kind fp pc) (returned_pc m kind fp pc) (returned_ac (with_other m bytes) kind fp ac) (returned_ac m kind fp ac)
-    (saved_pc_same f m bytes kind fp pc same controls) (saved_ac_same f m bytes kind fp ac same controls))
-  where
-    pop_by : (p : Pop) (pc2 pc1 ac2 ac1 : ℕ) → pc2 ≡ pc1 → ac2 ≡ ac1 → record p { pc = pc2; ac = ac2 } ≡ record p { pc = pc1; ac = ac1 }
-    pop_by p pc2 pc1 ac2 ac1 e d = rw (e, d) refl
+    rw (saved_pc_same f m bytes kind fp pc same controls, saved_ac_same f m bytes kind fp ac same controls) refl)

@@ -32,8 +32,7 @@ requested_same : (f : Frames) (m : Memory) (bytes : ℕ → ℕ) (table v : ℕ)
 requested_same f m bytes table v same none h =
     let one : bytes (priority_place table v) ≡ m.bytes (priority_place table v) = byte_same f m bytes table PENDING_SIZE (vector_priority v / 8) same none (omega arith) in
     let two : bytes (pending_place table v) ≡ m.bytes (pending_place table v) = byte_same f m bytes table PENDING_SIZE (PENDING_VECTORS + v / 8) same none (omega arith) in
-    ap (λ (b : ℕ). bit b (vector_priority v % 8) && bit (bytes (pending_place table v)) (v % 8)) one
-    ∙ ap (λ (b : ℕ). bit (m.bytes (priority_place table v)) (vector_priority v % 8) && bit b (v % 8)) two
+    rw (one, two) refl
 
 pub chosen_soft_same : (i : Interrupts) (f : Frames) (m : Memory) (bytes : ℕ → ℕ) (table pc : ℕ) → AgreeWhere (is_hard f) m bytes → chosen_soft i (with_other m bytes) f table pc ≡ chosen_soft i m f table pc
 chosen_soft_same i f m bytes table pc same =
@@ -62,9 +61,8 @@ taken_hazard_same f m bytes table v same =
     ap (λ (left : ℕ). or_else (cond (left == 0) (byte_hazard f (priority_place table v)) None) (byte_hazard f (pending_place table v))) (left_same f m bytes table v same two)))
 
 clearing_hazard_same : (c : Cause) (f : Frames) (m : Memory) (bytes : ℕ → ℕ) (table v : ℕ) → AgreeWhere (is_hard f) m bytes → clearing_hazard c (with_other m bytes) f table v ≡ clearing_hazard c m f table v
-clearing_hazard_same Nmi f m bytes table v same = refl
-clearing_hazard_same (Line k) f m bytes table v same = refl
 clearing_hazard_same Soft f m bytes table v same = taken_hazard_same f m bytes table v same
+clearing_hazard_same _ f m bytes table v same = refl
 
 taken_writes_same : (f : Frames) (m : Memory) (bytes : ℕ → ℕ) (table v : ℕ) → AgreeWhere (is_hard f) m bytes → taken_hazard m f table v ≡ None → taken_writes (with_other m bytes) table v ≡ taken_writes m table v
 unfolding taken_hazard taken_writes
@@ -74,13 +72,11 @@ taken_writes_same f m bytes table v same none =
     let written = or_else (priority_hazard m f table v) (byte_hazard f (pending_place table v)) in
     let left = left_same f m bytes table v same (first_none two written (second_none one (or_else two written) none)) in
     let byte = read_byte f m bytes (priority_place table v) same (first_none one (or_else two written) none) in
-    ap (λ (b : ℕ). cond (left_pending (with_other m bytes) table v == 0) ((priority_place table v, without_bit b (vector_priority v % 8)) ∷ []) [] ++ (pending_place table v, left_pending (with_other m bytes) table v) ∷ []) byte
-    ∙ ap (λ (n : ℕ). cond (n == 0) ((priority_place table v, without_bit (m.bytes (priority_place table v)) (vector_priority v % 8)) ∷ []) [] ++ (pending_place table v, n) ∷ []) left
+    rw (byte, left) refl
 
 clearing_writes_same : (c : Cause) (f : Frames) (m : Memory) (bytes : ℕ → ℕ) (table v : ℕ) → AgreeWhere (is_hard f) m bytes → clearing_hazard c m f table v ≡ None → clearing_writes c (with_other m bytes) table v ≡ clearing_writes c m table v
-clearing_writes_same Nmi f m bytes table v same none = refl
-clearing_writes_same (Line k) f m bytes table v same none = refl
 clearing_writes_same Soft f m bytes table v same none = taken_writes_same f m bytes table v same none
+clearing_writes_same _ f m bytes table v same none = refl
 
 -- ---- memory behind the push and the record
 
@@ -136,10 +132,10 @@ planned_by_same from bytes table stack c ac fp sp area same known =
     push_same : area (not (bit from.pc INTERRUPTED_PLACE)) ≡ None → interrupt_push stack from.pc fp sp ≡ interrupt_push stack from.pc from.fp from.sp
     push_same none =
         let push = known (not (bit from.pc INTERRUPTED_PLACE)) none in
-        ap (λ (x : ℕ). interrupt_push stack from.pc x sp) push.0 ∙ by_stack (bit from.pc INTERRUPTED_PLACE) push.1
+        rw push.0 (by_stack (bit from.pc INTERRUPTED_PLACE) push.1)
       where
         by_stack : (b : Bool) → (not b ≡ false → sp ≡ from.sp) → pushed from.fp (cond b sp stack) RECORD_SIZE INTERRUPT_RETURN ≡ pushed from.fp (cond b from.sp stack) RECORD_SIZE INTERRUPT_RETURN
-        by_stack true h = ap (λ (x : ℕ). pushed from.fp x RECORD_SIZE INTERRUPT_RETURN) (h refl)
+        by_stack true h = rw (h refl) refl
         by_stack false h = refl
 
     pushes : (vector here : Option ℕ) (p q : Push) (later : Push → Option ℕ) (entry : Push → Entry) → (here ≡ None → q ≡ p)
@@ -165,5 +161,4 @@ entry_writes_same s bytes c e same free =
     let n = with_other m bytes in
     let table = s.tables.interrupt_table in
     let ps = record_writes m e.push e.words in
-    ap (λ (qs : List (ℕ × ℕ)). qs ++ clearing_writes c.cause (with_writes n (record_writes n e.push e.words)) table c.vector) (records_same m bytes e.push e.words)
-    ∙ ap (λ (qs : List (ℕ × ℕ)). ps ++ qs) (cleared_same s.frames m bytes table c e.push e.words same free.clears)
+    rw (cleared_same s.frames m bytes table c e.push e.words same free.clears, records_same m bytes e.push e.words) refl

@@ -55,24 +55,20 @@ one-beside g b rs qs r q beside same = record {
 }
 
 does-beside : (o p : Next) (r : Record) → NextsAgree true o p → o ≡ Does r → (q : Record) × (p ≡ Does q) × DoAgree true r q
-does-beside (Does x) (Does q) r agree e = let same : x ≡ r = cc in (q, refl, subst (λ (y : Record). DoAgree true y q) same agree)
-does-beside (Ends f) (Ends h) r agree e = absurd cc
-does-beside _ _ r agree e = absurd agree
+does-beside o (Does q) r agree e = (q, refl, rw e at agree)
+does-beside o (Ends h) r agree e = absurd (rw e at agree)
 
 does-behind : (o p : Next) (q : Record) → NextsAgree true o p → p ≡ Does q → (r : Record) × (o ≡ Does r) × DoAgree true r q
-does-behind (Does r) (Does x) q agree e = let same : x ≡ q = cc in (r, refl, subst (DoAgree true r) same agree)
-does-behind (Ends f) (Ends h) q agree e = absurd cc
-does-behind _ _ q agree e = absurd agree
+does-behind (Does r) p q agree e = (r, refl, rw e at agree)
+does-behind (Ends f) p q agree e = absurd (rw e at agree)
 
 ends-beside : (o p : Next) (f : Finish) → NextsAgree true o p → o ≡ Ends f → p ≡ Ends f
-ends-beside (Ends f) (Ends h) g agree e = let same : f ≡ g = cc in ap (λ (x : Finish). Ends x) (agree ∙ same)
-ends-beside (Does r) (Does x) g agree e = absurd cc
-ends-beside _ _ g agree e = absurd agree
+ends-beside o (Ends h) f agree e = let same : h ≡ f = rw e at agree in cc
+ends-beside o (Does q) f agree e = absurd (rw e at agree)
 
 ends-behind : (o p : Next) (f : Finish) → NextsAgree true o p → p ≡ Ends f → o ≡ Ends f
-ends-behind (Ends f) (Ends h) g agree e = let same : h ≡ g = cc in ap (λ (x : Finish). Ends x) (sym agree ∙ same)
-ends-behind (Does r) (Does x) g agree e = absurd cc
-ends-behind _ _ g agree e = absurd agree
+ends-behind (Ends h) p f agree e = let same : f ≡ h = rw e at agree in cc
+ends-behind (Does r) p f agree e = absurd (rw e at agree)
 
 -- ---- runs
 

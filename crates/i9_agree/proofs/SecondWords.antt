@@ -1,6 +1,6 @@
 -- What the first word decides of an instruction whatever the second one is: whether it is refused, and whether it has a
 -- second word; where it has none, all of it.
-use Rattle.std.proofs.Common.{◌≡◌, ℕ, Bool, true, false, cond, Option, Some, None, option_and_then, Result, Ok, Err, refl, ap, arith}
+use Rattle.std.proofs.Common.{◌≡◌, ℕ, Bool, true, false, cond, eqb, Option, Some, None, option_and_then, Result, Ok, Err, refl, ap, arith}
 use Rattle.std.specs.Prelude.{ℤ, find, nat_lt}
 use Rattle.i9_isa.specs.declared.op.Op.{Op}
 use Rattle.i9_isa.specs.declared.inst.Operand.{Operand}
@@ -15,28 +15,22 @@ use Rattle.i9_isa.specs.Words.{words_of_mode, words_of, address_in, if_scaled, m
 
 -- addresses of one mode, the same where it has no second word
 abbrev pub AreOfMode : Option Ea → Option Ea → Type 0
-AreOfMode (Some e) (Some d) = (d.mode ≡ e.mode) × (words_of_mode e.mode ≡ 1 → d ≡ e)
+AreOfMode (Some e) (Some d) = (d.mode ≡ e.mode) × (eqb (words_of_mode e.mode) 2 ≡ false → d ≡ e)
 AreOfMode None None = Unit {0}
-AreOfMode (Some e) None = ⊥
-AreOfMode None (Some d) = ⊥
+AreOfMode _ _ = ⊥
 
 -- instructions of as many words, the same where there is one, or the same refusal
 abbrev pub AreOfWord : Result Inst BadWord → Result Inst BadWord → Type 0
-AreOfWord (Ok i) (Ok j) = (words_of j ≡ words_of i) × (words_of i ≡ 1 → j ≡ i)
+AreOfWord (Ok i) (Ok j) = (words_of j ≡ words_of i) × (eqb (words_of i) 2 ≡ false → j ≡ i)
 AreOfWord (Err e) (Err d) = d ≡ e
-AreOfWord (Ok i) (Err d) = ⊥
-AreOfWord (Err e) (Ok j) = ⊥
+AreOfWord _ _ = ⊥
 
-two_words : (m : Mode) (w x y : ℕ) → words_of_mode m ≡ 1 → address_in m w y ≡ address_in m w x
+two_words : (m : Mode) (w x y : ℕ) → eqb (words_of_mode m) 2 ≡ false → address_in m w y ≡ address_in m w x
 two_words Offset w x y one = refl
 two_words BaseOffset w x y one = refl
 two_words Base w x y one = refl
 two_words BaseIndex w x y one = refl
-two_words Ip w x y one = absurd (omega arith)
-two_words Disp w x y one = absurd (omega arith)
-two_words BaseDisp w x y one = absurd (omega arith)
-two_words IndexDisp w x y one = absurd (omega arith)
-two_words BaseIndexDisp w x y one = absurd (omega arith)
+two_words _ w x y one = absurd cc
 
 scaled_alike : (m : Mode) (w x y : ℕ) (b : Bool) → AreOfMode (cond b (Some (address_in m w x)) None) (cond b (Some (address_in m w y)) None)
 scaled_alike m w x y true = (refl, two_words m w x y)
@@ -48,9 +42,7 @@ modes_alike (Some m) w x y = scaled_alike m w x y (nat_lt (address_in m w x).sca
 
 addresses_alike : (f : Format) (w x y : ℕ) → AreOfMode (ea_in f w x) (ea_in f w y)
 addresses_alike Format.Mem w x y = modes_alike (mode_in w) w x y
-addresses_alike Format.Reg w x y = (refl, λ one. refl)
-addresses_alike Format.Cobr w x y = (refl, λ one. refl)
-addresses_alike Format.Ctrl w x y = (refl, λ one. refl)
+addresses_alike _ w x y = (refl, λ one. refl)
 
 operands_alike : (op : Op) (a b c : Option Operand) (e d : Option Ea) (disp : ℤ) (hint : Bool) → AreOfMode e d → AreOfWord (with_operands op a b c e disp hint) (with_operands op a b c d disp hint)
 operands_alike op None b c e d disp hint same = refl
@@ -59,8 +51,7 @@ operands_alike op (Some a) (Some b) None e d disp hint same = refl
 operands_alike op (Some a) (Some b) (Some c) None None disp hint same = refl
 operands_alike op (Some a) (Some b) (Some c) (Some e) (Some d) disp hint same =
     (ap words_of_mode same.0, λ one. ap (λ (x : Ea). record { op = op; a = a; b = b; c = c; ea = x; disp = disp; hint = hint }) (same.1 one))
-operands_alike op (Some a) (Some b) (Some c) (Some e) None disp hint same = absurd same
-operands_alike op (Some a) (Some b) (Some c) None (Some d) disp hint same = absurd same
+operands_alike op (Some a) (Some b) (Some c) _ _ disp hint same = absurd same
 
 read_alike : (op : Op) (w x y : ℕ) → AreOfWord (read_as op w x) (read_as op w y)
 read_alike op w x y =
