@@ -1,15 +1,16 @@
 -- In states that agree an instruction that marks allow does what is alike.
 use Rattle.std.proofs.Common.{◌≡◌, ℕ, zero, suc, ◌+◌, ◌*◌, ◌%◌, ◌^◌, ◌<◌, Bool, true, false, cond, List, [], ◌∷◌, ◌++◌, refl, sym, ap, ◌∙◌, subst, arith}
-use Rattle.std.specs.Prelude.{not, ◌==◌, ◌&&◌, ◌||◌}
+use Rattle.std.specs.Prelude.{◌&&◌}
 use Rattle.std.specs.List.{list_any, range_with_len}
 use Rattle.std.proofs.lemmas.List.Folds.{list_any-append}
-use Rattle.std.proofs.lemmas.Bool.{or_right, or_parts, eqb-true}
+use Rattle.std.proofs.lemmas.Bool.Decides.{nat_tests}
+use Rattle.std.proofs.lemmas.Bool.{or_parts}
 use Rattle.i9_isa.specs.declared.size.Size.{Size}
 use Rattle.i9_isa.specs.declared.size.Size.TheVariants.{Byte, Half, Words}
 use Rattle.i9_isa.specs.declared.inst.Operand.{Operand}
 use Rattle.i9_isa.specs.declared.inst.Operand.TheVariants.{Reg, Lit, Sfr}
 use Rattle.i9_isa.specs.declared.inst.Mode.{Mode}
-use Rattle.i9_isa.specs.declared.inst.Mode.TheVariants.{BaseOffset, Base, BaseIndex, BaseDisp, IndexDisp, BaseIndexDisp}
+use Rattle.i9_isa.specs.declared.inst.Mode.TheVariants.{BaseOffset}
 use Rattle.i9_isa.specs.declared.inst.Ea.{Ea}
 use Rattle.i9_isa.specs.Operands.{has_base, has_index}
 use Rattle.i9_model.specs.declared.push.Push.{Push}
@@ -21,13 +22,13 @@ use Rattle.i9_model.specs.Operands.{value, word_of, source_words, address}
 use Rattle.i9_model.specs.Addresses.{sum_for}
 use Rattle.i9_model.specs.Step.{Action, bytes_of_words, loaded, filled, stored_of, assigning, marking, pushing, saved_local}
 use Rattle.i9_model.specs.Stale.{byte_marks, mark_of, marks_of, word_mark, legible, loaded_marks, stored_marks, saved_mark, saved_marks, registers_of, address_registers, is_marked}
-use Rattle.i9_model.specs.Alike.{is_hard, AgreeWhere, with_other, shows, is_open, with_values, AgreeBeside, ReadAlike, AreValuesAlike, AreWritesAlike, AreMovesAlike, AreActionsAlike}
-use Rattle.i9_model.proofs.Readings.{four, two}
+use Rattle.i9_model.specs.Alike.{AgreeWhere, with_other, shows, is_open, with_values, AgreeBeside, ReadAlike, AreValuesAlike, AreWritesAlike, AreMovesAlike, AreActionsAlike}
+use Rattle.i9_model.proofs.Readings.{two}
 use Rattle.std.specs.Int.{w16, from_le_bytes, from_be_bytes}
 use Rattle.i9_model.proofs.Lengths.{two_bytes}
 use Rattle.i9_model.proofs.Storing.{stored_words_same}
 use Rattle.i9_agree.proofs.Agreeing.{shows-unmarked, shows-none, shows-first, shows-second, values-marked, values-mapped, writes-same, writes-picked}
-use Rattle.i9_agree.proofs.AgreeMoves.{open-hard, bytes-alike}
+use Rattle.i9_agree.proofs.AgreeMoves.{bytes-alike}
 
 -- ---- registers that are shown
 
@@ -50,8 +51,7 @@ shown-three hides s xs ys zs h =
 shown-group : (hides : Bool) (s : State) (r n k : ℕ) → AreShown hides s (range_with_len r n) → k < n → shows hides (s.marks (r + k)) ≡ true
 shown-group hides s r zero k h l = absurd (omega arith)
 shown-group hides s r (suc n) zero h l =
-    let none : r + 0 ≡ r = omega arith in
-    ap (λ (q : ℕ). shows hides (s.marks q)) none ∙ shows-first hides (s.marks r) (is_marked s (range_with_len (r + 1) n)) h
+    let none : r + 0 ≡ r = omega arith in rw none (shows-first hides (s.marks r) (is_marked s (range_with_len (r + 1) n)) h)
 shown-group hides s r (suc n) (suc k) h l =
     let next : r + suc k ≡ r + 1 + k = omega arith in
     ap (λ (q : ℕ). shows hides (s.marks q)) next ∙ shown-group hides s (r + 1) n k (shows-second hides (s.marks r) (is_marked s (range_with_len (r + 1) n)) h) (omega (arith, l))
@@ -60,23 +60,12 @@ shown-group hides s r (suc n) (suc k) h l =
 
 -- a word whose mark is shown
 pub word-same : (hides : Bool) (s : State) (regs bytes reading : ℕ → ℕ) (o : Operand) (k : ℕ) → AgreeBeside hides s regs → shows hides (mark_of s o k) ≡ true → word_of (with_values s regs bytes reading) o k ≡ word_of s o k
-word-same hides s regs bytes reading (Reg r) k same h = by_place (k == 0) h
-  where
-    by_place : (b : Bool) → shows hides (cond b (s.marks r) (s.marks (r + k))) ≡ true → cond b (regs r) (regs (r + k)) ≡ cond b (s.regs r) (s.regs (r + k))
-    by_place true t = same r t
-    by_place false t = same (r + k) t
+word-same hides s regs bytes reading (Reg r) k same h = grind (arith, same r, same (r + k))
 word-same hides s regs bytes reading _ k same h = refl
 
 -- a word of an operand that is shown
 pub shown-word : (hides : Bool) (s : State) (o : Operand) (n k : ℕ) → AreShown hides s (registers_of o n) → k < n → shows hides (mark_of s o k) ≡ true
-shown-word hides s (Reg r) n k h l = by_place (k == 0) refl
-  where
-    first : k ≡ 0 → shows hides (s.marks r) ≡ true
-    first e = let none : r + k ≡ r = omega (arith, e) in ap (λ (q : ℕ). shows hides (s.marks q)) (sym none) ∙ shown-group hides s r n k h l
-
-    by_place : (b : Bool) → (k == 0) ≡ b → shows hides (cond b (s.marks r) (s.marks (r + k))) ≡ true
-    by_place true t = first (eqb-true k 0 t)
-    by_place false t = shown-group hides s r n k h l
+shown-word hides s (Reg r) n k h l = grind (arith, nat_tests, shown-group hides s r n k h l)
 shown-word hides s _ n k h l = shows-unmarked hides
 
 pub operand-same : (hides : Bool) (s : State) (regs bytes reading : ℕ → ℕ) (o : Operand) (n k : ℕ) → AgreeBeside hides s regs → AreShown hides s (registers_of o n) → k < n → word_of (with_values s regs bytes reading) o k ≡ word_of s o k
@@ -90,31 +79,16 @@ pub address-same : (hides : Bool) (s : State) (regs bytes reading : ℕ → ℕ)
 address-same hides s regs bytes reading e same h = ap wrapped (by_mode e.mode e h)
   where
     by_mode : (m : Mode) (e : Ea) → AreShown hides s (cond (has_base m) (e.base ∷ []) [] ++ cond (has_index m) (e.index ∷ []) []) → sum_for m e (regs e.base) (regs e.index) s.ip ≡ sum_for m e (s.regs e.base) (s.regs e.index) s.ip
-    by_mode BaseOffset e h = ap (λ (b : ℕ). b + e.disp) (same e.base (shows-first hides (s.marks e.base) false h))
-    by_mode Base e h = same e.base (shows-first hides (s.marks e.base) false h)
-    by_mode BaseDisp e h = ap (λ (b : ℕ). b + e.disp) (same e.base (shows-first hides (s.marks e.base) false h))
-    by_mode IndexDisp e h = ap (λ (x : ℕ). x * 2 ^ e.scale + e.disp) (same e.index (shows-first hides (s.marks e.index) false h))
-    by_mode BaseIndex e h =
-        ap (λ (b : ℕ). b + regs e.index * 2 ^ e.scale) (same e.base (shows-first hides (s.marks e.base) (s.marks e.index || false) h))
-        ∙ ap (λ (x : ℕ). s.regs e.base + x * 2 ^ e.scale) (same e.index (shows-first hides (s.marks e.index) false (shows-second hides (s.marks e.base) (s.marks e.index || false) h)))
-    by_mode BaseIndexDisp e h =
-        ap (λ (b : ℕ). b + regs e.index * 2 ^ e.scale + e.disp) (same e.base (shows-first hides (s.marks e.base) (s.marks e.index || false) h))
-        ∙ ap (λ (x : ℕ). s.regs e.base + x * 2 ^ e.scale + e.disp) (same e.index (shows-first hides (s.marks e.index) false (shows-second hides (s.marks e.base) (s.marks e.index || false) h)))
-    by_mode _ e h = refl
+    by_mode BaseOffset e h = grind (arith, same e.base, same e.index)
+    by_mode _ e h = grind (arith, same e.base, same e.index)
 
 -- ---- what is read
 
 pub legible-byte : (hides : Bool) (s : State) (regs bytes reading : ℕ → ℕ) (x : ℕ) → AgreeWhere (is_open hides s.frames) s.memory bytes → ReadAlike hides s reading → shows hides (s.frames.soft x) ≡ true
     → (legible (with_values s regs bytes reading)).bytes x ≡ (legible s).bytes x
-legible-byte hides s regs bytes reading x same read h = by_soft hides (s.frames.soft x) refl h read
-  where
-    hard : s.frames.soft x ≡ false → is_hard s.frames x ≡ true
-    hard t = or_right _ (not (s.frames.soft x)) (ap not t)
-
-    by_soft : (hides2 soft : Bool) → s.frames.soft x ≡ soft → shows hides2 soft ≡ true → (hides2 ≡ false → (x y : ℕ) → reading x ≡ s.reading y) → cond soft (reading (bytes x)) (bytes x) ≡ cond soft (s.reading (s.memory.bytes x)) (s.memory.bytes x)
-    by_soft hides2 false t k r = same x (open-hard hides s.frames x (hard t))
-    by_soft true true t k r = absurd cc
-    by_soft false true t k r = r refl (bytes x) (s.memory.bytes x)
+legible-byte hides s regs bytes reading x same read h =
+    let soft : hides ≡ false → reading (bytes x) ≡ s.reading (s.memory.bytes x) = λ e. read e (bytes x) (s.memory.bytes x) in
+    grind (arith, same x)
 
 -- a word of which the bytes that are shown are the same
 pub shown-word-same : (hides : Bool) (m : Memory) (bytes : ℕ → ℕ) (stale : ℕ → Bool) (a : ℕ)
@@ -123,16 +97,10 @@ pub shown-word-same : (hides : Bool) (m : Memory) (bytes : ℕ → ℕ) (stale :
     → shows hides (word_mark stale a) ≡ true → word_in (with_other m bytes) a ≡ word_in m a
 unfolding word_in
 shown-word-same hides m bytes stale a first later h =
-    let b1 = stale (wrapped (a + 1)) in
-    let b2 = stale (wrapped (a + 2)) in
-    let b3 = stale (wrapped (a + 3)) in
-    let rest = shows-second hides (stale a) (b1 || (b2 || b3)) h in
-    let last = shows-second hides b1 (b2 || b3) rest in
-    four m a (bytes a) (bytes (wrapped (a + 1))) (bytes (wrapped (a + 2))) (bytes (wrapped (a + 3))) (m.bytes a) (m.bytes (wrapped (a + 1))) (m.bytes (wrapped (a + 2))) (m.bytes (wrapped (a + 3)))
-    (first (shows-first hides (stale a) (b1 || (b2 || b3)) h))
-    (later 1 (omega arith) (omega arith) (shows-first hides b1 (b2 || b3) rest))
-    (later 2 (omega arith) (omega arith) (shows-first hides b2 b3 last))
-    (later 3 (omega arith) (omega arith) (shows-second hides b2 b3 last))
+    let one = later 1 (omega arith) (omega arith) in
+    let two = later 2 (omega arith) (omega arith) in
+    let three = later 3 (omega arith) (omega arith) in
+    rw (first (grind arith), one (grind arith), two (grind arith), three (grind arith)) refl
 
 pub legible-word : (hides : Bool) (s : State) (regs bytes reading : ℕ → ℕ) (a : ℕ) → AgreeWhere (is_open hides s.frames) s.memory bytes → ReadAlike hides s reading → shows hides (word_mark s.frames.soft a) ≡ true
     → word_in (legible (with_values s regs bytes reading)) a ≡ word_in (legible s) a
@@ -177,8 +145,7 @@ values-none : (hides : Bool) (bs : List Bool) (vs ws : List ℕ) → AreValuesAl
 values-none hides [] [] [] h none = refl
 values-none hides (b ∷ bs) (v ∷ vs) (w ∷ ws) h none =
     let parts = or_parts b (list_any (λ (c : Bool). c) bs) none in
-    let first : w ≡ v = h.0 (shows-none hides b parts.0) in
-    ap (λ (x : ℕ). x ∷ ws) first ∙ ap (λ (xs : List ℕ). v ∷ xs) (values-none hides bs vs ws h.1 parts.1)
+    cc (h.0 (shows-none hides b parts.0), values-none hides bs vs ws h.1 parts.1)
 values-none hides _ _ _ h none = absurd h
 
 -- no marked value gets to a special function register
@@ -232,9 +199,5 @@ pushing-alike hides s regs bytes reading p back next same = record {
   rest = refl;
   sets = writes-same hides [] (pushing s p back next).sets;
   writes = tt;
-  move = (refl, (saved_marks s, refl, values-mapped hides (saved_mark s) (saved_local s back) (saved_local (with_values s regs bytes reading) back) 0 16 (λ r l h. by_rip (r == 2) r h)));
+  move = (refl, (saved_marks s, refl, values-mapped hides (saved_mark s) (saved_local s back) (saved_local (with_values s regs bytes reading) back) 0 16 (λ r l h. grind (arith, same r))));
 }
-  where
-    by_rip : (b : Bool) (r : ℕ) → shows hides (cond b false (s.marks r)) ≡ true → cond b back (regs r) ≡ cond b back (s.regs r)
-    by_rip true r h = refl
-    by_rip false r h = same r h

@@ -1,8 +1,8 @@
 -- Values and writes that are alike but for what marks hide, and what they leave at places that are shown.
 use Rattle.std.proofs.Common.{◌≡◌, ℕ, zero, suc, ◌+◌, ◌<◌, Bool, true, false, cond, List, [], ◌∷◌, ◌++◌, length, map, refl, sym, ap, ◌∙◌, subst, arith, inr}
-use Rattle.std.specs.Prelude.{not, ◌==◌, ◌&&◌, ◌||◌, filter, replicate}
+use Rattle.std.specs.Prelude.{not, ◌==◌, ◌||◌, filter, replicate}
 use Rattle.std.specs.List.{range_with_len}
-use Rattle.std.proofs.lemmas.Bool.{or_left, or_right, eqb-true, eq-eqb, or_from, or_parts}
+use Rattle.std.proofs.lemmas.Bool.{or_left, or_right, eqb-true, eq-eqb, or_from}
 use Rattle.i9_model.specs.Writes.{pairs_at, put, written}
 use Rattle.i9_model.specs.Memory.{in_port_page, stored}
 use Rattle.i9_model.specs.Frames.{has, is_put}
@@ -14,11 +14,10 @@ use Rattle.i9_model.proofs.Storing.{stored_kept}
 -- ---- marks that hide
 
 pub shows-unmarked : (hides : Bool) → shows hides false ≡ true
-shows-unmarked true = refl
-shows-unmarked false = refl
+shows-unmarked hides = grind arith
 
 pub shows-none : (hides b : Bool) → b ≡ false → shows hides b ≡ true
-shows-none hides b e = ap (shows hides) e ∙ shows-unmarked hides
+shows-none hides b e = grind arith
 
 pub shows-first : (hides b c : Bool) → shows hides (b || c) ≡ true → shows hides b ≡ true
 shows-first hides b c h = grind arith
@@ -34,15 +33,7 @@ shows-less hides b c m h = grind arith
 
 -- a register behind what is set
 pub shows-after : (hides : Bool) (marks : ℕ → Bool) (sets : List (ℕ × ℕ)) (marked : List ℕ) (r : ℕ) → shows hides (marks_after marks sets marked r) ≡ true → (shows hides (has marked r) ≡ true) × (is_put sets r ≡ false → shows hides (marks r) ≡ true)
-shows-after hides marks sets marked r h = (
-  shows-first hides (has marked r) (marks r && not (is_put sets r)) h,
-  λ out. by_parts (marks r) (is_put sets r) out (shows-second hides (has marked r) (marks r && not (is_put sets r)) h),
-)
-  where
-    by_parts : (m p : Bool) → p ≡ false → shows hides (m && not p) ≡ true → shows hides m ≡ true
-    by_parts true true o k = absurd cc
-    by_parts true false o k = k
-    by_parts false p o k = k
+shows-after hides marks sets marked r h = (grind arith, λ out. grind arith)
 
 -- ---- values
 
@@ -101,7 +92,7 @@ pub puts-same : (hides : Bool) (marked : List ℕ) (ps qs : List (ℕ × ℕ)) �
 unfolding is_put
 puts-same hides marked [] [] h x = refl
 puts-same hides marked (p ∷ ps) (q ∷ qs) h x =
-    ap (λ (y : ℕ). (x == y) || is_put qs x) h.0 ∙ ap (λ (b : Bool). (x == p.0) || b) (puts-same hides marked ps qs h.2 x)
+    rw (h.0, puts-same hides marked ps qs h.2 x) refl
 puts-same hides marked _ _ h x = absurd h
 
 -- ---- what they leave
@@ -137,17 +128,13 @@ kept-alike hides marked _ _ h = absurd h
 kept-put : (ps : List (ℕ × ℕ)) (x : ℕ) → in_port_page x ≡ false → is_put (kept_writes ps) x ≡ false → is_put ps x ≡ false
 unfolding is_put
 kept-put [] x port h = refl
-kept-put (p ∷ ps) x port h = by_port (in_port_page p.0) refl (λ k. kept-put ps x port k) h
+kept-put (p ∷ ps) x port h = by_port (in_port_page p.0) refl (x == p.0) refl (λ k. kept-put ps x port k) h
   where
-    other : (e : Bool) → (x == p.0) ≡ e → in_port_page p.0 ≡ true → e ≡ false
-    other false e t = refl
-    other true e t = let no : true ≡ false = sym t ∙ ap in_port_page (sym (eqb-true x p.0 e)) ∙ port in absurd (cc no)
-
-    by_port : (b : Bool) → in_port_page p.0 ≡ b → (is_put (kept_writes ps) x ≡ false → is_put ps x ≡ false) → is_put (cond (not b) (p ∷ kept_writes ps) (kept_writes ps)) x ≡ false → ((x == p.0) || is_put ps x) ≡ false
-    by_port false t later k =
-        let parts = or_parts (x == p.0) (is_put (kept_writes ps) x) k in
-        or_from (x == p.0) (is_put ps x) parts.0 (later parts.1)
-    by_port true t later k = or_from (x == p.0) (is_put ps x) (other (x == p.0) refl t) (later k)
+    by_port : (b : Bool) → in_port_page p.0 ≡ b → (e : Bool) → (x == p.0) ≡ e → (is_put (kept_writes ps) x ≡ false → is_put ps x ≡ false)
+        → is_put (cond (not b) (p ∷ kept_writes ps) (kept_writes ps)) x ≡ false → ((x == p.0) || is_put ps x) ≡ false
+    by_port true t true e later k = let no : in_port_page x ≡ true = ap in_port_page (eqb-true x p.0 e) ∙ t in cc
+    by_port true t false e later k = rw e (later k)
+    by_port false t b e later k = grind arith
 
 -- a byte that is shown is the same, as in the port page
 pub stored-alike : (hides : Bool) (marked : List ℕ) (f g : ℕ → ℕ) (ps qs : List (ℕ × ℕ)) (x : ℕ) → AreWritesAlike hides marked ps qs

@@ -1,5 +1,5 @@
 -- In states that are alike the accesses of an instruction meet the same hazard, and without one it does the same.
-use Rattle.std.proofs.Common.{◌≡◌, ℕ, ◌+◌, ◌%◌, Bool, true, false, cond, [], ◌∷◌, Option, Some, None, refl, ap, ◌∙◌, arith}
+use Rattle.std.proofs.Common.{◌≡◌, ℕ, ◌+◌, ◌%◌, Bool, true, false, cond, Option, Some, None, refl, ap, arith}
 use Rattle.std.specs.Prelude.{not, bit_and}
 use Rattle.std.proofs.lemmas.Bool.{or_left}
 use Rattle.i9_model.specs.declared.layout.TheConstants.{PC_MASK, AC_MASK}
@@ -7,7 +7,7 @@ use Rattle.i9_model.specs.Writes.{wrapped}
 use Rattle.i9_model.specs.Memory.{Memory, word_in}
 use Rattle.i9_model.specs.State.{Frames}
 use Rattle.i9_model.specs.Frames.{in_frames}
-use Rattle.i9_model.specs.Requests.{with_bit, vector_priority, priority_place, pending_place, byte_hazard, request_hazard, request_writes}
+use Rattle.i9_model.specs.Requests.{priority_place, pending_place, byte_hazard, request_hazard, request_writes}
 use Rattle.i9_model.specs.Hazards.{or_else, read_hazard}
 use Rattle.i9_model.specs.Calls.{Caller, save_area, system_hazard_by, entry_address, stack_address, is_switch, stack_hazard, system_hazard, entered_here, entered_switched, system_entered, record_address, takes_record, record_hazard, controls_hazard, returned_pc, returned_ac, in_supervisor_mode, leaves_supervisor, without_supervisor}
 use Rattle.i9_model.specs.Alike.{is_hard, is_compared, AgreeWhere, with_other}

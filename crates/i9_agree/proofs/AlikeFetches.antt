@@ -1,16 +1,12 @@
 -- In states that are alike every hazard is the same, and so is what stands at the instruction address, and how a
 -- fault is entered.
-use Rattle.std.proofs.Common.{◌≡◌, ℕ, ◌+◌, Bool, true, false, cond, eqb, nat_le, Option, Some, None, Result, Ok, Err, refl, sym, ap, ◌∙◌, inl, inr, arith}
-use Rattle.std.specs.Prelude.{◌⊎◌}
+use Rattle.std.proofs.Common.{◌≡◌, ℕ, ◌+◌, Bool, true, false, cond, eqb, nat_le, Option, Some, None, Result, Ok, Err, refl, ap, ◌∙◌, inl, inr, arith}
 use Rattle.std.proofs.lemmas.Bool.{cases_Bool, eqb-true}
-use Rattle.i9_isa.specs.declared.inst.Mode.{Mode}
-use Rattle.i9_isa.specs.declared.inst.Mode.TheVariants.{Offset, BaseOffset, Base, Ip, BaseIndex, Disp, BaseDisp, IndexDisp, BaseIndexDisp}
 use Rattle.i9_isa.specs.declared.inst.Inst.{Inst}
 use Rattle.i9_isa.specs.declared.inst.BadWord.{BadWord}
-use Rattle.i9_isa.specs.Words.{words_of_mode, words_of, decoded}
+use Rattle.i9_isa.specs.Words.{words_of, decoded}
 use Rattle.i9_model.specs.declared.layout.TheConstants.{RECORD_SIZE, FAULT_RETURN, MOST_SYSTEM_CALL, PRCB_SIZE, CONTROL_TABLE_SIZE}
 use Rattle.i9_model.specs.declared.calls.Sys.{Sys}
-use Rattle.i9_model.specs.declared.calls.Pop.{Pop}
 use Rattle.i9_model.specs.declared.calls.CallsStop.TheVariants.{Length}
 use Rattle.i9_model.specs.declared.faults.Fault.{Fault}
 use Rattle.i9_model.specs.declared.faults.Handler.{Handler}
@@ -22,7 +18,7 @@ use Rattle.i9_model.specs.State.{State, Frames}
 use Rattle.i9_model.specs.Frames.{rounded_down}
 use Rattle.i9_model.specs.Hazards.{unless, read_hazard, return_hazard}
 use Rattle.i9_model.specs.Tables.{tables_hazard}
-use Rattle.i9_model.specs.Calls.{Caller, save_area, system_hazard_by, entered_here, system_hazard, system_entered, planned_system, planned_calls, calls_answer, call_type, planned_ret, popped, ret_hazard, return_type, controls_hazard, returned_pc, returned_ac}
+use Rattle.i9_model.specs.Calls.{Caller, save_area, system_hazard_by, entered_here, system_hazard, system_entered, planned_system, planned_calls, calls_answer, call_type, planned_ret, popped, ret_hazard, return_type, controls_hazard}
 use Rattle.i9_model.specs.Faults.{◌>>=◌, or_stop, table_entry, checked_word, planned_handler, planned_frame, planned_fault, planned_fault_by}
 use Rattle.i9_model.specs.Step.{first_word, next_word}
 use Rattle.i9_model.specs.Access.{second_hazard, fetch_hazard}
