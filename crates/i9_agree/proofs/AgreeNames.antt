@@ -18,11 +18,11 @@ use Rattle.i9_model.specs.Writes.{wrapped, upwards}
 use Rattle.i9_model.specs.Memory.{word_in, word_bytes}
 use Rattle.i9_model.specs.State.{State, aligned}
 use Rattle.i9_model.specs.Faults.{is_special}
-use Rattle.i9_model.specs.Operands.{value, word_of, address, target}
+use Rattle.i9_model.specs.Operands.{value, word_of, address}
 use Rattle.i9_model.specs.Results.{results_by, destination_words}
 use Rattle.i9_model.specs.Branches.{question_of, asks, code_after, says_yes, is_taken}
-use Rattle.i9_model.specs.Conditions.{code_of, with_code}
-use Rattle.i9_model.specs.Step.{Action, passing, following, assigning, marking, answering, loaded, stored_of, moving, atomic_address, atomic, branching, answer_in, destination, values_of, controls_of, resulting, other_action}
+use Rattle.i9_model.specs.Conditions.{code_of}
+use Rattle.i9_model.specs.Step.{Action, passing, assigning, marking, answering, loaded, stored_of, moving, atomic_address, atomic, branching, answer_in, destination, values_of, controls_of, resulting, other_action}
 use Rattle.i9_model.specs.Stale.{picked, byte_marks, marks_of, word_mark, legible, loaded_marks, stored_marks, registers_of, sources, address_registers, is_marked, moves_words, result_marks, moved_marks}
 use Rattle.i9_model.specs.Alike.{is_hard, AgreeWhere, shows, is_open, with_values, AgreeBeside, ReadAlike, AreValuesAlike, AreActionsAlike}
 use Rattle.i9_model.proofs.Lengths.{four_bytes}
@@ -42,7 +42,7 @@ hard-bytes hides s regs bytes reading same = λ x h. same.bytes x (open-hard hid
 -- controls that are the same on both sides
 ac-alike : (hides : Bool) (a b : Action) (x y : ℕ) → y ≡ x → AreActionsAlike hides a b → AreActionsAlike hides (record a { ac = x }) (record b { ac = y })
 ac-alike hides a b x y e alike = record {
-  rest = ap (λ (c : Action). record c { ac = y }) alike.rest ∙ ap (λ (z : ℕ). record a { sets = b.sets; writes = b.writes; move = b.move; ac = z }) e;
+  rest = ap (λ (c : Action). record c { ac = y }) alike.rest ∙ rw e refl;
   sets = alike.sets;
   writes = alike.writes;
   move = alike.move;
@@ -113,19 +113,10 @@ results-used : (op : Op) (a0 a1 a2 a3 b0 b1 c ac : ℕ)
 results-used Mov a0 a1 a2 a3 b0 b1 c ac = refl
 results-used _ a0 a1 a2 a3 b0 b1 c ac = refl
 
-results-args : (op : Op) (a0 a1 a2 a3 b0 b1 c x0 x1 x2 x3 y0 y1 z ac : ℕ) → x0 ≡ a0 → x1 ≡ a1 → x2 ≡ a2 → x3 ≡ a3 → y0 ≡ b0 → y1 ≡ b1 → z ≡ c
-    → results_by op (x0 ∷ x1 ∷ x2 ∷ x3 ∷ []) (y0 ∷ y1 ∷ []) z ac ≡ results_by op (a0 ∷ a1 ∷ a2 ∷ a3 ∷ []) (b0 ∷ b1 ∷ []) c ac
-results-args op a0 a1 a2 a3 b0 b1 c x0 x1 x2 x3 y0 y1 z ac e0 e1 e2 e3 d0 d1 d = rw (e0, e1, e2, e3, d0, d1, d) refl
-
 used-same : (hides : Bool) (s : State) (regs bytes reading : ℕ → ℕ) (o : Operand) (n k : ℕ) → AgreeBeside hides s regs → AreShown hides s (registers_of o n) → used n k (word_of (with_values s regs bytes reading) o k) ≡ used n k (word_of s o k)
-used-same hides s regs bytes reading o n k same shown = by_use (nat_lt k n) refl
-  where
-    below : nat_lt k n ≡ true → k < n
-    below t = grind (arith, nat_tests, t)
-
-    by_use : (b : Bool) → nat_lt k n ≡ b → cond b (word_of (with_values s regs bytes reading) o k) 0 ≡ cond b (word_of s o k) 0
-    by_use false t = refl
-    by_use true t = operand-same hides s regs bytes reading o n k same shown (below t)
+used-same hides s regs bytes reading o n k same shown =
+    let word : k < n → word_of (with_values s regs bytes reading) o k ≡ word_of s o k = operand-same hides s regs bytes reading o n k same shown in
+    grind (arith, nat_tests)
 
 pub answer-same : (hides : Bool) (i : Inst) (s : State) (regs bytes reading : ℕ → ℕ) → AgreeBeside hides s regs → AreShown hides s (sources i) → answer_in i (with_values s regs bytes reading) ≡ answer_in i s
 answer-same hides i s regs bytes reading same shown =
@@ -134,10 +125,10 @@ answer-same hides i s regs bytes reading same shown =
     let nb = words_read (row_of i.op).b in
     let nc = words_read (row_of i.op).c in
     let all = shown-three hides s (registers_of i.a na) (registers_of i.b nb) (registers_of i.c nc) shown in
+    let a : (k : ℕ) → used na k (word_of t i.a k) ≡ used na k (word_of s i.a k) = λ k. used-same hides s regs bytes reading i.a na k same all.0 in
+    let b : (k : ℕ) → used nb k (word_of t i.b k) ≡ used nb k (word_of s i.b k) = λ k. used-same hides s regs bytes reading i.b nb k same all.1 in
     sym (results-used i.op (word_of t i.a 0) (word_of t i.a 1) (word_of t i.a 2) (word_of t i.a 3) (word_of t i.b 0) (word_of t i.b 1) (word_of t i.c 0) s.ac)
-    ∙ results-args i.op _ _ _ _ _ _ _ _ _ _ _ _ _ _ s.ac
-    (used-same hides s regs bytes reading i.a na 0 same all.0) (used-same hides s regs bytes reading i.a na 1 same all.0) (used-same hides s regs bytes reading i.a na 2 same all.0) (used-same hides s regs bytes reading i.a na 3 same all.0)
-    (used-same hides s regs bytes reading i.b nb 0 same all.1) (used-same hides s regs bytes reading i.b nb 1 same all.1) (used-same hides s regs bytes reading i.c nc 0 same all.2)
+    ∙ rw (a 0, a 1, a 2, a 3, b 0, b 1, used-same hides s regs bytes reading i.c nc 0 same all.2) refl
     ∙ results-used i.op (word_of s i.a 0) (word_of s i.a 1) (word_of s i.a 2) (word_of s i.a 3) (word_of s i.b 0) (word_of s i.b 1) (word_of s i.c 0) s.ac
 
 -- ---- questions too
@@ -177,10 +168,7 @@ taken-same hides i s regs bytes reading same shown =
     let e = asked-same hides i s regs bytes reading same shown in
     let code = code_of s.ac in
     let q = question_of i.op in
-    sym (yes-used i.op (value t i.a) (value t i.b) code)
-    ∙ ap (λ (x : ℕ). says_yes q x (asked_of i.op (words_read (row_of i.op).b) (value t i.b)) code) e.0
-    ∙ ap (λ (x : ℕ). says_yes q (asked_of i.op (words_read (row_of i.op).a) (value s i.a)) x code) e.1
-    ∙ yes-used i.op (value s i.a) (value s i.b) code
+    sym (yes-used i.op (value t i.a) (value t i.b) code) ∙ rw (e.0, e.1) (yes-used i.op (value s i.a) (value s i.b) code)
 
 branching-same : (hides : Bool) (i : Inst) (s : State) (regs bytes reading : ℕ → ℕ) → AgreeBeside hides s regs → AsksShown hides i s → branching i (with_values s regs bytes reading) ≡ branching i s
 branching-same hides i s regs bytes reading same shown =
@@ -189,12 +177,8 @@ branching-same hides i s regs bytes reading same shown =
     let code = code_of s.ac in
     let q = question_of i.op in
     let after : code_after q (value t i.a) (value t i.b) code ≡ code_after q (value s i.a) (value s i.b) code =
-    sym (after-used i.op (value t i.a) (value t i.b) code)
-    ∙ ap (λ (x : ℕ). code_after q x (asked_of i.op (words_read (row_of i.op).b) (value t i.b)) code) e.0
-    ∙ ap (λ (x : ℕ). code_after q (asked_of i.op (words_read (row_of i.op).a) (value s i.a)) x code) e.1
-    ∙ after-used i.op (value s i.a) (value s i.b) code in
-    ap (λ (x : ℕ). record (branching i t) { ac = with_code s.ac x }) after
-    ∙ ap (λ (b : Bool). record (branching i s) { next = cond b (aligned (target i s)) (following i s) }) (taken-same hides i s regs bytes reading same shown)
+    sym (after-used i.op (value t i.a) (value t i.b) code) ∙ rw (e.0, e.1) (after-used i.op (value s i.a) (value s i.b) code) in
+    rw (after, taken-same hides i s regs bytes reading same shown) refl
 
 -- ---- names that keep marks
 
@@ -220,7 +204,7 @@ keeps-controls _ a0 a1 a2 a3 b0 b1 c ac = refl
 
 -- where marks are hidden, no value needs to be the same
 hidden-values : (n : ℕ) (b : Bool) (vs ws : List ℕ) → b ≡ true → length vs ≡ n → length ws ≡ n → AreValuesAlike true (replicate n b) vs ws
-hidden-values n b vs ws e long too = values-marked true b n vs ws long too (λ h. let no : false ≡ true = sym (ap (shows true) e) ∙ h in absurd (cc no))
+hidden-values n b vs ws e long too = values-marked true b n vs ws long too (λ h. absurd (grind arith))
 
 -- a result, or what else its row says
 resulting-agree : (hides : Bool) (i : Inst) (s : State) (regs bytes reading : ℕ → ℕ) → AgreeBeside hides s regs → is_lda i.op ≡ false → moves_words i.op ≡ false
@@ -233,7 +217,7 @@ resulting-agree hides i s regs bytes reading same other plain none allowed = by_
 
     marked_keeps : (k m : Bool) (rs : List ℕ) → is_marked s rs ≡ m → m ≡ true → is_marked s (cond k [] rs) ≡ false → k ≡ true
     marked_keeps true m rs e d h = refl
-    marked_keeps false m rs e d h = let no : true ≡ false = sym (e ∙ d) ∙ h in absurd (cc no)
+    marked_keeps false m rs e d h = cc
 
     hidden : (h m : Bool) → shows h m ≡ false → (h ≡ true) × (m ≡ true)
     hidden h m e = grind arith
@@ -256,8 +240,7 @@ resulting-agree hides i s regs bytes reading same other plain none allowed = by_
         let ws = values_of (answer_in i t) in
         let n = destination_words i.op in
         let values : AreValuesAlike hides (result_marks i s) vs ws =
-        subst (λ (bs : List Bool). AreValuesAlike hides bs vs ws) (sym marks)
-        (subst (λ (h : Bool). AreValuesAlike h (replicate n (is_marked s (sources i))) vs ws) (sym hiding) (hidden-values n (is_marked s (sources i)) vs ws marked (counts s keeps) (counts t keeps))) in
+        rw (marks, hiding) (hidden-values n (is_marked s (sources i)) vs ws marked (counts s keeps) (counts t keeps)) in
         let fits : IsAllowed (destination i) (result_marks i s) = ap (λ (o : Operand). is_special o && list_any (λ (b : Bool). b) (result_marks i s)) (here keeps) ∙ allowed in
         ac-alike hides (marking (destination i) (result_marks i s) (assigning (destination i) vs (passing i s))) (marking (destination i) (result_marks i s) (assigning (destination i) ws (passing i s)))
         (controls_of (answer_in i s) s.ac) (controls_of (answer_in i t) s.ac) (controls t keeps ∙ sym (controls s keeps))
@@ -274,7 +257,7 @@ asks-sources : (hides : Bool) (i : Inst) (s : State) → is_marked s (cond (keep
 asks-sources hides i s none asked = by_keeps (keeps_marks i.op) (asks (question_of i.op)) asked (keeps-asks i.op) none
   where
     by_keeps : (k a : Bool) → a ≡ true → cond k a false ≡ false → is_marked s (cond k [] (sources i)) ≡ false → AreShown hides s (sources i)
-    by_keeps true a e d h = let no : true ≡ false = sym e ∙ d in absurd (cc no)
+    by_keeps true a e d h = absurd cc
     by_keeps false a e d h = shows-none hides (is_marked s (sources i)) h
 
 pub other-agree : (hides : Bool) (i : Inst) (s : State) (regs bytes reading : ℕ → ℕ) → AgreeBeside hides s regs → is_lda i.op ≡ false → moves_words i.op ≡ false

@@ -1,6 +1,6 @@
 -- In states that agree the same stands at the instruction address.
-use Rattle.std.proofs.Common.{◌≡◌, ℕ, ◌/◌, ◌%◌, ◌^◌, Bool, true, false, cond, List, [], ◌∷◌, ◌++◌, Option, Some, None, Result, Ok, Err, refl, sym, ap, ◌∙◌}
-use Rattle.std.specs.Prelude.{not, ◌==◌, ◌&&◌, ◌||◌, if◌then◌else◌}
+use Rattle.std.proofs.Common.{◌≡◌, ◌⊎◌, inl, inr, arith, ℕ, ◌/◌, ◌%◌, ◌^◌, Bool, true, false, cond, List, [], ◌∷◌, ◌++◌, Option, Some, None, Result, Ok, Err, refl, sym, ap, ◌∙◌}
+use Rattle.std.specs.Prelude.{not, ◌==◌, ◌&&◌, ◌||◌}
 use Rattle.std.specs.List.{list_any}
 use Rattle.std.proofs.lemmas.List.Folds.{list_any-append}
 use Rattle.std.proofs.lemmas.Bool.{or_parts}
@@ -15,19 +15,18 @@ use Rattle.i9_isa.specs.declared.inst.BadWord.{BadWord}
 use Rattle.i9_isa.specs.Transfers.{transfer_of, byte_count}
 use Rattle.i9_isa.specs.Words.{decoded}
 use Rattle.i9_model.specs.declared.layout.TheConstants.{FP, SP, PFP}
-use Rattle.i9_model.specs.declared.faults.TheConstants.{OPERATION, PROTECTION, TYPE, CONSTRAINT, RANGE, UNALIGNED, INVALID_OPERAND, LENGTH, MISMATCH}
 use Rattle.i9_model.specs.State.{State, Frames, aligned}
 use Rattle.i9_model.specs.Frames.{rounded_down, flushed}
 use Rattle.i9_model.specs.Hazards.{or_else, read_hazard, save_hazard, return_hazard}
-use Rattle.i9_model.specs.Calls.{in_supervisor_mode, takes_record, return_type, record_hazard, ret_hazard, system_hazard_by}
-use Rattle.i9_model.specs.Faults.{is_special, is_supervisor_only, uses_special, is_invalid, is_past_table, is_unaligned, raised}
+use Rattle.i9_model.specs.Calls.{takes_record, return_type, record_hazard, ret_hazard, system_hazard_by}
+use Rattle.i9_model.specs.Faults.{is_special, is_supervisor_only, is_invalid, is_past_table, raised}
 use Rattle.i9_model.specs.Operands.{value, address}
 use Rattle.i9_model.specs.Results.{results_by}
 use Rattle.i9_model.specs.Branches.{question_of, asks}
 use Rattle.i9_model.specs.Step.{first_word, next_word, answer_in, Message, AsksInterrupt, AsksRestart, AsksGroup, message_of, argument_of, message_kind, asked_message}
 use Rattle.i9_model.specs.Stale.{registers_of, sources, address_registers, is_marked, moved_marks, marks_by_name, marks_by, restart_registers, record_registers, deciding, deciding_by, stored_out, goes_out, goes_out_by, reaches_special, misuses, area_hazard}
 use Rattle.i9_model.specs.Access.{Access, Reads, Writes, Changes, SavesFrame, CallsSystem, ReturnsBy, Requests, ReadsTables, ReadsGroup, moved_access, message_access, access_by_name, access_by, access_of, data_of, hazard_in, hazard_of, fetch_hazard, second_hazard}
-use Rattle.i9_model.specs.Standing.{Meets, answer_fault, is_fault_name, range_fault, first_fault, raised_in, later_fault, by_access, by_later, by_raised, by_word, by_fetch, stands_at}
+use Rattle.i9_model.specs.Standing.{Meets, answer_fault, raised_in, later_fault, by_access, by_later, by_raised, by_word, by_fetch, stands_at}
 use Rattle.i9_model.specs.Alike.{is_hard, AgreeWhere, with_other, with_memory, shows, with_values, AgreeBeside}
 use Rattle.i9_model.proofs.CallLaws.{first_none, second_none}
 use Rattle.i9_agree.proofs.AlikeActions.{system_hazard_by_same}
@@ -43,8 +42,7 @@ use Rattle.i9_agree.proofs.AgreeCalls.{named, restart-shown}
 
 -- whether what comes later is marked doesn't matter where what decides it is
 either-same : (b c d : Bool) → (b ≡ false → d ≡ c) → (b || d) ≡ (b || c)
-either-same true c d h = refl
-either-same false c d h = h refl
+either-same b c d h = grind arith
 
 name-decides : (hides : Bool) (op : Op) (i : Inst) (s : State) (regs bytes reading : ℕ → ℕ) → AgreeBeside hides s regs → is_marked s (deciding op i (with_values s regs bytes reading)) ≡ is_marked s (deciding op i s)
 name-decides hides Ret i s regs bytes reading same =
@@ -90,8 +88,7 @@ misuses-same hides i s regs bytes reading same =
     ap (λ (b : Bool). b || (reaches_special i t || goes_out_by o i t)) (decides hides o i s regs bytes reading same)
     ∙ either-same first (reaches_special i s || goes_out_by o i s) (reaches_special i t || goes_out_by o i t) (λ e.
     let marks = marks-same hides o i s regs bytes reading same (shows-none hides first e) in
-    ap (λ (bs : List Bool). (is_special i.c && list_any (λ (b : Bool). b) bs) || goes_out_by o i t) marks.0
-    ∙ ap (λ (b : Bool). reaches_special i s || b) marks.1)
+    rw (marks.0, marks.1) refl)
 
 -- what is not misused
 pub record IsAllowedIn (i : Inst) (s : State) : Type 0 where
@@ -112,9 +109,8 @@ area-same : (hides : Bool) (s : State) (regs bytes reading : ℕ → ℕ) → Ag
 area-same hides s regs bytes reading same b = by_mark (s.marks FP) (not b && s.marks SP) refl
   where
     by_mark : (m n : Bool) → s.marks FP ≡ m → or_else (cond (m || n) (Some s.ip) None) (save_hazard s.frames (rounded_down (regs FP))) ≡ or_else (cond (m || n) (Some s.ip) None) (save_hazard s.frames (rounded_down (s.regs FP)))
-    by_mark true n e = refl
-    by_mark false true e = refl
     by_mark false false e = ap (λ (x : ℕ). save_hazard s.frames (rounded_down x)) (same FP (shows-none hides (s.marks FP) e))
+    by_mark _ _ e = refl
 
 pub areas-same : (hides : Bool) (s : State) (regs bytes reading : ℕ → ℕ) → AgreeBeside hides s regs → ◌≡◌ {A = Bool → Option ℕ} (area_hazard (with_values s regs bytes reading)) (area_hazard s)
 areas-same hides s regs bytes reading same = λ i b. area-same hides s regs bytes reading same b i
@@ -156,7 +152,7 @@ SameAccess s regs x y = (y ≡ x) × FpKnown s regs x
 
 name-access : (hides : Bool) (op : Op) (i : Inst) (s : State) (regs bytes reading : ℕ → ℕ) → AgreeBeside hides s regs → AreShown hides s (deciding op (named op i) s) → SameAccess s regs (access_by_name op (named op i) s) (access_by_name op (named op i) (with_values s regs bytes reading))
 name-access hides Atadd i s regs bytes reading same shown = (ap (λ (v : ℕ). Changes (aligned v) 4) (value-same hides s regs bytes reading i.a same shown), tt)
-name-access hides Atmod i s regs bytes reading same shown = (ap (λ (v : ℕ). Changes (aligned v) 4) (value-same hides s regs bytes reading i.a same shown), tt)
+name-access hides Atmod i s regs bytes reading same shown = (rw (value-same hides s regs bytes reading i.a same shown) refl, tt)
 name-access hides Calls i s regs bytes reading same shown = (ap (λ (v : ℕ). CallsSystem v) (value-same hides s regs bytes reading i.a same (shown-first hides s (registers_of i.a 1) (registers_of i.b 0 ++ registers_of i.c 0) shown)), tt)
 name-access hides Ret i s regs bytes reading same shown = (
   ap (λ (p : ℕ). ReturnsBy p) (same PFP (shows-first hides (s.marks PFP) (is_marked s (record_registers s)) shown)),
@@ -164,8 +160,7 @@ name-access hides Ret i s regs bytes reading same shown = (
 )
   where
     by_takes : (b : Bool) → b ≡ true → shows hides (is_marked s (cond b (FP ∷ []) [])) ≡ true → shows hides (s.marks FP) ≡ true
-    by_takes true e h = shows-first hides (s.marks FP) false h
-    by_takes false e h = absurd cc
+    by_takes b e h = grind arith
 name-access hides Sysctl i s regs bytes reading same shown =
     let t = with_values s regs bytes reading in
     let j = named Sysctl i in
@@ -222,18 +217,7 @@ table-used _ a = refl
 
 raised-used : (i : Inst) (a b : ℕ) (x : Option (ℕ × ℕ)) (pc config : ℕ) → raised i (first_source i.op a) (second_source i.op b) x pc config ≡ raised i a b x pc config
 unfolding raised
-raised-used i a b x pc config = parts _ _ _ _ _ _ (supervisor-used i.op b) (invalid-used i.op a) (table-used i.op a)
-  where
-    tests : Bool → Bool → Bool → Option (ℕ × ℕ)
-    tests p q r =
-        if not (in_supervisor_mode pc) && (p || uses_special i) then Some (TYPE, MISMATCH)
-        else if q then Some (OPERATION, INVALID_OPERAND)
-        else if r then Some (PROTECTION, LENGTH)
-        else if is_unaligned x config then Some (OPERATION, UNALIGNED)
-        else None
-
-    parts : (p p2 q q2 r r2 : Bool) → p2 ≡ p → q2 ≡ q → r2 ≡ r → tests p2 q2 r2 ≡ tests p q r
-    parts p p2 q q2 r r2 e d c = rw (e, d, c) refl
+raised-used i a b x pc config = rw (supervisor-used i.op b, invalid-used i.op a, table-used i.op a) refl
 
 first-same : (hides : Bool) (op : Op) (i : Inst) (s : State) (regs bytes reading : ℕ → ℕ) → AgreeBeside hides s regs → is_marked s (deciding_by (transfer_of op) (named op i) s) ≡ false → first_source op (value (with_values s regs bytes reading) i.a) ≡ first_source op (value s i.a)
 unfolding first_source
@@ -253,37 +237,27 @@ raised-same hides i s regs bytes reading same none =
     let config = s.tables.fault_config in
     ap (λ (x : Access). raised i (value t i.a) (value t i.b) (data_of x) s.pc config) (access-same hides i s regs bytes reading same none).0
     ∙ sym (raised-used i (value t i.a) (value t i.b) (data_of (access_of i s)) s.pc config)
-    ∙ ap (λ (a : ℕ). raised i a (second_source i.op (value t i.b)) (data_of (access_of i s)) s.pc config) (first-same hides i.op i s regs bytes reading same none)
-    ∙ ap (λ (b : ℕ). raised i (first_source i.op (value s i.a)) b (data_of (access_of i s)) s.pc config) (second-same hides i.op i s regs bytes reading same none)
+    ∙ rw (first-same hides i.op i s regs bytes reading same none, second-same hides i.op i s regs bytes reading same none) refl
     ∙ raised-used i (value s i.a) (value s i.b) (data_of (access_of i s)) s.pc config
 
--- names whose result may be a fault, or shows only as far as its values do
-may_fault : Op → Bool
-may_fault Addi = true
-may_fault Subi = true
-may_fault Muli = true
-may_fault Shli = true
-may_fault Divo = true
-may_fault Remo = true
-may_fault Divi = true
-may_fault Remi = true
-may_fault Modi = true
-may_fault Ediv = true
-may_fault Concmpo = true
-may_fault Concmpi = true
-may_fault Spanbit = true
-may_fault Scanbit = true
-may_fault _ = false
-
-fault-used : (op : Op) (a b : List ℕ) (c ac : ℕ) → cond (may_fault op) (answer_fault (results_by op a b c ac)) None ≡ answer_fault (results_by op a b c ac)
-unfolding may_fault
-fault-used Mov a b c ac = refl
-fault-used _ a b c ac = refl
-
-faults-decide : (op : Op) (i : Inst) (s : State) → cond (may_fault op) (deciding_by (transfer_of op) (named op i) s) [] ≡ cond (may_fault op) (sources (named op i)) []
-unfolding may_fault
-faults-decide Mov i s = refl
-faults-decide _ i s = refl
+-- a result is no fault, or what decides are the sources
+fault-cases : (op : Op) → ((a b : List ℕ) (c ac : ℕ) → answer_fault (results_by op a b c ac) ≡ None)
+    ⊎ ((i : Inst) (s : State) → deciding_by (transfer_of op) (named op i) s ≡ sources (named op i))
+fault-cases Addi = inr (λ i s. refl)
+fault-cases Subi = inr (λ i s. refl)
+fault-cases Muli = inr (λ i s. refl)
+fault-cases Shli = inr (λ i s. refl)
+fault-cases Divo = inr (λ i s. refl)
+fault-cases Remo = inr (λ i s. refl)
+fault-cases Divi = inr (λ i s. refl)
+fault-cases Remi = inr (λ i s. refl)
+fault-cases Modi = inr (λ i s. refl)
+fault-cases Ediv = inr (λ i s. refl)
+fault-cases Concmpo = inr (λ i s. refl)
+fault-cases Concmpi = inr (λ i s. refl)
+fault-cases Spanbit = inr (λ i s. refl)
+fault-cases Scanbit = inr (λ i s. refl)
+fault-cases _ = inl (λ a b c ac. refl)
 
 asks-decide : (op : Op) (i : Inst) (s : State) → cond (asks (question_of op)) (deciding_by (transfer_of op) (named op i) s) [] ≡ cond (asks (question_of op)) (sources (named op i)) []
 asks-decide Mov i s = refl
@@ -299,14 +273,11 @@ asks-shown hides i s none asked = shown-where hides s (asks (question_of i.op)) 
 later-same : (hides : Bool) (i : Inst) (s : State) (regs bytes reading : ℕ → ℕ) → AgreeBeside hides s regs → is_marked s (deciding_by (transfer_of i.op) i s) ≡ false → later_fault i (with_values s regs bytes reading) ≡ later_fault i s
 later-same hides i s regs bytes reading same none =
     let t = with_values s regs bytes reading in
-    let answer : answer_fault (answer_in i t) ≡ answer_fault (answer_in i s) =
-    sym (fault-used i.op _ _ _ s.ac) ∙ by_fault (may_fault i.op) (λ e. answer-same hides i s regs bytes reading same (shown-where hides s (may_fault i.op) (deciding_by (transfer_of i.op) i s) (sources i) (faults-decide i.op i s) none e)) ∙ fault-used i.op _ _ _ s.ac in
-    ap (λ (o : Option (ℕ × ℕ)). first_fault o (range_fault i t)) answer
-    ∙ ap (λ (b : Bool). first_fault (answer_fault (answer_in i s)) (cond (is_fault_name i.op && b) (Some (CONSTRAINT, RANGE)) None)) (taken-same hides i s regs bytes reading same (asks-shown hides i s none))
-  where
-    by_fault : (b : Bool) → (b ≡ true → answer_in i (with_values s regs bytes reading) ≡ answer_in i s) → cond b (answer_fault (answer_in i (with_values s regs bytes reading))) None ≡ cond b (answer_fault (answer_in i s)) None
-    by_fault false h = refl
-    by_fault true h = ap answer_fault (h refl)
+    let answer : answer_fault (answer_in i t) ≡ answer_fault (answer_in i s) = elim (fault-cases i.op) [
+      | inl never ↦ never _ _ _ s.ac ∙ sym (never _ _ _ s.ac)
+      | inr all ↦ ap answer_fault (answer-same hides i s regs bytes reading same (shows-none hides _ (ap (is_marked s) (sym (all i s)) ∙ none)))
+    ] in
+    rw (answer, taken-same hides i s regs bytes reading same (asks-shown hides i s none)) refl
 
 -- ---- what stands there
 
