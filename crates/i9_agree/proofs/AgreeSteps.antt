@@ -1,6 +1,5 @@
 -- What comes next in states that agree is alike, and states stay in agreement.
-use Rattle.std.proofs.Common.{◌≡◌, ℕ, ◌+◌, ◌*◌, ◌≤◌, Bool, true, false, cond, eqb, ◌&&◌, ◌||◌, nat_le, List, [], ◌∷◌, ◌++◌, Option, Some, None, Result, Ok, Err, refl, sym, ap, ◌∙◌, subst, arith, zero, suc, ◌<◌, length}
-use Rattle.std.specs.Option.{option_map, option_and_then}
+use Rattle.std.proofs.Common.{◌≡◌, inl, inr, ℕ, ◌+◌, ◌*◌, ◌≤◌, Bool, true, false, cond, eqb, ◌&&◌, ◌||◌, nat_le, List, [], ◌∷◌, ◌++◌, Option, Some, None, Result, Ok, Err, refl, sym, ap, ◌∙◌, subst, arith, zero, suc, ◌<◌, length}
 use Rattle.std.specs.Prelude.{not, bit_and, max, map, ◌%◌, ◌==◌}
 use Rattle.std.specs.List.{range_with_len, list_any}
 use Rattle.i9_isa.specs.declared.op.Op.{Op}
@@ -23,7 +22,7 @@ use Rattle.i9_model.specs.declared.faults.Entry.{Entry}
 use Rattle.i9_model.specs.declared.faults.FaultStop.{FaultStop}
 use Rattle.i9_model.specs.declared.faults.FaultStop.TheVariants as stops
 use Rattle.i9_model.specs.Writes.{address_count, wrapped, written, upwards, last_put, or_earlier}
-use Rattle.i9_model.specs.Memory.{Memory, in_port_page, words_in, exit_word, ordered_word}
+use Rattle.i9_model.specs.Memory.{Memory, in_port_page, words_in, exit_word}
 use Rattle.i9_model.specs.State.{State, Frames, TraceControls, started, Interrupts, start_sets}
 use Rattle.i9_model.specs.Frames.{flushed, places, in_bytes, is_kept, has}
 use Rattle.i9_model.specs.Hazards.{read_hazard, save_hazard, write_hazard}
@@ -37,14 +36,14 @@ use Rattle.i9_model.specs.declared.trace.Seen.{Seen}
 use Rattle.i9_model.specs.declared.trace.Trace.{Trace}
 use Rattle.i9_model.specs.Tracing.{trace_of}
 use Rattle.i9_model.specs.Traced.{switches, seen_of, trace_left, traced_action}
-use Rattle.i9_model.specs.Access.{Access, data_of, message_access, access_by_name, access_by, hazard_in, hazard_of, moved_access}
+use Rattle.i9_model.specs.Access.{Access, message_access, access_by_name, access_by, hazard_in, hazard_of, moved_access}
 use Rattle.i9_model.specs.Standing.{Standing, Meets, Refused, Faults, Runs, stands_at}
 use Rattle.i9_model.specs.declared.run.End.{End}
-use Rattle.i9_model.specs.declared.run.End.TheVariants.{Limit, Exit}
+use Rattle.i9_model.specs.declared.run.End.TheVariants.{Limit}
 use Rattle.i9_model.specs.Run.{Kind, Instruction, Faulted, Entered, Interrupted, Reached, action_by_kind, counts_of, record_of, exit_in, due_in, due_by, Ends, finish, next_by_standing, next_by_received, next_by_event, next_by_interrupt, next_by_choice, next_by_entry, entry_in, fault_at, next_in}
 use Rattle.i9_model.specs.declared.run.Due.{Due}
 use Rattle.i9_model.specs.Overlay.{overlay}
-use Rattle.i9_model.specs.Alike.{is_hard, AgreeWhere, with_other, with_memory, told, is_beyond, shows, is_open, with_values, AgreeBeside, Agree, AreWritesAlike, AreActionsAlike, access_by_kind, DoAgree, NextsAgree}
+use Rattle.i9_model.specs.Alike.{is_hard, AgreeWhere, with_other, with_memory, told, is_beyond, shows, with_values, AgreeBeside, Agree, AreWritesAlike, AreActionsAlike, access_by_kind, DoAgree, NextsAgree}
 use Rattle.i9_model.proofs.CallLaws.{first_none, second_none, enters_free_by}
 use Rattle.i9_model.proofs.ControlLaws.{by_group}
 use Rattle.i9_model.proofs.Readings.{read_same, inner_word_same, words_same}
@@ -53,7 +52,7 @@ use Rattle.i9_agree.proofs.SoundRuns.{action_clear, IsSafe, IsLostOf, action_los
 use Rattle.i9_agree.proofs.InterruptsFree.{interrupts_free, InterruptsFree}
 use Rattle.i9_agree.proofs.Units.{received_same}
 use Rattle.i9_model.specs.declared.run.Due.TheVariants as dues
-use Rattle.std.proofs.lemmas.Bool.{or_left, or_from, or_parts, eqb-true}
+use Rattle.std.proofs.lemmas.Bool.{cases_Bool, or_from, or_parts, eqb-true}
 use Rattle.i9_isa.specs.declared.size.Size.TheVariants.{Byte, Half, Words}
 use Rattle.i9_isa.specs.declared.inst.Operand.{Operand}
 use Rattle.i9_model.specs.declared.faults.Fault.{Fault}
@@ -93,10 +92,6 @@ setup_by first p0 p1 p2 p3 p4 p5 p7 p9 control = record {
   control = control;
 }
 
-setup_parts : (first p0 p1 p2 p3 p4 p5 p7 p9 q0 q1 q2 q3 q4 q5 q7 q9 : ℕ) (c d : List ℕ) → p0 ≡ q0 → p1 ≡ q1 → p2 ≡ q2 → p3 ≡ q3 → p4 ≡ q4 → p5 ≡ q5 → p7 ≡ q7 → p9 ≡ q9 → c ≡ d
-    → setup_by first p0 p1 p2 p3 p4 p5 p7 p9 c ≡ setup_by first q0 q1 q2 q3 q4 q5 q7 q9 d
-setup_parts first p0 p1 p2 p3 p4 p5 p7 p9 q0 q1 q2 q3 q4 q5 q7 q9 c d e0 e1 e2 e3 e4 e5 e7 e9 e = rw (e0, e1, e2, e3, e4, e5, e7, e9, e) refl
-
 pub setup_same : (f : Frames) (m : Memory) (bytes : ℕ → ℕ) (first prcb : ℕ) → AgreeWhere (is_hard f) m bytes → tables_hazard m f prcb ≡ None → setup_of (with_other m bytes) first prcb ≡ setup_of m first prcb
 unfolding tables_hazard setup_of
 setup_same f m bytes first prcb same none =
@@ -108,8 +103,8 @@ setup_same f m bytes first prcb same none =
     let word : (k : ℕ) → 4 * k + 4 ≤ PRCB_SIZE → table_word n prcb k ≡ table_word m prcb k = λ k h. inner_word_same m bytes prcb PRCB_SIZE (4 * k) here h in
     let table : words_in n (table_word n prcb 1) CONTROL_WORDS ≡ words_in m a CONTROL_WORDS =
     ap (λ (x : ℕ). words_in n x CONTROL_WORDS) (word 1 (omega arith)) ∙ words_same m bytes a CONTROL_TABLE_SIZE CONTROL_WORDS (read_same f m bytes a CONTROL_TABLE_SIZE same table_read) (omega arith) in
-    setup_parts first _ _ _ _ _ _ _ _ _ _ _ _ _ _ _ _ _ _
-    (word 0 (omega arith)) (word 1 (omega arith)) (word 2 (omega arith)) (word 3 (omega arith)) (word 4 (omega arith)) (word 5 (omega arith)) (word 7 (omega arith)) (word 9 (omega arith)) table
+    rw (table, word 0 (omega arith), word 1 (omega arith), word 2 (omega arith), word 3 (omega arith), word 4 (omega arith))
+    (rw (word 5 (omega arith), word 7 (omega arith), word 9 (omega arith)) refl)
 
 pub group_same : (f : Frames) (m : Memory) (bytes : ℕ → ℕ) (table group : ℕ) → AgreeWhere (is_hard f) m bytes → group_hazard f table group ≡ None → group_words (with_other m bytes) table group ≡ group_words m table group
 unfolding group_hazard group_words
@@ -178,14 +173,12 @@ action_readable i s none = by_transfer (transfer_of i.op) none
 group-parts : (a b c : Bool) (s : State) (regs bytes reading : ℕ → ℕ) (group : ℕ) (ws : List ℕ) → by_group a b c (with_values s regs bytes reading) group ws ≡ with_values (by_group a b c s group ws) regs bytes reading
 group-parts true b c s regs bytes reading group ws = refl
 group-parts false true c s regs bytes reading group ws = refl
-group-parts false false true s regs bytes reading group ws = refl
-group-parts false false false s regs bytes reading group ws = refl
+group-parts false false _ s regs bytes reading group ws = grind arith
 
 -- a state that agrees, by its values
 pub agree-by : (hides : Bool) (s t : State) (regs bytes reading : ℕ → ℕ) → t ≡ with_values s regs bytes reading → AreOther hides s regs bytes reading → Agree hides s t
 agree-by hides s t regs bytes reading e same =
-    let here : Agree hides s (with_values s regs bytes reading) = record { rest = refl; regs = same.regs; bytes = same.bytes; reading = same.reading } in
-    subst (Agree hides s) (sym e) here
+    rw e (record { rest = refl; regs = same.regs; bytes = same.bytes; reading = same.reading })
 
 pub others : (hides : Bool) (s t : State) → Agree hides s t → AreOther hides s t.regs t.memory.bytes t.reading
 others hides s t agree = record { regs = agree.regs; bytes = agree.bytes; reading = agree.reading }
@@ -215,9 +208,9 @@ controls-agree hides (LoadsGroup group) s regs bytes reading readable same =
     let all : controlled t (LoadsGroup group) ≡ with_values (controlled s (LoadsGroup group)) regs bytes reading =
     ap (with_group t group) (group_same s.frames s.memory bytes s.tables.control_table group hard readable) ∙ group-parts (eqb group 0) (eqb group 1) (eqb group 6) s regs bytes reading group ws in
     agree-by hides (controlled s (LoadsGroup group)) (controlled t (LoadsGroup group)) regs bytes reading all (record {
-      regs = λ r h. same.regs r (ap (λ (m : ℕ → Bool). shows hides (m r)) (sym rest.1) ∙ h) ∙ ap (λ (f : ℕ → ℕ). f r) (sym rest.0);
-      bytes = λ x h. same.bytes x (ap (λ (f : Frames). is_open hides f x) (sym rest.4) ∙ h) ∙ ap (λ (f : ℕ → ℕ). f x) (sym rest.3);
-      reading = λ e x y. same.reading e x y ∙ ap (λ (f : ℕ → ℕ). f y) (sym rest.2);
+      regs = rw (rest.1, rest.0) same.regs;
+      bytes = rw (rest.4, rest.3) same.bytes;
+      reading = rw rest.2 same.reading;
     })
 
 pub controlled-agree : (hides : Bool) (c : Control) (s t : State) → IsReadable s c → Agree hides s t → Agree hides (controlled s c) (controlled t c)
@@ -232,14 +225,12 @@ counted-agree : (hides : Bool) (n : ℕ) (s t : State) → Agree hides s t → A
 counted-agree hides n s t agree = record { rest = ap (counted n) agree.rest; regs = agree.regs; bytes = agree.bytes; reading = agree.reading }
 
 pub acted-agree : (hides : Bool) (s t : State) (a b : Action) → IsContained s a → IsReadable (moved s a) a.control → AreActionsAlike hides a b → Agree hides s t → Agree hides (acted s a) (acted t b)
-unfolding acted
+unfolding acted moved
 acted-agree hides s t a b inside readable alike agree =
     let control : b.control ≡ a.control = ap (λ (x : Action). x.control) alike.rest in
     let trace : b.trace ≡ a.trace = ap (λ (x : Action). x.trace) alike.rest in
-    let here = flagged-agree hides a.trace (controlled (moved s a) a.control) (controlled (moved t b) a.control)
-    (controlled-agree hides a.control (moved s a) (moved t b) readable (moved-agree hides s t a b inside alike agree)) in
-    subst (λ (c : Control). Agree hides (acted s a) (flagged b.trace (controlled (moved t b) c))) (sym control)
-    (subst (λ (o : Option Trace). Agree hides (acted s a) (flagged o (controlled (moved t b) a.control))) (sym trace) here)
+    rw (control, trace) (flagged-agree hides a.trace (controlled (moved s a) a.control) (controlled (moved t b) a.control)
+    (controlled-agree hides a.control (moved s a) (moved t b) readable (moved-agree hides s t a b inside alike agree)))
 
 -- ---- what is marked of an action is where it may be
 
@@ -271,8 +262,7 @@ map-none f a zero none = refl
 map-none f a (suc n) none = or_from (f a) (list_any (λ (b : Bool). b) (map f (range_with_len (a + 1) n))) (none a (omega arith)) (map-none f (a + 1) n (λ k l. none k (omega arith)))
 
 unmarked : (m : Bool) → shows true m ≡ true → m ≡ false
-unmarked false h = refl
-unmarked true h = absurd cc
+unmarked m h = grind arith
 
 -- a store of registers without marks
 stored-none : (size : Size) (s : State) (o : Operand) → is_marked s (registers_of o (register_count size)) ≡ false → list_any (λ (b : Bool). b) (stored_marks size s o) ≡ false
@@ -284,11 +274,10 @@ stored-none (Words n) s o none = bytes-none (marks_of s o n) (map-none (mark_of 
 
 any-none : (test : ℕ → Bool) (ys : List ℕ) (x : ℕ) → list_any test ys ≡ false → list_any (λ (y : ℕ). x == y) ys ≡ true → test x ≡ false
 any-none test [] x none t = absurd cc
-any-none test (y ∷ ys) x none t = by_first (x == y) refl t (λ k. any-none test ys x (or_parts (test y) (list_any test ys) none).1 k)
-  where
-    by_first : (b : Bool) → (x == y) ≡ b → (b || list_any (λ (z : ℕ). x == z) ys) ≡ true → (list_any (λ (z : ℕ). x == z) ys ≡ true → test x ≡ false) → test x ≡ false
-    by_first true e k later = ap test (eqb-true x y e) ∙ (or_parts (test y) (list_any test ys) none).0
-    by_first false e k later = later k
+any-none test (y ∷ ys) x none t = elim (cases_Bool (x == y)) [
+  | inl e ↦ rw (eqb-true x y e) (grind arith)
+  | inr e ↦ any-none test ys x (grind arith) (grind arith)
+]
 
 -- bytes that are written beside live frames, and beside the port page where one of them is marked
 written-inside : (f : Frames) (a n : ℕ) (bs : List Bool) (marked : Bool) → length bs ≡ n → write_hazard f a n ≡ None → (marked ≡ false → list_any (λ (b : Bool). b) bs ≡ false) → (marked && touches_port a n) ≡ false → AreInside f (picked wrapped a bs)
@@ -298,8 +287,8 @@ written-inside f a n bs marked long free none out = λ x t.
     (within a n x here (by_marked marked refl x t here), write_hazard-none f a n x free here)
   where
     by_marked : (m : Bool) → marked ≡ m → (x : ℕ) → has (picked wrapped a bs) x ≡ true → in_bytes a n x ≡ true → in_port_page x ≡ false
-    by_marked false e x t here = let no : true ≡ false = sym t ∙ picked-none wrapped a bs x (none e) in absurd (cc no)
-    by_marked true e x t here = any-none in_port_page (places a n) x (ap (λ (m : Bool). m && touches_port a n) (sym e) ∙ out) here
+    by_marked false e x t here = absurd (cc (picked-none wrapped a bs x (none e)))
+    by_marked true e x t here = any-none in_port_page (places a n) x (rw e at out) here
 
 moving-inside : (d : Direction) (size : Size) (signed : Bool) (i : Inst) (s : State) → stored_out d size i s ≡ false → hazard_in s (moved_access d (address s i.ea) (byte_count size)) ≡ None → AreInside (frames_after s.frames (moving d size signed i s).move) (moving d size signed i s).stale
 moving-inside Load size signed i s out none = λ x t. absurd cc
@@ -354,50 +343,33 @@ last-alike : (hides : Bool) (marked : List ℕ) (ps qs : List (ℕ × ℕ)) (x :
 unfolding last_put
 last-alike hides marked [] [] x h none = refl
 last-alike hides marked (p ∷ ps) (q ∷ qs) x h none =
-    ap (λ (o : Option ℕ). or_earlier o (cond (x == q.0) (Some q.1) None)) (last-alike hides marked ps qs x h.2 none)
-    ∙ ap (λ (y : ℕ). or_earlier (last_put ps x) (cond (x == y) (Some q.1) None)) h.0
-    ∙ by_place (x == p.0) refl
+    rw (last-alike hides marked ps qs x h.2 none, h.0) (by_place (x == p.0) refl)
   where
     by_place : (b : Bool) → (x == p.0) ≡ b → or_earlier (last_put ps x) (cond b (Some q.1) None) ≡ or_earlier (last_put ps x) (cond b (Some p.1) None)
     by_place false e = refl
-    by_place true e =
-        let shown : shows hides (has marked p.0) ≡ true = shows-none hides (has marked p.0) (ap (has marked) (sym (eqb-true x p.0 e)) ∙ none) in
-        ap (λ (v : ℕ). or_earlier (last_put ps x) (Some v)) (h.1 shown)
+    by_place true e = rw (h.1 (shows-none hides (has marked p.0) (rw (eqb-true x p.0 e) at none))) refl
 last-alike hides marked _ _ x h none = absurd h
 
 -- no marked byte goes out
 port-unmarked : (f : Frames) (stale : List ℕ) (x : ℕ) → AreInside f stale → in_port_page x ≡ true → has stale x ≡ false
-port-unmarked f stale x inside port = by_stale (has stale x) refl
-  where
-    by_stale : (b : Bool) → has stale x ≡ b → b ≡ false
-    by_stale false e = refl
-    by_stale true e = let no : true ≡ false = sym (or_left (in_port_page x) (nat_le address_count x) port) ∙ (inside x e).0 in absurd (cc no)
+port-unmarked f stale x inside port = elim (cases_Bool (has stale x)) [
+  | inl e ↦ let away = inside x e in absurd (grind arith)
+  | inr e ↦ e
+]
 
 port-alike : (hides : Bool) (s : State) (a b : Action) (x : ℕ) → IsContained s a → AreActionsAlike hides a b → in_port_page x ≡ true → last_put b.writes x ≡ last_put a.writes x
 port-alike hides s a b x inside alike port = last-alike hides a.stale a.writes b.writes x alike.writes (port-unmarked (frames_after s.frames a.move) a.stale x inside.stale port)
-
--- the exit word of its four bytes
-abbrev exit_from : Memory → Option ℕ → Option ℕ → Option ℕ → Option ℕ → Option ℕ
-exit_from m p q r t = option_and_then (λ a. option_and_then (λ b. option_and_then (λ c. option_and_then (λ d. Some (ordered_word m EXIT_WORD (a ∷ b ∷ c ∷ d ∷ []))) t) r) q) p
-
-exit-parts : (m : Memory) (p q r t v w x y : Option ℕ) → v ≡ p → w ≡ q → x ≡ r → y ≡ t → exit_from m v w x y ≡ exit_from m p q r t
-exit-parts m p q r t v w x y e0 e1 e2 e3 = rw (e0, e1, e2, e3) refl
 
 -- what is due after an action
 exit-same : (hides : Bool) (s : State) (regs bytes reading : ℕ → ℕ) (a b : Action) → IsContained s a → AreActionsAlike hides a b → exit_in (with_values s regs bytes reading) b ≡ exit_in s a
 unfolding exit_word
 exit-same hides s regs bytes reading a b inside alike =
-    ap (option_map Exit)
-    (exit-parts s.memory _ _ _ _ _ _ _ _
-    (port-alike hides s a b EXIT_WORD inside alike refl)
-    (port-alike hides s a b (EXIT_WORD + 1) inside alike refl)
-    (port-alike hides s a b (EXIT_WORD + 2) inside alike refl)
-    (port-alike hides s a b (EXIT_WORD + 3) inside alike refl))
+    let byte : (x : ℕ) → in_port_page x ≡ true → last_put b.writes x ≡ last_put a.writes x = λ x. port-alike hides s a b x inside alike in
+    rw (byte EXIT_WORD refl, byte (EXIT_WORD + 1) refl, byte (EXIT_WORD + 2) refl, byte (EXIT_WORD + 3) refl) refl
 
 pub due-in-same : (s : State) (regs bytes reading : ℕ → ℕ) (t : Option Trace) (f : Option End) → due_in (with_values s regs bytes reading) t f ≡ due_in s t f
-due-in-same s regs bytes reading t (Some f) = refl
 due-in-same s regs bytes reading None None = refl
-due-in-same s regs bytes reading (Some t) None = refl
+due-in-same s regs bytes reading _ _ = refl
 
 -- ---- an instruction with its trace events
 
@@ -423,14 +395,13 @@ switched-same hides i s regs bytes reading a b same none pc = by_transfer (trans
 seen-same : (hides : Bool) (i : Inst) (s : State) (regs bytes reading : ℕ → ℕ) (a b : Action) → AgreeBeside hides s regs → is_marked s (deciding_by (transfer_of i.op) i s) ≡ false → b.pc ≡ a.pc → seen_of i (with_values s regs bytes reading) b ≡ seen_of i s a
 seen-same hides i s regs bytes reading a b same none pc =
     let t = with_values s regs bytes reading in
-    ap (λ (x : Access). record (seen_of i t b) { access = option_map (λ d. d.0) (data_of x) }) (access-same hides i s regs bytes reading same none).0
-    ∙ ap (λ (x : Bool). record (seen_of i s a) { taken = x; switched = switches i.op t b }) (taken-same hides i s regs bytes reading same (asks-shown hides i s none))
-    ∙ ap (λ (x : Bool). record (seen_of i s a) { switched = x }) (switched-same hides i s regs bytes reading a b same none pc)
+    let taken = taken-same hides i s regs bytes reading same (asks-shown hides i s none) in
+    rw ((access-same hides i s regs bytes reading same none).0, taken, switched-same hides i s regs bytes reading a b same none pc) refl
 
 -- the same events count
 trace-alike : (hides : Bool) (a b : Action) (o p : Option Trace) → p ≡ o → AreActionsAlike hides a b → AreActionsAlike hides (record a { trace = o }) (record b { trace = p })
 trace-alike hides a b o p e alike = record {
-  rest = ap (λ (x : Action). record x { trace = p }) alike.rest ∙ ap (λ (q : Option Trace). record a { sets = b.sets; writes = b.writes; move = b.move; trace = q }) e;
+  rest = ap (λ (x : Action). record x { trace = p }) alike.rest ∙ rw e refl;
   sets = alike.sets;
   writes = alike.writes;
   move = alike.move;
@@ -473,9 +444,7 @@ kind-due hides (Instruction i) s regs bytes reading inside alike =
     let a = traced_action i s in
     let b = traced_action i t in
     let trace : b.trace ≡ a.trace = ap (λ (x : Action). x.trace) alike.rest in
-    ap (due_in t b.trace) (exit-same hides s regs bytes reading a b inside alike)
-    ∙ ap (λ (o : Option Trace). due_in t o (exit_in s a)) trace
-    ∙ due-in-same s regs bytes reading a.trace (exit_in s a)
+    rw (exit-same hides s regs bytes reading a b inside alike, trace) (due-in-same s regs bytes reading a.trace (exit_in s a))
 kind-due hides _ s regs bytes reading inside alike = refl
 
 record-agree : (hides : Bool) (k : Kind) (s t : State) → IsKindAlike hides k s t → Agree hides s t → DoAgree hides (record_of k s) (record_of k t)
@@ -640,8 +609,4 @@ overlay-agree s t a agree = ap (λ (u : State). overlay u a) agree.rest ∙ by_c
   where
     by_cases : (port high soft kept : Bool) → ((((port || high) || not soft) || kept) ≡ true → t.memory.bytes a ≡ s.memory.bytes a)
         → cond port (Some 0) (cond (soft && not kept) None (Some (t.memory.bytes a))) ≡ cond port (Some 0) (cond (soft && not kept) None (Some (s.memory.bytes a)))
-    by_cases true high soft kept e = refl
-    by_cases false high true false e = refl
-    by_cases false true soft kept e = ap (λ (b : ℕ). cond (soft && not kept) None (Some b)) (e refl)
-    by_cases false false false kept e = ap (λ (b : ℕ). Some b) (e refl)
-    by_cases false false true true e = ap (λ (b : ℕ). Some b) (e refl)
+    by_cases port high soft kept e = grind arith
