@@ -1,15 +1,15 @@
 -- In states that agree each instruction that marks allow, and whose access meets no hazard, does what is alike: pushes,
 -- returns, system control, and all names.
-use Rattle.std.proofs.Common.{◌≡◌, ℕ, ◌+◌, ◌*◌, ◌/◌, ◌%◌, ◌^◌, ◌<◌, Bool, true, false, cond, eqb, nat_lt, List, [], ◌∷◌, ◌++◌, Option, Some, None, refl, sym, ap, ◌∙◌, subst, arith}
-use Rattle.std.specs.Prelude.{not, ◌==◌, ◌&&◌, ◌||◌}
+use Rattle.std.proofs.Common.{◌≡◌, ℕ, ◌+◌, ◌*◌, ◌^◌, ◌<◌, Bool, true, false, cond, List, [], ◌∷◌, ◌++◌, Option, Some, None, refl, sym, ap, ◌∙◌, subst, arith}
+use Rattle.std.specs.Prelude.{◌==◌, ◌&&◌, ◌||◌}
 use Rattle.std.specs.List.{list_any}
-use Rattle.std.proofs.lemmas.Bool.{or_left, eqb-true}
+use Rattle.std.proofs.lemmas.Bool.{or_left}
+use Rattle.std.proofs.lemmas.Bool.Decides.{nat_tests}
 use Rattle.i9_isa.specs.declared.op.Op.{Op}
 use Rattle.i9_isa.specs.declared.op.Op.TheVariants.{Mov, Movl, Movt, Movq, Lda, Atadd, Atmod, Bx, Balx, Bal, Call, Callx, Calls, Ret, Flushreg, Modac, Modtc, Modpc, Sdma, Sysctl}
 use Rattle.i9_isa.specs.declared.size.Transfer.{Transfer}
 use Rattle.i9_isa.specs.declared.inst.Inst.{Inst}
 use Rattle.i9_isa.specs.Transfers.{transfer_of}
-use Rattle.i9_model.specs.declared.interrupts.TheConstants.{FIRST_VECTOR}
 use Rattle.i9_model.specs.declared.layout.TheConstants.{FP, SP, PFP, LOCALS, FRAME_SIZE, INTERRUPT_RETURN, LOCAL_RETURN}
 use Rattle.i9_model.specs.declared.push.Push.{Push}
 use Rattle.i9_model.specs.declared.calls.Sys.{Sys}
@@ -18,7 +18,6 @@ use Rattle.i9_model.specs.Memory.{word_in, words_in}
 use Rattle.i9_model.specs.State.{State, aligned, frame_sets}
 use Rattle.i9_model.specs.Frames.{pushed, rounded_down, in_bytes, in_frames}
 use Rattle.i9_model.specs.Hazards.{save_hazard, port_hazard, frame_hazard, return_hazard, return_place}
-use Rattle.i9_model.specs.Requests.{request_writes}
 use Rattle.i9_model.specs.Faults.{is_special}
 use Rattle.i9_model.specs.Calls.{caller_in, call_type, system_entered, takes_record, return_type, controls_hazard, ret_hazard, returned_pc, returned_ac, popped, system_hazard_by}
 use Rattle.i9_model.specs.Operands.{value, word_of, source_words, address, target}
@@ -31,35 +30,28 @@ use Rattle.i9_model.proofs.CallLaws.{first_none, second_none}
 use Rattle.i9_model.proofs.Readings.{in_bytes-has}
 use Rattle.i9_model.proofs.FrameLaws.{read_hazard-none}
 use Rattle.i9_agree.proofs.AlikeActions.{AreKnown, other_caller, system_by_same, saved_pc_same, saved_ac_same, request_same}
-use Rattle.i9_agree.proofs.Agreeing.{shows-none, shows-first, shows-second, shows-both, values-mapped, writes-append, writes-same, writes-picked}
+use Rattle.i9_agree.proofs.Agreeing.{shows-none, shows-first, shows-second, shows-unmarked, values-mapped, writes-append, writes-same, writes-picked}
 use Rattle.i9_agree.proofs.AgreeNames.{AreOther, hard-bytes, moving-agree, atomic-agree, other-agree}
 use Rattle.i9_agree.proofs.AgreeActions.{AreShown, shown-first, shown-second, shown-three, word-same, operand-same, value-same, address-same, legible-word, shown-word-same, alike-same, alike-by, IsAllowed, assigning-alike, pushing-alike}
 
 -- ---- pushes
 
-none_mark : (fp sp : Bool) (ip : ℕ) → cond (fp || sp) (Some ip) None ≡ None → (fp ≡ false) × (sp ≡ false)
-none_mark fp sp ip e = grind arith
-
 -- where nothing is found of a push, fp and sp as far as it goes by them are the same
 pub push-known : (hides : Bool) (s : State) (regs : ℕ → ℕ) → AgreeBeside hides s regs → AreKnown (area_hazard s) (s.regs FP) (s.regs SP) (regs FP) (regs SP)
 push-known hides s regs same = λ b none.
-    let marks = none_mark (s.marks FP) (not b && s.marks SP) s.ip (first_none (push_mark s b) (save_hazard s.frames (rounded_down (s.regs FP))) none) in
-    (same FP (shows-none hides (s.marks FP) marks.0), λ e. same SP (shows-none hides (s.marks SP) (by_stack b (s.marks SP) e marks.1)))
-  where
-    by_stack : (b m : Bool) → b ≡ false → (not b && m) ≡ false → m ≡ false
-    by_stack false m e h = h
-    by_stack true m e h = absurd cc
+    let mark = first_none (push_mark s b) (save_hazard s.frames (rounded_down (s.regs FP))) none in
+    (same FP (grind arith), λ e. same SP (grind arith))
 
 call-agree : (hides : Bool) (i : Inst) (s : State) (regs bytes reading : ℕ → ℕ) (to other : ℕ) → AgreeBeside hides s regs → area_hazard s false ≡ None → other ≡ to
     → AreActionsAlike hides (call_action i s to) (call_action i (with_values s regs bytes reading) other)
 call-agree hides i s regs bytes reading to other same none e =
     let t = with_values s regs bytes reading in
     let known = push-known hides s regs same false none in
-    let push : pushed (regs FP) (regs SP) 0 LOCAL_RETURN ≡ pushed (s.regs FP) (s.regs SP) 0 LOCAL_RETURN =
-    ap (λ (x : ℕ). pushed x (regs SP) 0 LOCAL_RETURN) known.0 ∙ ap (λ (x : ℕ). pushed (s.regs FP) x 0 LOCAL_RETURN) (known.1 refl) in
-    let all : call_action i t other ≡ pushing t (pushed (s.regs FP) (s.regs SP) 0 LOCAL_RETURN) (following i s) (aligned to) =
-    ap (λ (p : Push). pushing t p (following i s) (aligned other)) push ∙ ap (λ (x : ℕ). pushing t (pushed (s.regs FP) (s.regs SP) 0 LOCAL_RETURN) (following i s) (aligned x)) e in
-    subst (λ (x : Action). AreActionsAlike hides (call_action i s to) x) (sym all) (pushing-alike hides s regs bytes reading (pushed (s.regs FP) (s.regs SP) 0 LOCAL_RETURN) (following i s) (aligned to) same)
+    let push = pushed (s.regs FP) (s.regs SP) 0 LOCAL_RETURN in
+    let found : pushed (regs FP) (regs SP) 0 LOCAL_RETURN ≡ push = rw (known.0, known.1 refl) refl in
+    let all : call_action i t other ≡ pushing t push (following i s) (aligned to) =
+    ap (λ (p : Push). pushing t p (following i s) (aligned other)) found ∙ ap (λ (x : ℕ). pushing t push (following i s) (aligned x)) e in
+    subst (λ (x : Action). AreActionsAlike hides (call_action i s to) x) (sym all) (pushing-alike hides s regs bytes reading push (following i s) (aligned to) same)
 
 calls-agree : (hides : Bool) (i : Inst) (s : State) (regs bytes reading : ℕ → ℕ) → AreOther hides s regs bytes reading → AreShown hides s (registers_of i.a 1)
     → system_hazard_by s.memory s.frames s.tables.system_table (value s i.a) s.pc (area_hazard s) ≡ None
@@ -89,11 +81,9 @@ FrameRead hides s regs bytes reading live a =
 return_shown : (hides : Bool) (stale : ℕ → Bool) (p : ℕ) → ((x : ℕ) → in_bytes p 4 x ≡ true → stale x ≡ false) → p < 2 ^ 32 → shows hides (word_mark stale p) ≡ true
 return_shown hides stale p none h =
     let place : wrapped (p + 0) ≡ p = omega (arith, h) in
-    let first : stale p ≡ false = ap stale (sym place) ∙ none (wrapped (p + 0)) (in_bytes-has p 4 0 (omega arith)) in
-    let byte : (j : ℕ) → j < 4 → shows hides (stale (wrapped (p + j))) ≡ true = λ j l. shows-none hides (stale (wrapped (p + j))) (none (wrapped (p + j)) (in_bytes-has p 4 j l)) in
-    shows-both hides (stale p) (stale (wrapped (p + 1)) || (stale (wrapped (p + 2)) || stale (wrapped (p + 3)))) (shows-none hides (stale p) first)
-    (shows-both hides (stale (wrapped (p + 1))) (stale (wrapped (p + 2)) || stale (wrapped (p + 3))) (byte 1 (omega arith))
-    (shows-both hides (stale (wrapped (p + 2))) (stale (wrapped (p + 3))) (byte 2 (omega arith)) (byte 3 (omega arith))))
+    let byte : (j : ℕ) → j < 4 → stale (wrapped (p + j)) ≡ false = λ j l. none (wrapped (p + j)) (in_bytes-has p 4 j l) in
+    let first : stale p ≡ false = rw place at (byte 0 (omega arith)) in
+    rw (first, byte 1 (omega arith), byte 2 (omega arith), byte 3 (omega arith)) (shows-unmarked hides)
 
 below_count : (a : ℕ) → return_place a < 2 ^ 32
 below_count a = omega arith
@@ -112,29 +102,22 @@ frame-read hides s regs bytes reading (g ∷ live) a is same known none = (
   return_shown hides s.frames.marked (return_place a) (λ x t. known x (returns x t)) (below_count a),
 )
   where
-    first_is : (b : Bool) → eqb a g ≡ b → cond b None (Some a) ≡ None → a ≡ g
-    first_is true t e = eqb-true a g t
-    first_is false t e = absurd cc
-
     here : a ≡ g
-    here = first_is (eqb a g) refl none
+    here = grind (arith, nat_tests)
 
     returns : (x : ℕ) → in_bytes (return_place a) 4 x ≡ true → in_returns (g ∷ live) x ≡ true
-    returns x t = or_left (in_bytes (return_place g) 4 x) (in_returns live x) (ap (λ (y : ℕ). in_bytes (return_place y) 4 x) (sym here) ∙ t)
+    returns x t = or_left (in_bytes (return_place g) 4 x) (in_returns live x) (rw here at t)
 
     next : (k j : ℕ) → wrapped (wrapped (a + 4 * k) + j) ≡ wrapped (a + (4 * k + j))
     next k j = omega arith
 
     is_live : (x : ℕ) → in_bytes a FRAME_SIZE x ≡ true → in_frames s.frames.live x ≡ true
-    is_live x t = ap (λ (l : List ℕ). in_frames l x) is ∙ or_left (in_bytes g FRAME_SIZE x) (in_frames live x) (ap (λ (y : ℕ). in_bytes y FRAME_SIZE x) (sym here) ∙ t)
-
-    opened : (hard sh lv : Bool) → sh ≡ true → lv ≡ true → (hard || cond sh lv false) ≡ true
-    opened hard sh lv e d = grind arith
+    is_live x t = rw is (or_left (in_bytes g FRAME_SIZE x) (in_frames live x) (rw here at t))
 
     byte : (k : ℕ) → k < 64 → shows hides (s.frames.marked (wrapped (a + k))) ≡ true → bytes (wrapped (a + k)) ≡ s.memory.bytes (wrapped (a + k))
     byte k l t =
-        let x = wrapped (a + k) in
-        same.bytes x (opened (is_hard s.frames x) (shows hides (s.frames.marked x)) (in_frames s.frames.live x) t (is_live x (in_bytes-has a FRAME_SIZE k l)))
+        let live = is_live (wrapped (a + k)) (in_bytes-has a FRAME_SIZE k l) in
+        same.bytes (wrapped (a + k)) (grind arith)
 
 -- controls of a return go by fp where the record is read
 controls-same : (hides : Bool) (s : State) (regs bytes reading : ℕ → ℕ) → AreOther hides s regs bytes reading → AreShown hides s (record_registers s) → controls_hazard s.frames (return_type (s.regs PFP)) (s.regs FP) ≡ None
@@ -151,15 +134,10 @@ controls-same hides s regs bytes reading same shown none = by_takes (takes_recor
     Same : Type 0
     Same = (returned_pc (with_other s.memory bytes) kind (regs FP) s.pc ≡ returned_pc s.memory kind (s.regs FP) s.pc) × (returned_ac (with_other s.memory bytes) kind (regs FP) s.ac ≡ returned_ac s.memory kind (s.regs FP) s.ac)
 
-    fp_same : regs FP ≡ s.regs FP → Same
-    fp_same e = rw e (saved_pc_same s.frames s.memory bytes kind (s.regs FP) s.pc hard none, saved_ac_same s.frames s.memory bytes kind (s.regs FP) s.ac hard none)
-
-    unread : takes_record kind ≡ false → Same
-    unread e = rw e (refl, refl)
-
     by_takes : (b : Bool) → takes_record kind ≡ b → AreShown hides s (cond b (FP ∷ []) []) → Same
-    by_takes true e h = fp_same (same.regs FP (shows-first hides (s.marks FP) false h))
-    by_takes false e h = unread e
+    by_takes true e h = rw (same.regs FP (shows-first hides (s.marks FP) false h))
+        (saved_pc_same s.frames s.memory bytes kind (s.regs FP) s.pc hard none, saved_ac_same s.frames s.memory bytes kind (s.regs FP) s.ac hard none)
+    by_takes false e h = rw e (refl, refl)
 
 -- what a return does, by what it reads
 abbrev restoring : State → ℕ → ℕ → List ℕ → List ℕ → ℕ → ℕ → Action
@@ -208,7 +186,7 @@ ret-agree hides s regs bytes reading same known shown none =
     ap (λ (p : ℕ). restoring (record s { regs = λ r. cond (r == PFP) p (s.regs r) }) (rounded_down p) (word_in (left_memory f.live t) (return_place (rounded_down p))) (words_in (left_memory f.live t) (rounded_down p) LOCALS)
     (picked (λ r. r) 0 (word_marks (left_stale f.live f) (rounded_down p) LOCALS)) (returned_pc (with_other s.memory bytes) (return_type p) (regs FP) s.pc) (returned_ac (with_other s.memory bytes) (return_type p) (regs FP) s.ac)) pfp
     ∙ restoring-parts s a back _ ws marked pc _ ac _ (read.0 2 (omega arith) read.1) returned.0 returned.1 in
-    subst (λ (x : Action). AreActionsAlike hides (ret_action s) x) (sym all) here
+    rw all here
 
 -- ---- system control
 
@@ -220,8 +198,7 @@ message-agree hides AsksCheck i s regs bytes reading same shown more none = alik
 message-agree hides AsksInterrupt i s regs bytes reading same shown more none =
     let t = with_values s regs bytes reading in
     alike-by hides (message_action AsksInterrupt i s) (message_action AsksInterrupt i t) refl
-    (ap (λ (v : ℕ). record (passing i s) { writes = request_writes (with_other s.memory bytes) s.tables.interrupt_table (v % 2 ^ 8); check = true }) (value-same hides s regs bytes reading i.a same.regs shown)
-    ∙ ap (λ (ps : List (ℕ × ℕ)). record (passing i s) { writes = ps; check = true }) (request_same s.frames s.memory bytes s.tables.interrupt_table (argument_of i s) (hard-bytes hides s regs bytes reading same) none))
+    (rw (value-same hides s regs bytes reading i.a same.regs shown, request_same s.frames s.memory bytes s.tables.interrupt_table (argument_of i s) (hard-bytes hides s regs bytes reading same) none) refl)
 message-agree hides AsksRestart i s regs bytes reading same shown more none =
     let b = shown-first hides s (registers_of i.b 1) (registers_of i.c 1) (more refl) in
     let c = shown-second hides s (registers_of i.b 1) (registers_of i.c 1) (more refl) in
@@ -231,14 +208,7 @@ message-agree hides AsksGroup i s regs bytes reading same shown more none =
 
 -- message 3 takes two further registers
 pub restart-shown : (hides : Bool) (s : State) (n v : ℕ) (rs : List ℕ) → AreShown hides s (cond (n == 3) rs []) → message_kind n v ≡ AsksRestart → AreShown hides s rs
-restart-shown hides s n v rs h e = by_tests (nat_lt v FIRST_VECTOR) (n == 0) (n == 3) (n == 4) h e
-  where
-    by_tests : (low z r g : Bool) → AreShown hides s (cond r rs []) → cond z (cond low AsksCheck AsksInterrupt) (cond r AsksRestart (cond g AsksGroup AsksNothing)) ≡ AsksRestart → AreShown hides s rs
-    by_tests low z true g k d = k
-    by_tests true true false g k d = absurd cc
-    by_tests false true false g k d = absurd cc
-    by_tests low false false true k d = absurd cc
-    by_tests low false false false k d = absurd cc
+restart-shown hides s n v rs h e = grind arith
 
 sysctl-agree : (hides : Bool) (i : Inst) (s : State) (regs bytes reading : ℕ → ℕ) → AreOther hides s regs bytes reading → AreShown hides s (registers_of i.a 1 ++ restart_registers i s)
     → hazard_in s (message_access (asked_message i s) i s) ≡ None
@@ -247,7 +217,7 @@ sysctl-agree hides i s regs bytes reading same shown none =
     let t = with_values s regs bytes reading in
     let first = shown-first hides s (registers_of i.a 1) (restart_registers i s) shown in
     let second = shown-second hides s (registers_of i.a 1) (restart_registers i s) shown in
-    subst (λ (v : ℕ). AreActionsAlike hides (message_action (asked_message i s) i s) (message_action (message_kind (v / 2 ^ 8 % 2 ^ 8) (v % 2 ^ 8)) i t)) (sym (value-same hides s regs bytes reading i.a same.regs first))
+    rw (value-same hides s regs bytes reading i.a same.regs first)
     (message-agree hides (asked_message i s) i s regs bytes reading same first (restart-shown hides s (message_of i s) (argument_of i s) (registers_of i.b 1 ++ registers_of i.c 1) second) none)
 
 -- ---- every name

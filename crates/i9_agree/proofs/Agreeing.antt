@@ -25,9 +25,6 @@ shows-first hides b c h = grind arith
 pub shows-second : (hides b c : Bool) → shows hides (b || c) ≡ true → shows hides c ≡ true
 shows-second hides b c h = grind arith
 
-pub shows-both : (hides b c : Bool) → shows hides b ≡ true → shows hides c ≡ true → shows hides (b || c) ≡ true
-shows-both hides b c h k = grind arith
-
 pub shows-less : (hides b c : Bool) → (b ≡ true → c ≡ true) → shows hides c ≡ true → shows hides b ≡ true
 shows-less hides b c m h = grind arith
 

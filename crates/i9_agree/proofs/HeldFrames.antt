@@ -1,19 +1,19 @@
 -- The held frames are the youngest live ones, and laid over memory they stand for it, through each action.
-use Rattle.std.proofs.Common.{◌≡◌, ℕ, ◌-◌, Bool, true, false, cond, ltb, ◌||◌, List, [], ◌∷◌, ◌++◌, length, take, drop, None, refl, sym, ap, ◌∙◌, subst, inl, inr, arith, append_assoc, length-append}
+use Rattle.std.proofs.Common.{◌≡◌, ℕ, ◌-◌, Bool, true, false, cond, ltb, List, [], ◌∷◌, ◌++◌, length, take, drop, None, refl, sym, ap, ◌∙◌, subst, inl, inr, arith, append_assoc, length-append}
 use Rattle.std.proofs.Math.Seq.{take-append_seam}
 use Rattle.std.proofs.lemmas.List.{take-append-drop}
 use Rattle.std.specs.Prelude.{not, nat_le}
-use Rattle.std.proofs.lemmas.Bool.{or_left, or_right, or_from, cases_Bool, both_ways}
+use Rattle.std.proofs.lemmas.Bool.{or_left, or_right, cases_Bool}
 use Rattle.i9_model.specs.declared.layout.TheConstants.{LOCALS, FRAME_SIZE}
 use Rattle.i9_model.specs.declared.frame.Frame.{Frame}
 use Rattle.i9_model.specs.Writes.{address_count}
-use Rattle.i9_model.specs.Memory.{Memory, in_port_page, with_writes, with_words}
+use Rattle.i9_model.specs.Memory.{Memory, with_writes, with_words}
 use Rattle.i9_model.specs.State.{State, Frames}
 use Rattle.i9_model.specs.Frames.{in_bytes, in_frames, is_put, saved, returned}
 use Rattle.i9_model.specs.Hazards.{writes_hazard}
-use Rattle.i9_model.specs.Sound.{AreApart, IsSound}
+use Rattle.i9_model.specs.Sound.{IsSound}
 use Rattle.i9_model.specs.Step.{Move, Stays, Saves, Returns, Flushes, Action, memory_after, frames_after, moved}
-use Rattle.i9_model.specs.Alike.{is_beyond, is_hard, is_compared, AgreeWhere}
+use Rattle.i9_model.specs.Alike.{is_hard, is_compared, AgreeWhere}
 use Rattle.i9_model.proofs.Among.{bytes-among, among-address}
 use Rattle.i9_model.specs.HeldFrames.{Cache, frame_at, over, overlaid, spilled, with_room, holding, cache_moved, cache_acted, youngest_first, AreWhole, AreYoungest}
 use Rattle.i9_model.proofs.FrameLaws.{writes_hazard-none}
@@ -43,7 +43,7 @@ youngest_by hs older live all whole = record {
 
 youngest_push : (hs : List Frame) (f : Frame) → youngest_first (hs ++ f ∷ []) ≡ f.address ∷ youngest_first hs
 youngest_push [] f = refl
-youngest_push (h ∷ hs) f = ap (λ (xs : List ℕ). xs ++ h.address ∷ []) (youngest_push hs f)
+youngest_push (h ∷ hs) f = rw (youngest_push hs f) refl
 
 whole_push : (hs : List Frame) (f : Frame) → AreWhole hs → length f.words ≡ LOCALS → AreWhole (hs ++ f ∷ [])
 whole_push [] f whole long = (long, tt)
@@ -105,40 +105,34 @@ pub later_live : (fs gs : List ℕ) (x : ℕ) → in_frames gs x ≡ true → in
 later_live [] gs x t = t
 later_live (f ∷ fs) gs x t = or_right (in_bytes f FRAME_SIZE x) (in_frames (fs ++ gs) x) (later_live fs gs x t)
 
+not_in : (a : ℕ) (fs older : List ℕ) (x : ℕ) → in_frames (fs ++ (a ∷ older)) x ≡ false → in_bytes a FRAME_SIZE x ≡ false
+not_in a fs older x out = let live = later_live fs (a ∷ older) x in grind arith
+
 -- writes that are in none of these frames are in none that is held
 all_beside : (ps : List (ℕ × ℕ)) (hs : List Frame) (older : List ℕ) → ((x : ℕ) → is_put ps x ≡ true → in_frames (youngest_first hs ++ older) x ≡ false) → AreBeside ps hs
 all_beside ps [] older free = tt
 all_beside ps (h ∷ hs) older free =
     let order : youngest_first (h ∷ hs) ++ older ≡ youngest_first hs ++ (h.address ∷ older) = append_assoc (youngest_first hs) (h.address ∷ []) older in
-    let rest : (x : ℕ) → is_put ps x ≡ true → in_frames (youngest_first hs ++ (h.address ∷ older)) x ≡ false = λ x t. sym (ap (λ (l : List ℕ). in_frames l x) order) ∙ free x t in (
-      (λ x t. elim (cases_Bool (in_bytes h.address FRAME_SIZE x)) [
-        | inr out ↦ out
-        | inl inside ↦ absurd (both_ways (in_frames (youngest_first hs ++ (h.address ∷ older)) x) (rest x t) (later_live (youngest_first hs) (h.address ∷ older) x (or_left (in_bytes h.address FRAME_SIZE x) (in_frames older x) inside)))
-      ]),
+    let rest : (x : ℕ) → is_put ps x ≡ true → in_frames (youngest_first hs ++ (h.address ∷ older)) x ≡ false = rw order at free in (
+      (λ x t. not_in h.address (youngest_first hs) older x (rest x t)),
       all_beside ps hs (h.address ∷ older) rest,
     )
 
 -- writes without a hazard are beside every held frame
 pub write_beside : (f : Frames) (ps : List (ℕ × ℕ)) (hs : List Frame) → AreYoungest hs f.live → writes_hazard f ps ≡ None → AreBeside ps hs
-write_beside f ps hs y none = all_beside ps hs (older_than hs f.live) (λ x t. sym (ap (λ (l : List ℕ). in_frames l x) (all_live hs f.live y)) ∙ writes_hazard-none f ps x none t)
+write_beside f ps hs y none = all_beside ps hs (older_than hs f.live) (λ x t. rw (all_live hs f.live y) at (writes_hazard-none f ps x none t))
 
 -- ---- a frame that is returned to leaves the overlay
 
 pub below_all : (a n x : ℕ) → in_bytes a n x ≡ true → nat_le address_count x ≡ false
 below_all a n x t = among-address a n x (bytes-among a n x t)
 
-none_of : (beyond soft live : Bool) → beyond ≡ false → soft ≡ true → live ≡ false → ((beyond || not soft) || live) ≡ false
-none_of beyond soft live b s l = rw (b, s, l) refl
-
 -- no byte of it is compared any more
 left_uncompared : (f : Frames) (y x : ℕ) (rest : List ℕ) → f.live ≡ y ∷ rest → IsSound f → in_bytes y FRAME_SIZE x ≡ true → is_compared (returned f) x ≡ false
 left_uncompared f y x rest is sound t =
-    let live : in_frames f.live x ≡ true = ap (λ (l : List ℕ). in_frames l x) is ∙ or_left (in_bytes y FRAME_SIZE x) (in_frames rest x) t in
-    let apart : AreApart (y ∷ rest) = subst AreApart is sound.apart in
-    none_of (is_beyond x) (f.soft x) (in_frames (drop 1 f.live) x)
-    (or_from (in_port_page x) (nat_le address_count x) (sound.outside x live) (below_all y FRAME_SIZE x t))
-    (sound.soft x live)
-    (ap (λ (l : List ℕ). in_frames (drop 1 l) x) is ∙ apart.0 x t)
+    let live : in_frames f.live x ≡ true = rw is (or_left (in_bytes y FRAME_SIZE x) (in_frames rest x) t) in
+    let apart : in_frames rest x ≡ false = (rw is at sound.apart).0 x t in
+    rw (is, sound.outside x live, below_all y FRAME_SIZE x t, sound.soft x live, apart) refl
 
 pub taken_alike : (hs : List Frame) (m : Memory) (f : Frames) → IsSound f → AreYoungest hs f.live → AgreeWhere (is_compared (returned f)) (over hs m) (over (take (length hs - 1) hs) m).bytes
 taken_alike [] m f sound y = λ x h. refl
@@ -147,10 +141,8 @@ taken_alike (h ∷ hs) m f sound y = λ x compared.
     let front = take (length (h ∷ hs) - 1) (h ∷ hs) in
     let youngest = subst (λ (xs : List Frame). AreYoungest xs f.live) s.1 y in
     let first = first_is front s.0 f.live youngest in
-    let beside : in_bytes s.0.address FRAME_SIZE x ≡ false = elim (cases_Bool (in_bytes s.0.address FRAME_SIZE x)) [
-      | inr out ↦ out
-      | inl inside ↦ absurd (both_ways (is_compared (returned f) x) (left_uncompared f s.0.address x first.0 first.1 sound inside) compared)
-    ] in
+    let left = left_uncompared f s.0.address x first.0 first.1 sound in
+    let beside : in_bytes s.0.address FRAME_SIZE x ≡ false = grind arith in
     sym (ap (λ (xs : List Frame). (over xs m).bytes x) s.1
     ∙ ap (λ (k : Memory). k.bytes x) (over_push front s.0 m)
     ∙ words_kept (over front m) s.0.address s.0.words x (whole_front front s.0 youngest.whole).1 (inl beside))
@@ -188,29 +180,21 @@ pub all_kept : (x : ℕ) (hs : List Frame) (older : List ℕ) → in_frames (you
 all_kept x [] older free = tt
 all_kept x (h ∷ hs) older free =
     let order : youngest_first (h ∷ hs) ++ older ≡ youngest_first hs ++ (h.address ∷ older) = append_assoc (youngest_first hs) (h.address ∷ []) older in
-    let rest : in_frames (youngest_first hs ++ (h.address ∷ older)) x ≡ false = sym (ap (λ (l : List ℕ). in_frames l x) order) ∙ free in (
-      elim (cases_Bool (in_bytes h.address FRAME_SIZE x)) [
-        | inr out ↦ inl out
-        | inl inside ↦ absurd (both_ways (in_frames (youngest_first hs ++ (h.address ∷ older)) x) rest (later_live (youngest_first hs) (h.address ∷ older) x (or_left (in_bytes h.address FRAME_SIZE x) (in_frames older x) inside)))
-      ],
-      all_kept x hs (h.address ∷ older) rest,
-    )
+    let rest : in_frames (youngest_first hs ++ (h.address ∷ older)) x ≡ false = rw order at free in
+    (inl (not_in h.address (youngest_first hs) older x rest), all_kept x hs (h.address ∷ older) rest)
 
 -- a hard byte is in no live frame
 hard_outside : (f : Frames) (x : ℕ) → IsSound f → is_hard f x ≡ true → in_frames f.live x ≡ false
 hard_outside f x sound h = elim (cases_Bool (in_frames f.live x)) [
   | inr out ↦ out
-  | inl live ↦ absurd (both_ways (is_hard f x) (soft_one (is_beyond x) (f.soft x) (or_from (in_port_page x) (nat_le address_count x) (sound.outside x live) (below_live f.live x live)) (sound.soft x live)) h)
+  | inl live ↦ absurd (cc (rw (sound.outside x live, below_live f.live x live, sound.soft x live) at h))
 ]
   where
-    soft_one : (beyond soft : Bool) → beyond ≡ false → soft ≡ true → (beyond || not soft) ≡ false
-    soft_one beyond soft b s = rw (b, s) refl
-
     below_live : (live : List ℕ) (x : ℕ) → in_frames live x ≡ true → nat_le address_count x ≡ false
     below_live [] x t = absurd cc
     below_live (g ∷ live) x t = elim (cases_Bool (in_bytes g FRAME_SIZE x)) [
       | inl here ↦ below_all g FRAME_SIZE x here
-      | inr other ↦ below_live live x (sym (ap (λ (b : Bool). b || in_frames live x) other) ∙ t)
+      | inr other ↦ below_live live x (rw other at t)
     ]
 
 -- what may be read without a hazard is in the memory behind the frames
