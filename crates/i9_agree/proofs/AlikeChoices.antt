@@ -2,7 +2,6 @@
 use Rattle.std.proofs.Common.{◌≡◌, ℕ, zero, suc, ◌+◌, ◌-◌, ◌*◌, ◌<◌, Bool, cond, List, [], ◌∷◌, ◌++◌, map, find, Option, Some, refl, sym, ap, ◌∙◌, arith}
 use Rattle.std.specs.Prelude.{◌&&◌, ◌==◌, filter, flat_map}
 use Rattle.std.specs.List.{range_with_len}
-use Rattle.std.specs.Option.{option_or}
 use Rattle.std.proofs.lemmas.List.Folds.{find-append, flat_map-map}
 use Rattle.i9_model.specs.declared.interrupts.TheConstants.{LINES, NMI_VECTOR, HIGHEST_PRIORITY}
 use Rattle.i9_model.specs.declared.interrupts.Cause.TheVariants.{Nmi, Line, Soft}
@@ -16,10 +15,7 @@ FindSame t u xs = find t xs ≡ find u xs
 
 append_same : (t u : Chosen → Bool) (xs ys : List Chosen) → FindSame t u xs → FindSame t u ys → FindSame t u (xs ++ ys)
 append_same t u xs ys one two =
-    find-append t xs ys
-    ∙ ap (λ (o : Option Chosen). option_or o (find t ys)) one
-    ∙ ap (option_or (find u xs)) two
-    ∙ sym (find-append u xs ys)
+    cc (find-append t xs ys, find-append u xs ys)
 
 parts_same : (t u : Chosen → Bool) (f : ℕ → List Chosen) (a n : ℕ) → ((j : ℕ) → j < a + n → FindSame t u (f j)) → FindSame t u (flat_map f (range_with_len a n))
 parts_same t u f a zero same = refl
@@ -32,7 +28,7 @@ below_same t u f top n some same =
     ap (find t) parts ∙ parts_same t u (λ j. f (top - 1 - j)) 0 n (λ j less. same (top - 1 - j) (omega arith)) ∙ sym (ap (find u) parts)
 
 one_same : (t u : Chosen → Bool) (x : Chosen) (o p : Option Chosen) → t x ≡ u x → o ≡ p → cond (t x) (Some x) o ≡ cond (u x) (Some x) p
-one_same t u x o p same later = ap (λ (b : Bool). cond b (Some x) o) same ∙ ap (cond (u x) (Some x)) later
+one_same t u x o p same later = cc
 
 map_same : (t u : Chosen → Bool) (h : ℕ → Chosen) (a n : ℕ) → ((j : ℕ) → j < a + n → t (h j) ≡ u (h j)) → FindSame t u (map h (range_with_len a n))
 map_same t u h a zero same = refl
@@ -50,14 +46,11 @@ module _ (i : Interrupts) (pc : ℕ) (soft other : ℕ → Bool) (same : (v : �
   soft_same v h = ap (λ (b : Bool). b && passes pc (vector_priority v)) (same v h)
 
   vectors_same : (p : ℕ) → p < 32 → FindSame (test soft) (test other) (map (choice Soft) (vectors_of p))
-  vectors_same p h = by_place (map-map (range_with_len 0 8)) (map_same (test soft) (test other) (λ j. choice Soft (8 * p + 8 - 1 - j)) 0 8 (λ j less. soft_same (8 * p + 8 - 1 - j) (omega arith)))
+  vectors_same p h = let e = map-map (range_with_len 0 8) in ap (find (test soft)) e ∙ (map_same (test soft) (test other) (λ j. choice Soft (8 * p + 8 - 1 - j)) 0 8 (λ j less. soft_same (8 * p + 8 - 1 - j) (omega arith))) ∙ sym (ap (find (test other)) e)
     where
       map-map : (js : List ℕ) → map (choice Soft) (map (λ j. 8 * p + 8 - 1 - j) js) ≡ map (λ j. choice Soft (8 * p + 8 - 1 - j)) js
       map-map [] = refl
       map-map (j ∷ js) = ap (λ cs. choice Soft (8 * p + 8 - 1 - j) ∷ cs) (map-map js)
-
-      by_place : {xs ys : List Chosen} → xs ≡ ys → FindSame (test soft) (test other) ys → FindSame (test soft) (test other) xs
-      by_place e found = ap (find (test soft)) e ∙ found ∙ sym (ap (find (test other)) e)
 
   priority_same : (p : ℕ) → p < 32 → FindSame (test soft) (test other) (choices_at i.maps p)
   priority_same p h =

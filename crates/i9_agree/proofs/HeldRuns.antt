@@ -4,14 +4,13 @@ use Rattle.std.specs.Prelude.{◌⊎◌, unwrap_or}
 use Rattle.i9_model.specs.declared.frame.Frame.{Frame}
 use Rattle.i9_model.specs.declared.event.Event.{Event}
 use Rattle.i9_model.specs.declared.setup.Tables.{Tables}
-use Rattle.i9_model.specs.Memory.{Memory, with_writes}
-use Rattle.i9_model.specs.Boot.{setup_of}
+use Rattle.i9_model.specs.Memory.{Memory}
 use Rattle.i9_model.specs.Tables.{group_words}
 use Rattle.i9_model.specs.State.{State, Frames, started, boot}
 use Rattle.i9_model.specs.Controls.{Control, KeepsControls, Restarts, LoadsGroup, controlled}
-use Rattle.i9_model.specs.Step.{Move, Stays, Saves, Returns, Flushes, Action, frames_after, memory_after, moved, acted, counted}
+use Rattle.i9_model.specs.Step.{Move, Stays, Saves, Returns, Flushes, Action, frames_after, memory_after, moved, acted}
 use Rattle.i9_model.specs.Sound.{IsSound}
-use Rattle.i9_model.specs.Run.{Given, action_by_kind, action_done, counts_of, Record, record_of, Does, state_after, due_after, next_in, next_with, IsPastOfSome}
+use Rattle.i9_model.specs.Run.{Given, action_by_kind, action_done, Record, record_of, Does, state_after, due_after, next_in, next_with, IsPastOfSome}
 use Rattle.i9_model.specs.declared.run.Due.{Due}
 use Rattle.i9_model.specs.Alike.{is_compared, with_other, with_memory, AreAlike}
 use Rattle.i9_model.specs.HeldFrames.{Cache, cache, spilled, over, overlaid, cache_moved, cache_acted, cache_configured, sets_in, renewed, cache_after, AreYoungest, IsCached}
@@ -40,6 +39,8 @@ next_free limit due stands s r e = let comes = next_comes limit due stands s r e
 -- no move changes a configuration word
 pub cache_regions : (n : ℕ) (v : Move) (c : Cache) → (cache_moved n v c).behind.mcon ≡ c.behind.mcon
 cache_regions n Stays c = refl
+cache_regions n Returns c = refl
+cache_regions n Flushes c = over_mcon c.held c.behind
 cache_regions n (Saves save words) c = by_room (ltb (length c.held) n)
   where
     by_spill : (hs : List Frame) (m : Memory) → (spilled hs m).behind.mcon ≡ m.mcon
@@ -49,30 +50,24 @@ cache_regions n (Saves save words) c = by_room (ltb (length c.held) n)
     by_room : (b : Bool) → (cond b c (spilled c.held c.behind)).behind.mcon ≡ c.behind.mcon
     by_room true = refl
     by_room false = by_spill c.held c.behind
-cache_regions n Returns c = refl
-cache_regions n Flushes c = over_mcon c.held c.behind
 
 -- configuration words change only where nothing is held
 pub regions_after : (n : ℕ) (s : State) (a : Action) (c : Cache) → ComesAfterFlush a.control a.move a.writes → c.behind.mcon ≡ s.memory.mcon
     → ((cache_moved n a.move c).held ≡ []) ⊎ ((acted s a).memory.mcon ≡ (cache_moved n a.move c).behind.mcon)
 unfolding acted moved
 regions_after n s a c after regions =
-    let flags = flagged-others a.trace (controlled (moved s a) a.control) in
-    subst (λ (m : Memory). ((cache_moved n a.move c).held ≡ []) ⊎ (m.mcon ≡ (cache_moved n a.move c).behind.mcon)) (sym (ap (λ (x : State). x.memory) flags))
-    (by_control a.control after)
+    rw (flagged-others a.trace (controlled (moved s a) a.control)) (by_control a.control after)
   where
     by_control : (k : Control) → ComesAfterFlush k a.move a.writes → ((cache_moved n a.move c).held ≡ []) ⊎ ((controlled (moved s a) k).memory.mcon ≡ (cache_moved n a.move c).behind.mcon)
     by_control KeepsControls e = inr (move_mcon a.move s.memory ∙ sym regions ∙ sym (cache_regions n a.move c))
-    by_control (Restarts first prcb) e = inl (ap (λ (v : Move). (cache_moved n v c).held) e.0)
-    by_control (LoadsGroup group) e = inl (ap (λ (v : Move). (cache_moved n v c).held) e.0)
+    by_control (Restarts first prcb) e = inl (rw e.0 refl)
+    by_control (LoadsGroup group) e = inl (rw e.0 refl)
 
 -- so the words of held frames stay in the orders in which they were saved
 pub configured_same : (m : Memory) (d : Cache) → (d.held ≡ []) ⊎ (m.mcon ≡ d.behind.mcon) → (overlaid (cache_configured m d)).bytes ≡ (overlaid d).bytes
 unfolding over
-configured_same m d (inl none) =
-    ap (λ (hs : List Frame). (over hs (record d.behind { mcon = m.mcon })).bytes) none
-    ∙ sym (ap (λ (hs : List Frame). (over hs d.behind).bytes) none)
-configured_same m d (inr same) = ap (λ (k : ℕ → ℕ). (over d.held (record d.behind { mcon = k })).bytes) same
+configured_same m d (inl none) = rw none refl
+configured_same m d (inr same) = rw same refl
 
 -- regions are configured by configuration words alone
 pub configured_by : (m k : Memory) (c : Cache) → m.mcon ≡ k.mcon → cache_configured m c ≡ cache_configured k c
@@ -114,12 +109,11 @@ moved_cached n s a c d is sound young free e =
     let k = cache_acted n a c in
     let m = (moved s a).memory in
     let regions : (overlaid k).mcon ≡ m.mcon =
-    over_mcon k.held k.behind ∙ cache_regions n a.move c ∙ sym (over_mcon c.held c.behind) ∙ sym (ap (λ (x : Memory). x.mcon) is) ∙ sym (move_mcon a.move s.memory) in
-    let here : AreAlike (moved s a) (record (moved s a) { memory = overlaid k }) = record {
+    cc (over_mcon k.held k.behind, cache_regions n a.move c, over_mcon c.held c.behind, move_mcon a.move s.memory) in
+    rw e (record {
       rest = ap (λ (x : ℕ → ℕ). record (moved s a) { memory = record { bytes = (overlaid k).bytes; mcon = x } }) regions;
       bytes = acted_stands n s a c is sound young free.whole free.free;
-    } in
-    subst (λ (x : Cache). AreAlike (moved s a) (record (moved s a) { memory = overlaid x })) (sym e) here
+    })
 
 -- ---- the number of sets
 
@@ -133,18 +127,13 @@ sets_after asked s a after = ap (sets_in asked) (flagged-others a.trace (control
     by_control (LoadsGroup group) e =
         ap (λ (t : Tables). unwrap_or asked t.sets) (group-rest (eqb group 0) (eqb group 1) (eqb group 6) (moved s a) group (group_words (moved s a).memory (moved s a).tables.control_table group)).5
     by_control (Restarts first prcb) e =
-        ap (λ (m : Memory). unwrap_or asked (setup_of m first prcb).sets)
-        (ap (λ (v : Move). with_writes (memory_after s.memory v) a.writes) e.0 ∙ ap (with_writes s.memory) e.1 ∙ with_none s.memory)
+        rw (e.0, e.1, with_none s.memory) refl
 
 -- ---- a run
 
 cached-boot : (image : List (ℕ × ℕ)) → IsCached (boot image) (cache [] (boot image).memory)
 unfolding boot started over
 cached-boot image = record { bytes = λ x h. refl; regions = refl; youngest = record { first = refl; whole = tt } }
-
--- a count of instructions is no part of it
-cached-counted : (n : ℕ) (s : State) (c : Cache) → IsCached s c → IsCached (counted n s) c
-cached-counted n s c cached = record { bytes = cached.bytes; regions = cached.regions; youngest = cached.youngest }
 
 pub cached-after : (g : Given) (rs : List Record) → IsPastOfSome (next_with g) rs → IsCached (state_after g rs) (cache_after g rs)
 cached-after g [] past = cached-boot g.image
@@ -156,4 +145,4 @@ cached-after g (r ∷ rs) past =
     let free = next_free g.length (due_after rs) past.1.0 s r past.1.1 in
     let here : IsCached (acted s a) (cache_configured (acted s a).memory (cache_acted n a c)) = cached-acted n s a c (sound-after g rs past.0) free.1 (cached-after g rs past.0) in
     subst (λ (q : Record). IsCached q.after (cache_configured q.after.memory (cache_acted (sets_in g.sets q.before) (action_done q) c))) (sym free.0)
-    (cached-counted (counts_of r.kind) (acted s a) (cache_configured (acted s a).memory (cache_acted n a c)) here)
+    (record { bytes = here.bytes; regions = here.regions; youngest = here.youngest })

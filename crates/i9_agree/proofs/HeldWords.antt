@@ -1,8 +1,8 @@
 -- The words of held frames stand in memory.
-use Rattle.std.proofs.Common.{◌≡◌, ℕ, ◌+◌, ◌*◌, ◌<◌, ◌^◌, Bool, true, false, cond, List, [], ◌∷◌, ◌++◌, length, get_or, refl, sym, ap, ◌∙◌, subst, inl, inr, append_assoc, arith}
+use Rattle.std.proofs.Common.{◌≡◌, ℕ, ◌+◌, ◌*◌, ◌<◌, ◌^◌, Bool, true, false, cond, List, [], ◌∷◌, ◌++◌, length, get_or, refl, sym, ap, ◌∙◌, subst, append_assoc, arith}
 use Rattle.std.proofs.lemmas.List.{append-nil}
 use Rattle.std.specs.List.{AllByRecursion}
-use Rattle.std.proofs.lemmas.Bool.{cases_Bool, or_left, or_right, or_from, both_ways}
+use Rattle.std.proofs.lemmas.Bool.{or_left, or_right}
 use Rattle.std.proofs.lemmas.Nat.{from_le_bytes-to_le_bytes_4, from_be_bytes-to_be_bytes_4}
 use Rattle.std.specs.Int.{w32, from_le_bytes, from_be_bytes, to_le_bytes, to_be_bytes}
 use Rattle.i9_model.specs.declared.layout.TheConstants.{LOCALS, FRAME_SIZE}
@@ -38,10 +38,9 @@ unfolding word_in word_bytes
 word_back m g x w low small has =
     let bs = word_bytes m x w in
     let here : wrapped (x + 0) ≡ x = omega arith in
-    four m x (g x) (g (wrapped (x + 1))) (g (wrapped (x + 2))) (g (wrapped (x + 3))) (get_or bs 0 0) (get_or bs 1 0) (get_or bs 2 0) (get_or bs 3 0)
-    (ap g (sym here) ∙ has 0 (omega arith)) (has 1 (omega arith)) (has 2 (omega arith)) (has 3 (omega arith))
-    ∙ ap (ordered_word m x) (four_list bs (four_bytes m x w))
-    ∙ by_order (is_big m (region_of x)) w small
+    let first : g x ≡ get_or bs 0 0 = rw here at (has 0 (omega arith)) in
+    rw (first, has 1 (omega arith), has 2 (omega arith), has 3 (omega arith))
+    (ap (ordered_word m x) (four_list bs (four_bytes m x w)) ∙ by_order (is_big m (region_of x)) w small)
 
 -- ---- the bytes of held frames
 
@@ -57,14 +56,11 @@ AllHaveBytes m g fs = AllByRecursion (HasBytes m g) fs
 -- an older frame is beside those that are younger
 apart_from : (gs older : List ℕ) (a x : ℕ) → AreApart (gs ++ a ∷ older) → in_bytes a FRAME_SIZE x ≡ true → in_frames gs x ≡ false
 apart_from [] older a x apart t = refl
-apart_from (g ∷ gs) older a x apart t = elim (cases_Bool (in_bytes g FRAME_SIZE x)) [
-  | inr out ↦ or_from (in_bytes g FRAME_SIZE x) (in_frames gs x) out (apart_from gs older a x apart.1 t)
-  | inl inside ↦ absurd (both_ways (in_frames (gs ++ a ∷ older) x) (apart.0 x inside) (later gs older a x t))
-]
-  where
-    later : (gs older : List ℕ) (a x : ℕ) → in_bytes a FRAME_SIZE x ≡ true → in_frames (gs ++ a ∷ older) x ≡ true
-    later [] older a x t = or_left (in_bytes a FRAME_SIZE x) (in_frames older x) t
-    later (g ∷ gs) older a x t = or_right (in_bytes g FRAME_SIZE x) (in_frames (gs ++ a ∷ older) x) (later gs older a x t)
+apart_from (g ∷ gs) older a x apart t =
+    let live = later_live gs (a ∷ older) x (or_left (in_bytes a FRAME_SIZE x) (in_frames older x) t) in
+    let others = apart_from gs older a x apart.1 t in
+    let first = apart.0 x in
+    grind arith
 
 -- bytes that are stored go by configuration words alone
 orders_alone : (m k : Memory) (x w : ℕ) → k.mcon ≡ m.mcon → word_bytes k x w ≡ word_bytes m x w
@@ -97,7 +93,7 @@ words_stand : (m : Memory) (g : ℕ → ℕ) (hs : List Frame) (older : List ℕ
 words_stand m g [] older outside has = tt
 words_stand m g (f ∷ fs) older outside has =
     let order : youngest_first (f ∷ fs) ++ older ≡ youngest_first fs ++ (f.address ∷ older) = append_assoc (youngest_first fs) (f.address ∷ []) older in
-    let rest : (x : ℕ) → in_frames (youngest_first fs ++ (f.address ∷ older)) x ≡ true → in_port_page x ≡ false = λ x t. outside x (ap (λ (l : List ℕ). in_frames l x) order ∙ t) in (
+    let rest : (x : ℕ) → in_frames (youngest_first fs ++ (f.address ∷ older)) x ≡ true → in_port_page x ≡ false = rw order at outside in (
       (λ low k h small. word_back m g (wrapped (f.address + 4 * k)) (get_or f.words k 0) (omega arith) small (λ j l.
           let place : wrapped (wrapped (f.address + 4 * k) + j) ≡ wrapped (f.address + (4 * k + j)) = omega arith in
           let inside = in_bytes-has f.address FRAME_SIZE (4 * k + j) (omega arith) in
@@ -110,7 +106,7 @@ same_live : (m : Memory) (g h : ℕ → ℕ) (hs : List Frame) (older : List ℕ
 same_live m g h [] older same has = tt
 same_live m g h (f ∷ fs) older same has =
     let order : youngest_first (f ∷ fs) ++ older ≡ youngest_first fs ++ (f.address ∷ older) = append_assoc (youngest_first fs) (f.address ∷ []) older in
-    let rest : (x : ℕ) → in_frames (youngest_first fs ++ (f.address ∷ older)) x ≡ true → g x ≡ h x = λ x t. same x (ap (λ (l : List ℕ). in_frames l x) order ∙ t) in (
+    let rest : (x : ℕ) → in_frames (youngest_first fs ++ (f.address ∷ older)) x ≡ true → g x ≡ h x = rw order at same in (
       (λ low i j k l port.
           let x = wrapped (f.address + (4 * i + j)) in
           let inside = in_bytes-has f.address FRAME_SIZE (4 * i + j) (omega arith) in
@@ -127,7 +123,7 @@ held-in-memory g rs past =
     let sound = sound-after g rs past in
     let older = older_than c.held s.frames.live in
     let all = all_live c.held s.frames.live cached.youngest in
-    let live : (x : ℕ) → in_frames (youngest_first c.held ++ older) x ≡ true → in_frames s.frames.live x ≡ true = λ x t. ap (λ (l : List ℕ). in_frames l x) all ∙ t in
+    let live : (x : ℕ) → in_frames (youngest_first c.held ++ older) x ≡ true → in_frames s.frames.live x ≡ true = λ x t. rw all t in
     let laid = laid_bytes c.held older c.behind (subst AreApart all sound.apart) cached.youngest.whole in
     let here : AllHaveBytes s.memory (overlaid c).bytes c.held = other_orders s.memory c.behind (overlaid c).bytes c.held cached.regions laid in
     words_stand s.memory s.memory.bytes c.held older (λ x t. sound.outside x (live x t))

@@ -1,5 +1,5 @@
 -- Held frames laid over memory, through spills, pushes, returns, flushes and stores.
-use Rattle.std.proofs.Common.{◌≡◌, ℕ, Bool, true, false, cond, ltb, List, [], ◌∷◌, ◌++◌, length, refl, sym, ap, ◌∙◌, subst, inl, inr}
+use Rattle.std.proofs.Common.{◌≡◌, ℕ, Bool, true, false, cond, ltb, List, [], ◌∷◌, ◌++◌, length, refl, sym, ap, ◌∙◌, inl, inr}
 use Rattle.std.specs.Prelude.{◌⊎◌}
 use Rattle.std.specs.List.{AllByRecursion}
 use Rattle.std.proofs.lemmas.Bool.{cases_Bool, both_ways}
@@ -34,8 +34,7 @@ room_by false c = overlaid_spilled c.held c.behind
 -- a frame that is held lies over all that was there
 pub overlaid_holding : (n : ℕ) (f : Frame) (c : Cache) → overlaid (holding n f c) ≡ with_words (overlaid c) f.address f.words
 overlaid_holding n f c =
-    over_push (with_room n c).held f (with_room n c).behind
-    ∙ ap (λ (m : Memory). with_words m f.address f.words) (room_by (ltb (length c.held) n) c)
+    over_push (with_room n c).held f (with_room n c).behind ∙ rw (room_by (ltb (length c.held) n) c) refl
 
 -- ---- memory beside a frame
 
@@ -55,8 +54,7 @@ over_mcon (h ∷ hs) m = over_mcon hs (with_words m h.address h.words) ∙ words
 pub words_kept : (m : Memory) (a : ℕ) (ws : List ℕ) (x : ℕ) → length ws ≡ LOCALS → (in_bytes a FRAME_SIZE x ≡ false) ⊎ (in_port_page x ≡ true) → (with_words m a ws).bytes x ≡ m.bytes x
 words_kept m a ws x whole kept =
     let bs = bytes_of_words m a ws in
-    ap (λ (k : Memory). k.bytes x) (words_as_bytes m a ws)
-    ∙ stored_kept m.bytes (upwards a bs) x (subst (λ (b : Bool). (b ≡ false) ⊎ (in_port_page x ≡ true)) (sym (frame_put m a ws x whole)) kept)
+    ap (λ (k : Memory). k.bytes x) (words_as_bytes m a ws) ∙ stored_kept m.bytes (upwards a bs) x (rw (frame_put m a ws x whole) kept)
 
 -- a byte of a frame doesn't look at what was there
 words_agree : (m : Memory) (bytes : ℕ → ℕ) (a : ℕ) (ws : List ℕ) (x : ℕ) → length ws ≡ LOCALS → (in_port_page x ≡ true → bytes x ≡ m.bytes x) → (in_bytes a FRAME_SIZE x ≡ false → bytes x ≡ m.bytes x) → (with_words (with_other m bytes) a ws).bytes x ≡ (with_words m a ws).bytes x
@@ -95,8 +93,7 @@ pub over_stored : (hs : List Frame) (m : Memory) (ps : List (ℕ × ℕ)) → Ar
 unfolding over
 over_stored [] m ps whole beside = refl
 over_stored (h ∷ hs) m ps whole beside =
-    ap (over hs) (store_beside m ps h.address h.words whole.0 beside.0)
-    ∙ over_stored hs (with_words m h.address h.words) ps whole.1 beside.1
+    rw (store_beside m ps h.address h.words whole.0 beside.0) (over_stored hs (with_words m h.address h.words) ps whole.1 beside.1)
 
 -- ---- bytes beside all held frames
 

@@ -1,12 +1,9 @@
 -- What is printed of a run does not depend on how soft bytes are read.
-use Rattle.std.proofs.Common.{◌≡◌, ℕ, true, List, [], ◌∷◌, ◌++◌, length, Option, refl, sym, ap, ◌∙◌, subst}
+use Rattle.std.proofs.Common.{◌≡◌, ℕ, true, List, [], ◌∷◌, length, refl, sym, ap, ◌∙◌}
 use Rattle.std.proofs.lemmas.Grind.{flat_map-append}
-use Rattle.i9_model.specs.declared.event.Event.{Event}
-use Rattle.i9_model.specs.declared.event.Timed.{Timed}
 use Rattle.i9_model.specs.ScheduleText.{standing}
 use Rattle.i9_model.specs.State.{State, boot}
-use Rattle.i9_model.specs.Run.{Given, Finish, Kind, Record, Next, Does, Ends, due_by, state_after, due_after, reached_by, reached_after, event_after, next_in, next, IsPast, IsPastOf, IsRun}
-use Rattle.i9_model.specs.declared.run.Due.{Due}
+use Rattle.i9_model.specs.Run.{Given, Finish, Kind, Record, Next, Does, Ends, due_by, state_after, due_after, reached_after, event_after, next, IsPast, IsPastOf, IsRun}
 use Rattle.i9_model.specs.PrintedText.{record_lines, end_lines, lines_of, shown_text, text_of, run_text}
 use Rattle.i9_model.specs.Alike.{Agree, DoAgree, NextsAgree}
 use Rattle.i9_model.specs.ReadingRuns.{boot_reading, state_from, next_from, IsRunReading, reading_text}
@@ -34,23 +31,18 @@ next-beside : (g : Given) (b : State) (rs qs : List Record) → IsPast g rs → 
 next-beside g b rs qs past beside =
     let t = state_from b qs in
     let stands : standing g.plan (length (reached_after qs)) t.count ≡ event_after g rs =
-    ap (λ (ts : List Timed). standing g.plan (length ts) t.count) beside.reached ∙ ap (λ (u : State). standing g.plan (length (reached_after rs)) u.count) beside.state.rest in
-    subst (λ (d : Due). NextsAgree true (next g rs) (next_in g.length d (standing g.plan (length (reached_after qs)) t.count) t)) (sym beside.due)
-    (subst (λ (o : Option Event). NextsAgree true (next g rs) (next_in g.length (due_after rs) o t)) (sym stands)
-    (next-agree true g.length (due_after rs) (event_after g rs) (state_after g rs) t (sound-after g rs (past_of_some g rs past)) beside.state))
+    rw (beside.reached, ap (λ (u : State). u.count) beside.state.rest) refl in
+    rw (beside.due, stands) (next-agree true g.length (due_after rs) (event_after g rs) (state_after g rs) t (sound-after g rs (past_of_some g rs past)) beside.state)
 
 one-beside : (g : Given) (b : State) (rs qs : List Record) (r q : Record) → AreBeside g b rs qs → DoAgree true r q → AreBeside g b (r ∷ rs) (q ∷ qs)
 one-beside g b rs qs r q beside same = record {
   state = same.after;
   due = ap (λ (k : Kind). due_by k q.before) same.kind ∙ same.due;
   reached =
-      ap (λ (k : Kind). reached_after qs ++ reached_by k q.before) same.kind
-      ∙ ap (λ (ts : List Timed). reached_after qs ++ ts) (reached-same r.kind r.before q.before same.before)
-      ∙ ap (λ (ts : List Timed). ts ++ reached_by r.kind r.before) beside.reached;
+      rw (same.kind, reached-same r.kind r.before q.before same.before, beside.reached) refl;
   text =
       flat_map-append shown_text (lines_of qs) (record_lines q)
-      ∙ ap (λ (x : List ℕ). text_of (lines_of qs) ++ x) (record-text-same r q same)
-      ∙ ap (λ (x : List ℕ). x ++ text_of (record_lines r)) beside.text
+      ∙ cc (record-text-same r q same, beside.text)
       ∙ sym (flat_map-append shown_text (lines_of rs) (record_lines r));
 }
 
@@ -93,8 +85,7 @@ whole-text reading g rs qs f beside =
     let s = state_after g rs in
     let t = state_from (boot_reading reading g.image) qs in
     flat_map-append shown_text (lines_of qs) (end_lines t f)
-    ∙ ap (λ (x : List ℕ). x ++ text_of (end_lines t f)) beside.text
-    ∙ ap (λ (x : List ℕ). text_of (lines_of rs) ++ x) (end-text-same f s t beside.state)
+    ∙ cc (beside.text, end-text-same f s t beside.state)
     ∙ sym (flat_map-append shown_text (lines_of rs) (end_lines s f))
 
 -- a run has one of each reading, of the same text
@@ -114,7 +105,5 @@ run-behind reading g qs rs e f other run =
     let here : IsRun g found.0 e = record { past = found.1; ends = ends-behind (next g found.0) (next_from b g qs) e (next-beside g b found.0 qs found.1 found.2) other.ends } in
     let end = same_end g found.0 rs e f here run in (
       end,
-      whole-text reading g found.0 qs e found.2
-          ∙ ap (λ (ls : List Record). run_text g ls e) (same_records g found.0 rs e f here run)
-          ∙ ap (run_text g rs) end,
+      whole-text reading g found.0 qs e found.2 ∙ rw (same_records g found.0 rs e f here run, end) refl,
     )

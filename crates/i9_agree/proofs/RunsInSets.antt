@@ -1,14 +1,9 @@
 -- A machine that keeps its frames in sets has a run beside each run, which prints the same.
 use Rattle.std.proofs.Common.{◌≡◌, ℕ, Option, List, [], ◌∷◌, ◌++◌, length, refl, sym, ap, ◌∙◌, subst}
-use Rattle.i9_model.specs.declared.event.Event.{Event}
-use Rattle.i9_model.specs.declared.event.Timed.{Timed}
-use Rattle.i9_model.specs.ScheduleText.{standing}
 use Rattle.i9_model.specs.Memory.{Memory}
 use Rattle.i9_model.specs.State.{State}
-use Rattle.i9_model.specs.Step.{Action}
-use Rattle.i9_model.specs.Run.{Given, Record, action_done, state_after, due_after, reached_by, reached_after, event_after, next_in, next, IsPast, IsRun, Finish}
-use Rattle.i9_model.specs.declared.run.Due.{Due}
-use Rattle.i9_model.specs.PrintedText.{Shown, record_lines, lines_of, end_lines, text_of, run_text}
+use Rattle.i9_model.specs.Run.{Given, Record, action_done, state_after, due_after, reached_after, event_after, next, IsPast, IsRun, Finish}
+use Rattle.i9_model.specs.PrintedText.{lines_of, end_lines, text_of, run_text}
 use Rattle.i9_model.specs.Alike.{AreAlike, AreRecordsAlike, AreNextAlike}
 use Rattle.i9_model.specs.HeldFrames.{Cache, overlaid, cache_acted, cache_configured, cache_after, sets_in}
 use Rattle.i9_model.specs.RunInSets.{in_sets, IsPastInSets, IsRunInSets}
@@ -37,17 +32,15 @@ next_beside : (g : Given) (rs qs : List Record) → IsPast g rs → AreBeside g 
 next_beside g rs qs past beside =
     let t = state_after g qs in
     let stands : event_after g qs ≡ event_after g rs =
-    ap (λ (ts : List Timed). standing g.plan (length ts) t.count) beside.reached ∙ ap (λ (u : State). standing g.plan (length (reached_after rs)) u.count) beside.state.rest in
-    subst (λ (d : Due). AreNextAlike (next g rs) (next_in g.length d (event_after g qs) t)) (sym beside.due)
-    (subst (λ (o : Option Event). AreNextAlike (next g rs) (next_in g.length (due_after rs) o t)) (sym stands) (next_alike g.length (due_after rs) (event_after g rs) (state_after g rs) t (sound-after g rs (past_of_some g rs past)) (blind-after g rs (past_of_some g rs past)) beside.state))
+    rw (beside.reached, ap (λ (u : State). u.count) beside.state.rest) refl in
+    rw (beside.due, stands) (next_alike g.length (due_after rs) (event_after g rs) (state_after g rs) t (sound-after g rs (past_of_some g rs past)) (blind-after g rs (past_of_some g rs past)) beside.state)
 
 -- what is held after records that are alike
 same_cache : (g : Given) (rs qs : List Record) (r p : Record) → AreBeside g rs qs → AreRecordsAlike r p → cache_after g (p ∷ qs) ≡ cache_after g (r ∷ rs)
 same_cache g rs qs r p beside same =
     let m = p.after.memory in
     ap (λ (u : State). cache_configured m (cache_acted (sets_in g.sets u) (action_done p) (cache_after g qs))) same.before.rest
-    ∙ ap (λ (a : Action). cache_configured m (cache_acted (sets_in g.sets r.before) a (cache_after g qs))) (done_alike r p same)
-    ∙ ap (λ (c : Cache). cache_configured m (cache_acted (sets_in g.sets r.before) (action_done r) c)) beside.cache
+    ∙ rw (done_alike r p same, beside.cache) refl
     ∙ configured_by m r.after.memory (cache_acted (sets_in g.sets r.before) (action_done r) (cache_after g rs)) (ap (λ (u : State). u.memory.mcon) same.after.rest)
 
 -- what is held does not depend on the bytes of the last state
@@ -78,9 +71,9 @@ one_beside g rs qs r p past beside same =
     record {
       state = after;
       due = due_alike r q alike;
-      reached = ap (λ (ts : List Timed). reached_after qs ++ ts) (reached_alike r q alike) ∙ ap (λ (ts : List Timed). ts ++ reached_by r.kind r.before) beside.reached;
+      reached = cc (reached_alike r q alike, beside.reached);
       cache = cache_in_sets g qs p ∙ cache;
-      lines = ap (λ (ls : List Shown). lines_of qs ++ ls) (lines_alike r q alike) ∙ ap (λ (ls : List Shown). ls ++ record_lines r) beside.lines;
+      lines = cc (lines_alike r q alike, beside.lines);
     }
 
 -- each past of the machine with sets stands beside one of the one-at-a-time machine, and the other way round
@@ -105,8 +98,7 @@ past_in_sets g (r ∷ rs) past =
 
 text_beside : (g : Given) (rs qs : List Record) (e : Finish) → AreBeside g rs qs → run_text g qs e ≡ run_text g rs e
 text_beside g rs qs e beside =
-    ap (λ (ls : List Shown). text_of (ls ++ end_lines (state_after g qs) e)) beside.lines
-    ∙ ap (λ (ls : List Shown). text_of (lines_of rs ++ ls)) (end_alike (state_after g rs) (state_after g qs) e beside.state)
+    cc (beside.lines, end_alike (state_after g rs) (state_after g qs) e beside.state)
 
 -- a run has one in sets, with the same text
 pub run_in_sets : (g : Given) (rs : List Record) (e : Finish) → IsRun g rs e → (qs : List Record) × IsRunInSets g qs e × (run_text g qs e ≡ run_text g rs e)
@@ -123,9 +115,7 @@ sets_same g qs rs e f sets run =
     let here : IsRun g xs e = record { past = found.1; ends = ends_alike (next g xs) (next g qs) e (next_beside g xs qs found.1 found.2) sets.ends } in
     let end = same_end g xs rs e f here run in (
       end,
-      text_beside g xs qs e found.2
-          ∙ ap (λ (ys : List Record). run_text g ys e) (same_records g xs rs e f here run)
-          ∙ ap (λ (x : Finish). run_text g rs x) end,
+      text_beside g xs qs e found.2 ∙ rw (same_records g xs rs e f here run, end) refl,
     )
 
 -- ---- other numbers of sets

@@ -1,5 +1,5 @@
 -- What is done without a hazard is free, and frames along a run are sound.
-use Rattle.std.proofs.Common.{◌≡◌, ℕ, ◌+◌, ◌*◌, ◌/◌, ◌%◌, Bool, true, false, cond, List, [], ◌∷◌, ◌++◌, length, find, Option, Some, None, refl, ap, sym, ◌∙◌, subst, arith}
+use Rattle.std.proofs.Common.{◌≡◌, ℕ, ◌+◌, ◌*◌, ◌/◌, ◌%◌, Bool, true, false, cond, List, [], ◌∷◌, ◌++◌, length, find, Option, Some, None, refl, ap, ◌∙◌, arith}
 use Rattle.std.specs.Prelude.{◌==◌, ◌||◌}
 use Rattle.i9_isa.specs.declared.op.Op.{Op}
 use Rattle.i9_isa.specs.declared.op.Op.TheVariants.{Atadd, Atmod, Call, Callx, Calls, Ret, Flushreg, Sysctl}
@@ -26,7 +26,7 @@ use Rattle.i9_model.specs.declared.faults.Entry.{Entry}
 use Rattle.i9_model.specs.declared.interrupts.Chosen.{Chosen}
 use Rattle.i9_model.specs.declared.event.Event.{Event}
 use Rattle.i9_model.specs.declared.interrupts.Cause.{Cause}
-use Rattle.i9_model.specs.declared.interrupts.Cause.TheVariants.{Nmi, Line, Soft}
+use Rattle.i9_model.specs.declared.interrupts.Cause.TheVariants.{Soft}
 use Rattle.i9_model.specs.declared.interrupts.TheConstants.{PENDING_VECTORS}
 use Rattle.i9_model.specs.Frames.{in_bytes, in_frames, has, saved, with_marked, wrote, rounded_down}
 use Rattle.i9_model.specs.Interrupts.{vector_priority, with_bit, without_bit, byte_hazard, request_hazard, request_writes, priority_place, pending_place, left_pending, priority_writes, taken_writes, priority_hazard, taken_hazard, clearing_writes, clearing_hazard, record_writes}
@@ -85,15 +85,13 @@ writes_append f (p ∷ ps) qs one two = by_live (in_frames f.live p.0) one (λ l
   where
     by_live : (b : Bool) → cond b (Some p.0) (find (in_frames f.live) (places_of ps)) ≡ None → (find (in_frames f.live) (places_of ps) ≡ None → find (in_frames f.live) (places_of (ps ++ qs)) ≡ None)
         → cond b (Some p.0) (find (in_frames f.live) (places_of (ps ++ qs))) ≡ None
-    by_live true e later = absurd cc
-    by_live false e later = later e
+    by_live b e later = grind arith
 
 -- one byte is written beside live frames
 byte_free : (f : Frames) (a v : ℕ) → byte_hazard f (wrapped a) ≡ None → writes_hazard f ((wrapped a, v) ∷ []) ≡ None
 byte_free f a v none =
     let same : wrapped (wrapped a) ≡ wrapped a = omega arith in
-    subst (λ (x : ℕ). writes_hazard f ((x, v) ∷ []) ≡ None) same
-    (run_free f (wrapped a) (v ∷ []) 1 refl (first_none (write_hazard f (wrapped a) 1) (port_hazard (wrapped a) 1) none))
+    rw same at (run_free f (wrapped a) (v ∷ []) 1 refl (first_none (write_hazard f (wrapped a) 1) (port_hazard (wrapped a) 1) none))
 
 -- a request is written beside live frames
 pub request_free : (m : Memory) (f : Frames) (table v : ℕ) → request_hazard f table v ≡ None → writes_hazard f (request_writes m table v) ≡ None
@@ -172,9 +170,8 @@ taken_free m f table v none =
     (byte_free f (table + (PENDING_VECTORS + v / 8)) (left_pending m table v) (second_none priority byte written))
 
 clearing_free : (cause : Cause) (m : Memory) (f : Frames) (table v : ℕ) → clearing_hazard cause m f table v ≡ None → writes_hazard f (clearing_writes cause m table v) ≡ None
-clearing_free Nmi m f table v none = no_writes f
-clearing_free (Line k) m f table v none = no_writes f
 clearing_free Soft m f table v none = taken_free m f table v none
+clearing_free _ m f table v none = no_writes f
 
 -- it saves a frame, stores its record, and then clears what chose it
 entry_free : (s : State) (c : Chosen) (e : Entry) → InterruptsFree s c e → writes_hazard (saved s.frames e.push.save) (entry_writes s c e) ≡ None
@@ -243,10 +240,9 @@ action_lost i s = by_transfer (transfer_of i.op)
 
 kind_lost : (k : Kind) (s : State) → IsLostOf (action_by_kind k s).move (action_by_kind k s).lost
 kind_lost (Instruction i) s = action_lost i s
-kind_lost (Faulted inst fault) s = refl
 kind_lost (Entered e) s = saved-lost s e.push.save
 kind_lost (Interrupted c e) s = saved-lost s e.push.save
-kind_lost (Reached e u) s = refl
+kind_lost _ s = refl
 
 -- they are in the frame that is saved, which lies beside the others
 pub sound-lost : (v : Move) (f : Frames) (lost : List ℕ) → IsSafe f v → IsLostOf v lost → IsSound (frames_after f v) → IsSound (with_marked (frames_after f v) lost)
@@ -255,28 +251,25 @@ sound-lost (Saves a ws) f lost safe is sound = sound-marked (saved f a) lost (λ
     here : (x : ℕ) → has lost x ≡ true → in_frames (a ∷ f.live) x ≡ true
     here x t = or_left (in_bytes a FRAME_SIZE x) (in_frames f.live x) (is.inside x t)
 
-    beside : (r live : Bool) → (r ≡ true → live ≡ true) → live ≡ false → r ≡ false
-    beside false live h n = refl
-    beside true live h n = let no : true ≡ false = sym (h refl) ∙ n in absurd (cc no)
-
     apart : (x : ℕ) → has lost x ≡ true → in_returns (a ∷ f.live) x ≡ false
     apart x t =
         let out = write_hazard-none f a FRAME_SIZE x (save_hazard-none f a safe).0 (is.inside x t) in
-        or_from (in_bytes (return_place a) 4 x) (in_returns f.live x) (is.beside x t) (beside (in_returns f.live x) (in_frames f.live x) (returns-live f.live x) out)
-sound-lost v f lost safe none sound = subst (λ (l : List ℕ). IsSound (with_marked (frames_after f v) l)) (sym none) sound
+        let live = returns-live f.live x in
+        or_from (in_bytes (return_place a) 4 x) (in_returns f.live x) (is.beside x t) (grind arith)
+sound-lost v f lost safe none sound = rw none sound
 
 sound-acted : (s : State) (a : Action) → IsClear s a → IsLostOf a.move a.lost → IsSound s.frames → IsSound (acted s a).frames
 unfolding moved writes_hazard
 sound-acted s a clear lost sound =
     let f = frames_after s.frames a.move in
-    subst IsSound (sym (acted-frames s a))
+    rw (acted-frames s a)
     (sound-softened (wrote (with_marked f a.lost) a.writes) a.stale
     (sound-wrote (with_marked f a.lost) a.writes (sound-lost a.move s.frames a.lost clear.save lost (sound-moved a.move s.frames clear.save sound)) clear.free.free))
 
 next_sound : (limit : ℕ) (due : Due) (stands : Option Event) (s : State) (r : Record) → IsSound s.frames → next_in limit due stands s ≡ Does r → IsSound r.after.frames
 next_sound limit due stands s r sound e =
     let comes = next_comes limit due stands s r e in
-    subst (λ (x : Record). IsSound x.after.frames) (sym comes.0) (sound-acted s (action_by_kind r.kind s) (kind_clear limit due stands r.kind s comes.1) (kind_lost r.kind s) sound)
+    rw comes.0 (sound-acted s (action_by_kind r.kind s) (kind_clear limit due stands r.kind s comes.1) (kind_lost r.kind s) sound)
 
 sound-boot : (image : List (ℕ × ℕ)) → IsSound (boot image).frames
 unfolding boot started

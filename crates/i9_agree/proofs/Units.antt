@@ -1,5 +1,5 @@
 -- A unit that meets no hazard sees hard bytes alone, and writes beside live frames.
-use Rattle.std.proofs.Common.{◌≡◌, ℕ, zero, suc, ◌+◌, ◌<◌, Bool, true, false, cond, List, [], ◌∷◌, map, Option, Some, None, Result, Ok, Err, refl, sym, ap, ◌∙◌, subst, arith}
+use Rattle.std.proofs.Common.{◌≡◌, ℕ, zero, suc, ◌+◌, ◌<◌, Bool, true, false, cond, List, [], map, Option, Some, None, Result, Ok, Err, refl, ap, ◌∙◌, arith}
 use Rattle.i9_model.specs.declared.event.Event.{Event}
 use Rattle.i9_model.specs.declared.event.Event.TheVariants as events
 use Rattle.i9_model.specs.Writes.{wrapped, upwards}
@@ -23,11 +23,8 @@ places_same : (f g : ℕ → ℕ) (a n : ℕ) → ((k : ℕ) → k < n → f (wr
 places_same f g a zero same = refl
 places_same f g a (suc n) same =
     let none : a + 0 ≡ a = omega arith in
-    let first : f (wrapped a) ≡ g (wrapped a) = ap (λ (x : ℕ). f (wrapped x)) (sym none) ∙ same 0 (omega arith) ∙ ap (λ (x : ℕ). g (wrapped x)) none in
-    let later : map f (places (a + 1) n) ≡ map g (places (a + 1) n) = places_same f g (a + 1) n (λ k h.
-    let next : a + suc k ≡ a + 1 + k = omega arith in
-    ap (λ (x : ℕ). f (wrapped x)) (sym next) ∙ same (suc k) (omega arith) ∙ ap (λ (x : ℕ). g (wrapped x)) next) in
-    ap (λ (v : ℕ). v ∷ map f (places (a + 1) n)) first ∙ ap (λ (vs : List ℕ). g (wrapped a) ∷ vs) later
+    let later = places_same f g (a + 1) n (λ k h. let next : a + suc k ≡ a + 1 + k = omega arith in rw next at (same (suc k) (omega arith))) in
+    cc (rw none at (same 0 (omega arith)), later)
 
 pub bytes_same : (f : Frames) (m : Memory) (bytes : ℕ → ℕ) (c : Channel) (given : Option (List ℕ)) → AgreeWhere (is_hard f) m bytes → unit_hazard f c given ≡ None → unit_bytes (with_other m bytes) c given ≡ unit_bytes m c given
 unfolding unit_hazard unit_bytes
@@ -67,8 +64,7 @@ unit_moved m f d c given u is = by_idle (is_idle d c given) refl is
     by_idle false t h =
         let found = unless_ok (unit_hazard f (d.channels c) given) (Some (unit m d c given)) (Some u) h in
         let same : Some (unit m d c given) ≡ Some u = found.1 in
-        let are : unit m d c given ≡ u = cc in
-        (t, found.0, are)
+        (t, found.0, cc)
 
 unit_free : (m : Memory) (f : Frames) (d : Dma) (c : ℕ) (given : Option (List ℕ)) (u : Unit) → next_unit m f d c given ≡ Ok (Some u) → writes_hazard f u.writes ≡ None
 unfolding unit_hazard
@@ -79,9 +75,7 @@ unit_free m f d c given u is =
     let port = port_hazard channel.target (unit_length channel) in
     let write = write_hazard f channel.target (unit_length channel) in
     let free = first_none write port (second_none (source_hazard f channel given) (or_else write port) moved.1) in
-    let here : writes_hazard f (unit m d c given).writes ≡ None =
-    writes_hazard-upwards f channel.target (unit_bytes m channel given) ∙ ap (write_hazard f channel.target) long ∙ free in
-    subst (λ (v : Unit). writes_hazard f v.writes ≡ None) moved.2 here
+    rw (← moved.2) (writes_hazard-upwards f channel.target (unit_bytes m channel given) ∙ ap (write_hazard f channel.target) long ∙ free)
 
 pub no_writes : (f : Frames) → writes_hazard f [] ≡ None
 unfolding writes_hazard
@@ -93,14 +87,12 @@ moving_free s c given (Some u) is = unit_free s.memory s.frames s.dma c given u 
 
 by_unit_free : (s : State) (c : ℕ) (given : Option (List ℕ)) (p : Result (Option Unit) ℕ) (u : Received) → next_unit s.memory s.frames s.dma c given ≡ p → received_by s c p ≡ Ok u → writes_hazard s.frames u.writes ≡ None
 by_unit_free s c given (Ok o) u moves is =
-    let same : moving_unit s c o ≡ u = cc in
-    subst (λ (v : Received). writes_hazard s.frames v.writes ≡ None) same (moving_free s c given o moves)
+    let same : moving_unit s c o ≡ u = cc in rw (← same) (moving_free s c given o moves)
 by_unit_free s c given (Err a) u moves is = absurd cc
 
 quiet_free : (s : State) (r u : Received) → r.writes ≡ [] → ◌≡◌ {A = Result Received ℕ} (Ok r) (Ok u) → writes_hazard s.frames u.writes ≡ None
 quiet_free s r u none is =
-    let same : r ≡ u = cc in
-    subst (λ (v : Received). writes_hazard s.frames v.writes ≡ None) same (ap (writes_hazard s.frames) none ∙ no_writes s.frames)
+    let same : r ≡ u = cc in rw (← same, none) (no_writes s.frames)
 
 -- what an event does writes beside live frames
 pub received_free : (s : State) (e : Event) (u : Received) → received_in s e ≡ Ok u → writes_hazard s.frames u.writes ≡ None
