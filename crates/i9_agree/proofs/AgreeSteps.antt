@@ -1,6 +1,6 @@
 -- What comes next in states that agree is alike, and states stay in agreement.
 use Rattle.std.proofs.Common.{◌≡◌, inl, inr, ℕ, ◌+◌, ◌*◌, ◌≤◌, Bool, true, false, cond, eqb, ◌&&◌, ◌||◌, nat_le, List, [], ◌∷◌, ◌++◌, Option, Some, None, Result, Ok, Err, refl, sym, ap, ◌∙◌, subst, arith, zero, suc, ◌<◌, length}
-use Rattle.std.specs.Prelude.{not, bit_and, max, map, ◌%◌, ◌==◌}
+use Rattle.std.specs.Prelude.{not, map, ◌==◌}
 use Rattle.std.specs.List.{range_with_len, list_any}
 use Rattle.i9_isa.specs.declared.op.Op.{Op}
 use Rattle.i9_isa.specs.declared.op.Op.TheVariants.{Calls, Ret, Sysctl, Atadd, Atmod}
@@ -11,7 +11,7 @@ use Rattle.i9_isa.specs.declared.size.Transfer.{Transfer}
 use Rattle.i9_isa.specs.Transfers.{transfer_of, byte_count, register_count}
 use Rattle.i9_isa.specs.Words.{words_of}
 use Rattle.i9_isa.specs.declared.inst.Inst.{Inst}
-use Rattle.i9_model.specs.declared.layout.TheConstants.{PRCB_SIZE, CONTROL_TABLE_SIZE, CONTROL_GROUP_SIZE, AC_MASK, LEAST_SETS, FRAME_SIZE, FP, SP, PFP, EXIT_WORD, CONSOLE}
+use Rattle.i9_model.specs.declared.layout.TheConstants.{PRCB_SIZE, CONTROL_TABLE_SIZE, CONTROL_GROUP_SIZE, FRAME_SIZE, FP, SP, PFP, EXIT_WORD, CONSOLE}
 use Rattle.i9_model.specs.declared.setup.TheConstants.{CONTROL_WORDS}
 use Rattle.i9_model.specs.declared.setup.Setup.{Setup}
 use Rattle.i9_model.specs.declared.interrupts.Chosen.{Chosen}
@@ -77,20 +77,6 @@ use Rattle.i9_agree.proofs.AgreeMoves.{AreInside, AreOfSave, IsContained, moved-
 use Rattle.i9_model.proofs.Lengths.{marks_long}
 
 -- ---- the tables of start-up
-
-abbrev setup_by : ℕ → ℕ → ℕ → ℕ → ℕ → ℕ → ℕ → ℕ → ℕ → List ℕ → Setup
-setup_by first p0 p1 p2 p3 p4 p5 p7 p9 control = record {
-  first = first;
-  fault_table = p0;
-  control_table = p1;
-  ac = bit_and p2 AC_MASK;
-  fault_config = p3;
-  interrupt_table = p4;
-  system_table = p5;
-  interrupt_stack = p7;
-  sets = max LEAST_SETS (p9 % 16);
-  control = control;
-}
 
 pub setup_same : (f : Frames) (m : Memory) (bytes : ℕ → ℕ) (first prcb : ℕ) → AgreeWhere (is_hard f) m bytes → tables_hazard m f prcb ≡ None → setup_of (with_other m bytes) first prcb ≡ setup_of m first prcb
 unfolding tables_hazard setup_of

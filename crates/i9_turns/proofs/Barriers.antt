@@ -2,17 +2,18 @@
 use Rattle.std.proofs.Common.{◌≡◌, ℕ, ◌<◌, ◌≤◌, List, [], ◌∷◌, refl, sym, inl, arith}
 use Rattle.std.specs.Prelude.{IsTrue}
 use Rattle.std.specs.List.{AllByRecursion}
+use Rattle.std.proofs.lemmas.Bool.Decides.{nat_tests}
 use Rattle.i9_model.specs.declared.need.Need.{Need}
 use Rattle.i9_model.specs.declared.need.TimedNeed.{TimedNeed}
 use Rattle.i9_model.specs.Turns.{Permits, CanIssue, IsTimed, TakesTurns, last_issue, open_requests, issue_turn}
 use Rattle.i9_turns.proofs.TurnDropped.{permits-done}
 use Rattle.i9_turns.proofs.TurnOpen.{timed-take_time}
-use Rattle.i9_turns.proofs.TurnComputed.{open_requests-cons, one-done}
+use Rattle.i9_turns.proofs.TurnComputed.{open_requests-cons}
 use Rattle.i9_turns.proofs.TurnWhole.{timed-issues}
 
 pub none_open : (t : ℕ) (rs : List TimedNeed) → AllByRecursion (λ r. r.done ≤ t) rs → open_requests t rs ≡ 0
 none_open t [] h = refl
-none_open t (r ∷ rs) h = omega (arith, open_requests-cons t r rs, one-done t r h.0, none_open t rs h.1)
+none_open t (r ∷ rs) h = grind (arith, nat_tests, open_requests-cons t r rs, h.0, none_open t rs h.1)
 
 all_done : (n : Need) (t : ℕ) (rs : List TimedNeed) → IsTrue n.barrier → AllByRecursion (Permits n t) rs → AllByRecursion (λ r. r.done ≤ t) rs
 all_done n t [] b h = tt

@@ -116,21 +116,7 @@ memory-lands m t u xs le i o = moves m t u xs le i o
 pub waiting-lands : (t u : ℕ) (xs : List Late) → t ≤ u → waiting u xs ≡ left_waiting u (waiting t xs)
 waiting-lands t u [] le = refl
 waiting-lands t u (x ∷ xs) le =
-    elim (cases_Bool x.timed.need.request) [
-      | inr n ↦ waiting-no u x xs (and_left _ _ n) ∙ waiting-lands t u xs le ∙ sym (ap (left_waiting u) (waiting-no t x xs (and_left _ _ n)))
-      | inl q ↦ elim (cases_lt u x.timed.done) [
-        | inl waits ↦
-            waiting-yes u x xs (and_from _ _ q (lt-ltb u x.timed.done waits))
-            ∙ ap (λ ws. ws ++ wait_of x ∷ []) (waiting-lands t u xs le)
-            ∙ sym (ap (left_waiting u) (waiting-yes t x xs (and_from _ _ q (lt-ltb t x.timed.done (omega arith)))) ∙ left-append u (waiting t xs) (wait_of x ∷ []) ∙ ap (λ ws. left_waiting u (waiting t xs) ++ ws) (cond-false _ _ _ (lt-leb x.timed.done u waits)))
-        | inr over ↦
-            waiting-no u x xs (waits-not u x over) ∙ waiting-lands t u xs le
-            ∙ elim (cases_lt t x.timed.done) [
-              | inr done ↦ sym (ap (left_waiting u) (waiting-no t x xs (waits-not t x done)))
-              | inl now ↦ sym (ap (left_waiting u) (waiting-yes t x xs (and_from _ _ q (lt-ltb t x.timed.done now))) ∙ left-append u (waiting t xs) (wait_of x ∷ []) ∙ ap (λ ws. left_waiting u (waiting t xs) ++ ws) (cond-true _ _ _ (le-leb x.timed.done u over)) ∙ append-nil (left_waiting u (waiting t xs)))
-            ]
-      ]
-    ]
+    grind (arith, nat_tests, waiting-lands t u xs le, left-append u (waiting t xs) (wait_of x ∷ []), append-nil (left_waiting u (waiting t xs)))
 
 -- The memory after all waiting requests is the settled one.
 all-last : (vs : List Wait) (w : Wait) → all_puts (vs ++ w ∷ []) ≡ all_puts vs ++ w.puts

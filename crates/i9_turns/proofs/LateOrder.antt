@@ -1,5 +1,5 @@
 -- What the turns say of records that land late, and what may be done at an issue.
-use Rattle.std.proofs.Common.{◌≡◌, ℕ, ◌<◌, ◌≤◌, Bool, true, false, cond, leb, List, [], ◌∷◌, ◌++◌, length, Option, Some, None, refl, sym, ap, ◌∙◌, subst, inl, inr, arith}
+use Rattle.std.proofs.Common.{◌≡◌, ℕ, ◌<◌, ◌≤◌, true, false, List, [], ◌∷◌, ◌++◌, length, Some, sym, ap, ◌∙◌, subst, inl, inr, arith}
 use Rattle.std.specs.Prelude.{IsTrue}
 use Rattle.std.specs.Int.{bit_at, IsBitSet}
 use Rattle.std.specs.List.{AllByRecursion}
@@ -79,15 +79,7 @@ shows_clear first t xs cells bytes queue n h can = record {
 -- ---- what lands leaves what is settled, with no word on records
 
 pub landed_latest : (u : ℕ) (c : Cell) → latest (landed u c) ≡ latest c
-landed_latest u c = by_plan c.plan
-  where
-    by_due : (b : Bool) (p : ℕ × ℕ) → latest (cell (cond b p.0 c.value) (cond b None (Some p))) ≡ p.0
-    by_due true p = refl
-    by_due false p = refl
-
-    by_plan : (p : Option (ℕ × ℕ)) → latest (landed u (cell c.value p)) ≡ latest (cell c.value p)
-    by_plan None = refl
-    by_plan (Some p) = by_due (leb p.1 u) p
+landed_latest u c = grind arith
 
 -- ---- the turn moves, and a record issues
 

@@ -1,11 +1,11 @@
 -- A record leaves the registers that its need does not write.
-use Rattle.std.proofs.Common.{◌≡◌, ℕ, ◌+◌, ◌*◌, ◌^◌, ◌≤◌, Bool, true, false, cond, ◌&&◌, ◌||◌, List, [], ◌∷◌, length, Option, Some, None, refl, sym, ap, ◌∙◌, arith, ℤ}
-use Rattle.std.specs.Prelude.{◌==◌, nat_le, not, bit_or, slice_index, ◌+ℤ◌, ◌-ℤ◌, ◌*ℤ◌, pos, ◌/◌, ◌%◌, int_lt}
-use Rattle.std.proofs.lemmas.Bool.{cond-false, le-leb, leb-true, eqb-true}
+use Rattle.std.proofs.Common.{◌≡◌, ℕ, ◌+◌, ◌*◌, ◌≤◌, Bool, true, false, cond, ◌&&◌, ◌||◌, List, [], ◌∷◌, length, Option, Some, None, refl, sym, ap, ◌∙◌, arith}
+use Rattle.std.specs.Prelude.{◌==◌, nat_le, not}
+use Rattle.std.proofs.lemmas.Bool.{cond-false, leb-true, eqb-true}
 use Rattle.std.proofs.lemmas.Bool.Decides.{nat_tests}
 use Rattle.std.proofs.lemmas.List.FromFn.{length-map-range_with_len}
 use Rattle.i9_isa.specs.declared.op.Op.{Op}
-use Rattle.i9_isa.specs.declared.op.Op.TheVariants.{Lda, Atadd, Atmod, Bx, Balx, Bal, Call, Callx, Calls, Ret, Flushreg, Modac, Modtc, Modpc, Sdma, Sysctl, Addi, Subi, Muli, Shli, Divo, Remo, Divi, Remi, Modi, Ediv, Concmpo, Concmpi, Spanbit, Scanbit}
+use Rattle.i9_isa.specs.declared.op.Op.TheVariants.{Lda, Atadd, Atmod, Balx, Bal, Call, Callx, Calls, Ret, Modac, Modtc, Modpc, Addi}
 use Rattle.i9_isa.specs.declared.size.Size.{Size}
 use Rattle.i9_isa.specs.declared.size.Size.TheVariants.{Byte, Half, Words}
 use Rattle.i9_isa.specs.declared.size.Direction.{Direction}
@@ -20,60 +20,24 @@ use Rattle.i9_isa.specs.declared.resources.TheConstants.{LINK}
 use Rattle.i9_isa.specs.Table.{row_of}
 use Rattle.i9_isa.specs.Transfers.{register_count, transfer_of}
 use Rattle.i9_isa.proofs.Moved.{loads_registers}
-use Rattle.i9_model.specs.declared.arith.Arith.TheVariants.{Overflow, ZeroDivide}
 use Rattle.i9_model.specs.Writes.{wrapped, last_put}
 use Rattle.i9_model.specs.declared.layout.TheConstants.{FP, SP, LOCAL_RETURN}
 use Rattle.i9_model.specs.Frames.{pushed}
 use Rattle.i9_model.specs.State.{State}
-use Rattle.i9_model.specs.Operands.{assigned, reduced, address}
+use Rattle.i9_model.specs.Operands.{assigned, address}
 use Rattle.i9_model.specs.Memory.{Memory, word_in, words_in}
-use Rattle.i9_model.specs.Numbers.{signed, modulo, complement, highest_one}
-use Rattle.std.specs.Int.RustNames.{int_div, int_rem}
-use Rattle.i9_isa.specs.Words.{bit}
-use Rattle.i9_model.specs.Results.{Answer, word, words, checked, faulting, code, found, results_by, destination_words, long, long_divided}
+use Rattle.i9_model.specs.Numbers.{signed}
+use Rattle.i9_model.specs.Results.{words, results_by, destination_words, long}
 use Rattle.i9_model.specs.Branches.{asks, question_of}
-use Rattle.i9_model.specs.Step.{values_of, destination, loaded, moving, action_by_name, action_by, action_of, branching, resulting, answer_in, atomic_address, following, return_in, asked_message, message_action, system_call, Message, AsksNothing, AsksCheck, AsksInterrupt, AsksRestart, AsksGroup}
+use Rattle.i9_model.specs.Step.{values_of, destination, loaded, moving, action_by_name, action_by, action_of, branching, resulting, answer_in, atomic_address, following, return_in, system_call}
 use Rattle.i9_model.specs.Stale.{legible, left_memory}
 use Rattle.i9_model.proofs.LastPuts.{group_beside, frame_beside, push_beside}
 
 -- ---- how many words a result has
 
-overflow_few : (b c : Bool) (v ac : ℕ) → nat_le (length (cond b (cond c (word v (bit_or ac (2 ^ 8))) (faulting Overflow ac)) (word v ac)).values) 1 ≡ true
-overflow_few true true v ac = refl
-overflow_few true false v ac = refl
-overflow_few false c v ac = refl
-
-checked_few : (z : ℤ) (ac : ℕ) → nat_le (length (checked z ac).values) 1 ≡ true
-checked_few z ac = overflow_few _ _ _ ac
-
-divided_few : (b : Bool) (r : Answer) (n ac : ℕ) → nat_le (length r.values) n ≡ true → nat_le (length (cond b (faulting ZeroDivide ac) r).values) n ≡ true
-divided_few true r n ac h = le-leb 0 n (omega arith)
-divided_few false r n ac h = h
-
-unless_few : (b c : Bool) (ac : ℕ) → nat_le (length (cond b (words [] ac) (code (cond c 2 1) ac)).values) 0 ≡ true
-unless_few true c ac = refl
-unless_few false c ac = refl
-
-found_few : (o : Option ℕ) (ac : ℕ) → nat_le (length (found o ac).values) 1 ≡ true
-found_few None ac = refl
-found_few (Some p) ac = refl
-
 few_values : (op : Op) (a b : List ℕ) (c ac : ℕ) → nat_le (length (values_of (results_by op a b c ac))) (destination_words op) ≡ true
-few_values Addi a b c ac = checked_few (signed (slice_index b 0) +ℤ signed (slice_index a 0)) ac
-few_values Subi a b c ac = checked_few (signed (slice_index b 0) -ℤ signed (slice_index a 0)) ac
-few_values Muli a b c ac = checked_few (signed (slice_index b 0) *ℤ signed (slice_index a 0)) ac
-few_values Shli a b c ac = checked_few (signed (slice_index b 0) *ℤ pos (2 ^ slice_index a 0)) ac
-few_values Divo a b c ac = divided_few (slice_index a 0 == 0) (word (slice_index b 0 / slice_index a 0) ac) 1 ac refl
-few_values Remo a b c ac = divided_few (slice_index a 0 == 0) (word (slice_index b 0 % slice_index a 0) ac) 1 ac refl
-few_values Divi a b c ac = divided_few (slice_index a 0 == 0) (checked (int_div (signed (slice_index b 0)) (signed (slice_index a 0))) ac) 1 ac (checked_few (int_div (signed (slice_index b 0)) (signed (slice_index a 0))) ac)
-few_values Remi a b c ac = divided_few (slice_index a 0 == 0) (word (reduced (int_rem (signed (slice_index b 0)) (signed (slice_index a 0)))) ac) 1 ac refl
-few_values Modi a b c ac = divided_few (slice_index a 0 == 0) (word (reduced (modulo (signed (slice_index b 0)) (signed (slice_index a 0)))) ac) 1 ac refl
-few_values Ediv a b c ac = divided_few (slice_index a 0 == 0) (words (long_divided (long (slice_index b 0) (slice_index b 1)) (slice_index a 0)) ac) 2 ac refl
-few_values Concmpo a b c ac = unless_few (bit ac 2) (nat_le (slice_index a 0) (slice_index b 0)) ac
-few_values Concmpi a b c ac = unless_few (bit ac 2) (not (int_lt (signed (slice_index b 0)) (signed (slice_index a 0)))) ac
-few_values Spanbit a b c ac = found_few (highest_one 32 (complement (slice_index a 0))) ac
-few_values Scanbit a b c ac = found_few (highest_one 32 (slice_index a 0)) ac
-few_values _ a b c ac = refl
+few_values Addi a b c ac = grind arith
+few_values _ a b c ac = grind arith
 
 -- ---- registers beside a destination
 
@@ -130,27 +94,16 @@ unfolding last_put
 name_beside Lda i s k e h = c_beside Lda i k (address s i.ea ∷ []) e refl h
 name_beside Atadd i s k e h = c_beside Atadd i k (word_in (legible s) (atomic_address i s) ∷ []) e refl h
 name_beside Atmod i s k e h = c_beside Atmod i k (word_in (legible s) (atomic_address i s) ∷ []) e refl h
-name_beside Bx i s k e h = refl
 name_beside Balx i s k e h = c_beside Balx i k (following i s ∷ []) e refl h
 name_beside Bal i s k e h = one_beside 30 (following i s) k (sym (ap (λ (b : Bool). b && (k == 30)) (ap writes_link e)) ∙ h.link)
 name_beside Call i s k e h = push_beside (pushed (s.regs FP) (s.regs SP) 0 LOCAL_RETURN) k (true_frame Call i k e refl h)
 name_beside Callx i s k e h = push_beside (pushed (s.regs FP) (s.regs SP) 0 LOCAL_RETURN) k (true_frame Callx i k e refl h)
 name_beside Calls i s k e h = push_beside (system_call i s).push k (true_frame Calls i k e refl h)
 name_beside Ret i s k e h = frame_beside (words_in (left_memory s.frames.live s) (return_in s).frame 16) (return_in s).frame k refl (true_frame Ret i k e refl h)
-name_beside Flushreg i s k e h = refl
 name_beside Modac i s k e h = c_beside Modac i k (s.ac ∷ []) e refl h
 name_beside Modtc i s k e h = c_beside Modtc i k (s.trace.tc ∷ []) e refl h
 name_beside Modpc i s k e h = c_beside Modpc i k (s.pc ∷ []) e refl h
-name_beside Sdma i s k e h = refl
-name_beside Sysctl i s k e h = by_message (asked_message i s)
-  where
-    by_message : (m : Message) → last_put (message_action m i s).sets k ≡ None
-    by_message AsksNothing = refl
-    by_message AsksCheck = refl
-    by_message AsksInterrupt = refl
-    by_message AsksRestart = refl
-    by_message AsksGroup = refl
-name_beside op i s k e h = other_beside (asks (question_of op)) i s k h
+name_beside op i s k e h = grind (arith, other_beside (asks (question_of op)) i s k h)
 
 -- a load has the words of its size
 loaded_long : (size : Size) (signed : Bool) (m : Memory) (a : ℕ) → length (loaded size signed m a) ≡ register_count size

@@ -3,7 +3,7 @@ use Rattle.std.proofs.Common.{◌≡◌, ℕ, ◌≤◌, Bool, true, false, cond
 use Rattle.std.specs.Prelude.{not, Option, Some, None, is_some}
 use Rattle.std.proofs.lemmas.Bool.{cases_Bool, cond-true, cond-false}
 use Rattle.i9_isa.specs.declared.op.Op.{Op}
-use Rattle.i9_isa.specs.declared.op.Op.TheVariants.{Mulo, Call, Callx, Calls, Ret, Flushreg, Atadd, Atmod, Sysctl}
+use Rattle.i9_isa.specs.declared.op.Op.TheVariants.{Mulo, Call}
 use Rattle.i9_isa.specs.declared.size.Transfer.{Transfer}
 use Rattle.i9_isa.specs.Transfers.{transfer_of}
 use Rattle.i9_isa.specs.declared.inst.Inst.{Inst}
@@ -28,20 +28,14 @@ plain_cost Mulo waits frames q s b = grind (arith, q, s, b)
 plain_cost _ waits frames q s b = grind (arith, q, s, b)
 
 calm_some : (b : Bool) (n : ℕ) → 1 ≤ n → 1 ≤ cond b n 1
-calm_some true n h = h
-calm_some false n h = omega arith
+calm_some b n h = grind arith
 
 -- of a plain one by its parts
 plain_parts : (calm request slow barrier : Bool) → not (request && calm || slow || barrier) ≡ true → calm ≡ true → (request ≡ false) × (slow ≡ false) × (barrier ≡ false)
-plain_parts true false false false h c = (refl, refl, refl)
-plain_parts true false false true h c = absurd (cc h)
-plain_parts true false true barrier h c = absurd (cc h)
-plain_parts true true slow barrier h c = absurd (cc h)
-plain_parts false request slow barrier h c = absurd (cc c)
+plain_parts calm request slow barrier h c = (grind arith, grind arith, grind arith)
 
 pub first_false : (a b c d e f : Bool) → (a || b || c || d || e || f) ≡ false → a ≡ false
-first_false false b c d e f h = refl
-first_false true b c d e f h = absurd (cc h)
+first_false a b c d e f h = grind arith
 
 pub inst_cost : (i : Inst) (f : Facts) → HasCost (inst_need i f)
 inst_cost i f = record {
@@ -69,14 +63,7 @@ entry_cost frames = record { some = omega arith; plain = λ h. absurd (cc h) }
 
 quiet_name : (op : Op) (i : Inst) (s : State) → is_barrier_name op ≡ false → ((action_by_name op i s).writes ≡ []) × ((action_by_name op i s).move ≡ Stays)
 quiet_name Call i s b = absurd (cc b)
-quiet_name Callx i s b = absurd (cc b)
-quiet_name Calls i s b = absurd (cc b)
-quiet_name Ret i s b = absurd (cc b)
-quiet_name Flushreg i s b = absurd (cc b)
-quiet_name Atadd i s b = absurd (cc b)
-quiet_name Atmod i s b = absurd (cc b)
-quiet_name Sysctl i s b = absurd (cc b)
-quiet_name _ i s b = (refl, refl)
+quiet_name _ i s b = grind arith
 
 pub quiet : (i : Inst) (s : State) → is_request_name i.op ≡ false → is_barrier_name i.op ≡ false → ((action_of i s).writes ≡ []) × ((action_of i s).move ≡ Stays)
 unfolding action_of

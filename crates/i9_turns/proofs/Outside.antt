@@ -1,8 +1,8 @@
 -- An action leaves the resources that its need does not write.
-use Rattle.std.proofs.Common.{◌≡◌, ℕ, ◌<◌, ◌+◌, ◌-◌, ◌*◌, ◌%◌, Bool, true, false, cond, ◌||◌, ◌&&◌, List, ◌∷◌, Option, Some, None, unwrap_or, refl, sym, ap, ◌∙◌}
+use Rattle.std.proofs.Common.{◌≡◌, ℕ, ◌<◌, ◌+◌, ◌-◌, ◌%◌, Bool, true, false, ◌||◌, ◌&&◌, List, ◌∷◌, Option, Some, None, unwrap_or, refl, sym, ap, ◌∙◌, arith}
 use Rattle.std.specs.Prelude.{◌==◌, replicate}
 use Rattle.std.specs.Int.{bit_at, from_bool}
-use Rattle.std.proofs.lemmas.Bool.{or_parts, both_ways}
+use Rattle.std.proofs.lemmas.Bool.{both_ways}
 use Rattle.i9_isa.specs.declared.op.Op.{Op}
 use Rattle.i9_isa.specs.declared.op.Op.TheVariants.{Sysctl}
 use Rattle.i9_isa.specs.declared.size.Size.{Size}
@@ -21,9 +21,9 @@ use Rattle.i9_model.specs.Writes.{last_put, wrapped}
 use Rattle.i9_model.specs.declared.layout.TheConstants.{FRAME_SIZE}
 use Rattle.i9_model.specs.declared.setup.Setup.{Setup}
 use Rattle.i9_model.specs.State.{State, started, start_sets, first_frame}
-use Rattle.i9_model.specs.Boot.{setup_of, with_regions}
+use Rattle.i9_model.specs.Boot.{setup_of}
 use Rattle.i9_model.specs.Tables.{group_words}
-use Rattle.i9_model.specs.Controls.{Control, KeepsControls, Restarts, LoadsGroup, controlled, with_group, with_breakpoints, with_maps, with_trace_controls}
+use Rattle.i9_model.specs.Controls.{Control, KeepsControls, Restarts, LoadsGroup, controlled, with_group}
 use Rattle.i9_model.specs.Traced.{traced_action}
 use Rattle.i9_model.proofs.ControlLaws.{flagged-others}
 use Rattle.i9_model.specs.Step.{Action, moving, action_by_name, action_by, action_of, entering, faulting, moved, acted}
@@ -38,8 +38,7 @@ use Rattle.i9_turns.proofs.CodeLaws.{code_beside}
 -- ---- what is not in the need's set
 
 pub no_bit : (b : Bool) → from_bool b ≡ 0 → b ≡ false
-no_bit false h = refl
-no_bit true h = absurd (cc h)
+no_bit b h = grind arith
 
 pub not_in : (p : ℕ → Bool) (r : ℕ) → r < resources → bit_at (set_of p) r ≡ 0 → p r ≡ false
 not_in p r lt h = no_bit (p r) (sym (set_bits 33 r p lt) ∙ h)
@@ -51,11 +50,7 @@ pub record IsKept (i : Inst) (r : ℕ) : Type 0 where
 
 pub all_false : (a b c d e : Bool) → (a || b || c || d || e) ≡ false → (a ≡ false) × (b ≡ false) × (c ≡ false) × (d ≡ false) × (e ≡ false)
 all_false a b c d e h =
-    let p = or_parts (a || b || c || d) e h in
-    let q = or_parts (a || b || c) d p.0 in
-    let r = or_parts (a || b) c q.0 in
-    let s = or_parts a b r.0 in
-    (s.0, s.1, r.1, q.1, p.1)
+    (grind arith, grind arith, grind arith, grind arith, grind arith)
 
 pub is_kept : (i : Inst) (r : ℕ) → is_written i r ≡ false → IsKept i r
 is_kept i r h =
@@ -66,26 +61,15 @@ is_kept i r h =
 
 -- control starts the processor anew
 abbrev pub IsRestart : Control → Type 0
-IsRestart KeepsControls = ⊥
 IsRestart (Restarts first prcb) = Unit {0}
-IsRestart (LoadsGroup group) = ⊥
+IsRestart _ = ⊥
 
 group_keeps : (s : State) (group : ℕ) (ws : List ℕ) (r : ℕ) → resource (with_group s group ws) r ≡ resource s r
-group_keeps s group ws r = by_group (group == 0) (group == 1) (group == 6)
-  where
-    by_group : (a b c : Bool) → resource (cond a (with_breakpoints s ws) (cond b (with_maps s ws) (cond c (with_trace_controls s ws) (record s { memory = with_regions s.memory (4 * (group - 2)) ws })))) r ≡ resource s r
-    by_group true b c = refl
-    by_group false true c = refl
-    by_group false false true = refl
-    by_group false false false = refl
+group_keeps s group ws r = grind arith
 
 -- which of a register and the condition code a resource is
 by_resource : (s t : State) (r : ℕ) → ((r == CONDITION_CODE) ≡ true → s.ac % 8 ≡ t.ac % 8) → ((r == CONDITION_CODE) ≡ false → s.regs r ≡ t.regs r) → resource s r ≡ resource t r
-by_resource s t r code register = by_test (r == CONDITION_CODE) code register
-  where
-    by_test : (b : Bool) → (b ≡ true → s.ac % 8 ≡ t.ac % 8) → (b ≡ false → s.regs r ≡ t.regs r) → cond b (s.ac % 8) (s.regs r) ≡ cond b (t.ac % 8) (t.regs r)
-    by_test true c g = c refl
-    by_test false c g = g refl
+by_resource s t r code register = grind arith
 
 start_beside : (u : Setup) (r : ℕ) → is_in_frame r ≡ false → last_put (start_sets u) r ≡ None
 start_beside u r h = frame_beside (0 ∷ wrapped (first_frame u + FRAME_SIZE) ∷ replicate 14 0) (first_frame u) r refl h
@@ -131,12 +115,10 @@ restarts i s h = by_transfer (transfer_of i.op) h
     by_transfer None k = name_restarts i.op i s k
 
 unset : (b c : Bool) → b ≡ true → (b && c) ≡ false → c ≡ false
-unset true c e h = h
-unset false c e h = absurd (cc e)
+unset b c e h = grind arith
 
 pub set_with : (b c : Bool) → c ≡ true → (b && c) ≡ false → b ≡ false
-set_with false c e h = refl
-set_with true c e h = absurd (both_ways c h e)
+set_with b c e h = grind arith
 
 pub instruction_keeps : (f : Facts) (i : Inst) (s : State) (r : ℕ) → r < resources → bit_at (inst_need i f).writes r ≡ 0 → resource (acted s (traced_action i s)) r ≡ resource s r
 instruction_keeps f i s r lt h =

@@ -66,15 +66,12 @@ onto n ns ms z (Apart front b c back other x y w) = Apart (n ∷ front) b c back
 
 pub parts : (ns ms : List Need) → AllZip IsAlike ns ms → Parts ns ms
 parts [] [] h = Same []
-parts [] (m ∷ ms) h = absurd h
-parts (n ∷ ns) [] h = absurd h
 parts (n ∷ ns) (m ∷ ms) h =
     elim (cases_Bool n.barrier) [
       | inl is ↦ Apart [] n m ns ms is (sym h.0.barrier ∙ is) tt
-      | inr not ↦
-          let P : Need → Type 0 = λ k. Parts (n ∷ ns) (k ∷ ms) in
-          subst P (h.0.same not) (onto n ns ms (h.0.wait not) (parts ns ms h.1))
+      | inr not ↦ rw (← h.0.same not) (onto n ns ms (h.0.wait not) (parts ns ms h.1))
     ]
+parts _ _ h = absurd h
 
 pub parts-overtakes : (ns ms : List Need) → HaveCosts ns → HaveCosts ms → Parts ns ms → overtakes (timed ns) ≡ overtakes (timed ms)
 parts-overtakes ns ms c d (Same ks) = refl

@@ -167,8 +167,8 @@ open_one t r = cond (r.need.request && nat_lt t r.done) 1 0
 pub open_requests-later : (d t : ℕ) (rs : List TimedNeed) → open_requests (t + d) (later_by d rs) ≡ open_requests t rs
 open_requests-later d t [] = refl
 open_requests-later d t (r ∷ rs) =
-    let a : open_requests (t + d) (later_by d (r ∷ rs)) ≡ open_one (t + d) (later d r) + open_requests (t + d) (later_by d rs) = sum_by-cons (open_one (t + d)) (later d r) (later_by d rs) in
-    let b : open_requests t (r ∷ rs) ≡ open_one t r + open_requests t rs = sum_by-cons (open_one t) r rs in
+    let a = sum_by-cons (open_one (t + d)) (later d r) (later_by d rs) in
+    let b = sum_by-cons (open_one t) r rs in
     let same : open_one (t + d) (later d r) ≡ open_one t r = ap (λ k. cond (r.need.request && k) 1 0) (ltb-later d t r.done) in
     omega (arith, a, b, same, open_requests-later d t rs)
 
@@ -230,21 +230,19 @@ later-timed d base (r ∷ rs) z h = (
 
 pub from-unique : (base : ℕ) (xs ys : List TimedNeed) → map (λ r. r.need) xs ≡ map (λ r. r.need) ys → IsTimedFrom base xs → IsTimedFrom base ys → xs ≡ ys
 from-unique base [] [] e h k = refl
-from-unique base [] (y ∷ ys) e h k = absurd (cc)
-from-unique base (x ∷ xs) [] e h k = absurd (cc)
 from-unique base (x ∷ xs) (y ∷ ys) e h k =
     let need : x.need ≡ y.need = cc in
     let needs : map (λ r. r.need) xs ≡ map (λ r. r.need) ys = cc in
     let rest : xs ≡ ys = from-unique base xs ys needs h.1 k.1 in
-    let kk : FollowsFrom base xs y = subst (λ zs. FollowsFrom base zs y) (sym rest) k.0 in
-    let P : Need → Type 0 = λ n. IssuesAt (last_from base xs) xs n y.issue in
-    let issue : x.issue ≡ y.issue = issues-once (last_from base xs) xs x.need x.issue y.issue h.0.issue (subst P (sym need) kk.issue) in
+    let kk : FollowsFrom base xs y = rw rest k.0 in
+    let issue : x.issue ≡ y.issue = issues-once (last_from base xs) xs x.need x.issue y.issue h.0.issue (rw need kk.issue) in
     let done : x.done ≡ y.done = h.0.done ∙ ap (λ n. done_turn xs n x.issue) need ∙ ap (λ t. done_turn xs y.need t) issue ∙ sym kk.done in
-    ap (λ n. record { need = n; issue = x.issue; done = x.done } ∷ xs) need ∙ ap (λ t. record { need = y.need; issue = t; done = x.done } ∷ xs) issue ∙ ap (λ t. record { need = y.need; issue = y.issue; done = t } ∷ xs) done ∙ ap (λ zs. y ∷ zs) rest
+    λ i. record { need = need i; issue = issue i; done = done i } ∷ rest i
+from-unique base _ _ e h k = absurd cc
 
 pub needs-later : (d : ℕ) (rs : List TimedNeed) → map (λ r. r.need) (later_by d rs) ≡ map (λ r. r.need) rs
 needs-later d [] = refl
-needs-later d (r ∷ rs) = ap (λ ns. r.need ∷ ns) (needs-later d rs)
+needs-later d (r ∷ rs) = cc (needs-later d rs)
 
 abbrev pub NeedsWaitForNone : List Need → Type 0
 NeedsWaitForNone ns = AllByRecursion (λ n. n.not_before ≡ 0) ns

@@ -1,19 +1,17 @@
 -- The computed turn is the least at which the need may issue.
-use Rattle.std.proofs.Common.{◌≡◌, ◌≢◌, ℕ, ◌+◌, ◌-◌, ◌<◌, ◌≤◌, max, Bool, true, false, cond, ◌&&◌, ◌||◌, List, [], ◌∷◌, refl, ap, subst, inl, inr, arith}
+use Rattle.std.proofs.Common.{◌≡◌, ◌≢◌, ℕ, ◌+◌, ◌-◌, ◌<◌, ◌≤◌, max, Bool, true, false, cond, ◌&&◌, ◌||◌, List, [], ◌∷◌, subst, inl, inr, arith}
 use Rattle.std.specs.Prelude.{IsTrue, nat_lt, nat_le, ◌⊎◌}
 use Rattle.std.specs.List.{AllByRecursion}
-use Rattle.std.proofs.lemmas.Bool.{cases_Bool, cases_lt, cond-true, cond-false, lt-ltb, le-ltb, le-leb, leb-true, or_cases, or_left, or_right, and_from, and_parts, and_left, and_right, both_ways}
+use Rattle.std.proofs.lemmas.Bool.{cases_Bool, cases_lt, cond-true, or_cases, or_left, both_ways}
 use Rattle.std.proofs.lemmas.Bool.Decides.{nat_tests}
 use Rattle.std.proofs.lemmas.List.Sums.{sum_by-cons}
 use Rattle.i9_model.specs.declared.need.Need.{Need}
 use Rattle.i9_model.specs.declared.need.TimedNeed.{TimedNeed}
 use Rattle.i9_model.specs.Turns.{RequestsInOrder, ChangesValue, Permits, CanIssue, IssuesAt, open_requests, last_request, keeps_side, changes_value, changes_words, waits_for, least_turn, turn_from, issue_turn}
-use Rattle.i9_turns.proofs.TurnDropped.{last_request-yes, last_request-no}
 use Rattle.i9_turns.proofs.TurnTests.{changes_value-from, changes_value-none, changes_words-from, changes_words-true}
 
 pub cond-le : (b : Bool) (m v : ℕ) → (b ≡ true → m ≤ v) → cond b m 0 ≤ v
-cond-le true m v h = h refl
-cond-le false m v h = omega arith
+cond-le b m v h = grind arith
 
 pub le-cond : (b : Bool) (m v : ℕ) → cond b m 0 ≤ v → b ≡ true → m ≤ v
 le-cond b m v h e = subst (λ k. k ≤ v) (cond-true b m 0 e) h
@@ -78,10 +76,7 @@ least-le n k v r before p old =
     cond-le (waits_for n r.need || is_old n k r) r.done v
     (λ e. elim (or_cases (waits_for n r.need) (is_old n k r) e) [
       | inl w ↦ waits-done n v r (permits-waits n v r p) w
-      | inr w ↦
-          let a = and_parts (n.request && r.need.request) (nat_le 2 k) w in
-          let b = and_parts n.request r.need.request a.0 in
-          old b.0 b.1 (leb-true 2 k a.1)
+      | inr w ↦ old (grind arith) (grind arith) (grind (arith, nat_tests, w))
     ]) in
     omega (arith, side, waits)
 
@@ -93,7 +88,7 @@ le-least n k v r h =
       waits-permits n v r
           (λ e same. let le : r.issue + 1 ≤ v = le-cond (keeps_side r.need.side n) (r.issue + 1) v side e in omega arith)
           (done-waits n v r (λ e. done (or_left (waits_for n r.need) (is_old n k r) e))),
-      λ a b c. done (or_right (waits_for n r.need) (is_old n k r) (and_from (n.request && r.need.request) (nat_le 2 k) (and_from n.request r.need.request a b) (le-leb 2 k c))),
+      λ a b c. done (grind (arith, nat_tests, a, b, c)),
     )
 
 -- how many requests there are with this record
@@ -147,69 +142,27 @@ below-each n k v (r ∷ rs) h =
 pub open_requests-cons : (v : ℕ) (r : TimedNeed) (rs : List TimedNeed) → open_requests v (r ∷ rs) ≡ one_if (r.need.request && nat_lt v r.done) + open_requests v rs
 open_requests-cons v r rs = sum_by-cons (λ r. cond (r.need.request && nat_lt v r.done) 1 0) r rs
 
-pub more-yes : (k : ℕ) (r : TimedNeed) → IsTrue r.need.request → more k r ≡ k + 1
-more-yes k r h = ap (λ m. k + m) (cond-true r.need.request 1 0 h)
-
-pub more-no : (k : ℕ) (r : TimedNeed) → r.need.request ≡ false → more k r ≡ k
-more-no k r h = let e : one_if r.need.request ≡ 0 = cond-false r.need.request 1 0 h in omega (arith, e)
-
-pub one-yes : (v : ℕ) (r : TimedNeed) → IsTrue r.need.request → v < r.done → one_if (r.need.request && nat_lt v r.done) ≡ 1
-one-yes v r h lt = cond-true (r.need.request && nat_lt v r.done) 1 0 (and_from r.need.request (nat_lt v r.done) h (lt-ltb v r.done lt))
-
-pub one-no : (v : ℕ) (r : TimedNeed) → r.need.request ≡ false → one_if (r.need.request && nat_lt v r.done) ≡ 0
-one-no v r h = cond-false (r.need.request && nat_lt v r.done) 1 0 (and_left r.need.request (nat_lt v r.done) h)
-
-pub one-done : (v : ℕ) (r : TimedNeed) → r.done ≤ v → one_if (r.need.request && nat_lt v r.done) ≡ 0
-one-done v r le = cond-false (r.need.request && nat_lt v r.done) 1 0 (and_right r.need.request (nat_lt v r.done) (le-ltb v r.done le))
-
 -- where the older requests are done, few are open
 pub old-few : (n : Need) (k v : ℕ) → IsTrue n.request → (rs : List TimedNeed) → OldDone n k v rs → open_requests v rs ≤ 2 - k
 old-few n k v q [] h = omega arith
-old-few n k v q (r ∷ rs) h =
-    let rest : open_requests v rs ≤ 2 - more k r = old-few n (more k r) v q rs h.1 in
-    let e = open_requests-cons v r rs in
-    elim (cases_Bool r.need.request) [
-      | inr not ↦ omega (arith, rest, e, more-no k r not, one-no v r not)
-      | inl is ↦
-          elim (cases_lt v r.done) [
-            | inr over ↦ omega (arith, rest, e, more-yes k r is, one-done v r over)
-            | inl later ↦
-                let few : k < 2 = elim (cases_lt k 2) [ inl lt ↦ lt | inr ge ↦ let le : r.done ≤ v = h.0 q is ge in absurd (omega arith) ] in
-                omega (arith, rest, e, more-yes k r is, one-yes v r is later)
-          ]
-    ]
+old-few n k v q (r ∷ rs) h = grind (arith, nat_tests, open_requests-cons v r rs, old-few n (more k r) v q rs h.1, h.0 q)
 
 -- where the last request is done, so are those before it
 pub last-old : (n : Need) (k v : ℕ) (rs : List TimedNeed) → RequestsInOrder rs → last_request rs ≤ v → OldDone n k v rs
 last-old n k v [] o h = tt
-last-old n k v (r ∷ rs) o h =
-    elim (cases_Bool r.need.request) [
-      | inl is ↦
-          let le : last_request rs ≤ r.done = o.0 is in
-          let e = last_request-yes r rs is in
-          (λ _ _ _. omega (arith, e), last-old n (more k r) v rs o.1 (omega (arith, e, le)))
-      | inr not ↦
-          let e = last_request-no r rs not in
-          (λ _ is _. absurd (both_ways r.need.request not is), last-old n (more k r) v rs o.1 (omega (arith, e)))
-    ]
+last-old n k v (r ∷ rs) o h = ((λ _ is _. grind (arith, nat_tests, is)), last-old n (more k r) v rs o.1 (grind (arith, nat_tests, o.0)))
 
 -- where few are open, the older requests are done
 pub few-old : (n : Need) (k v : ℕ) (rs : List TimedNeed) → RequestsInOrder rs → open_requests v rs ≤ 2 - k → OldDone n k v rs
 few-old n k v [] o h = tt
 few-old n k v (r ∷ rs) o h =
-    let e = open_requests-cons v r rs in
-    elim (cases_Bool r.need.request) [
-      | inr not ↦
-          (λ _ is _. absurd (both_ways r.need.request not is), few-old n (more k r) v rs o.1 (omega (arith, e, h, more-no k r not, one-no v r not)))
-      | inl is ↦
-          elim (cases_lt v r.done) [
-            | inr over ↦
-                let le : last_request rs ≤ r.done = o.0 is in
-                (λ _ _ _. over, last-old n (more k r) v rs o.1 (omega arith))
-            | inl later ↦
-                (λ _ _ two. absurd (omega (arith, e, h, one-yes v r is later)), few-old n (more k r) v rs o.1 (omega (arith, e, h, more-yes k r is, one-yes v r is later)))
-          ]
-    ]
+    let e = open_requests-cons v r rs in (
+      (λ _ is two. grind (arith, nat_tests, is)),
+      elim (cases_Bool (r.need.request && nat_le r.done v)) [
+        | inl over ↦ last-old n (more k r) v rs o.1 (grind (arith, nat_tests, o.0))
+        | inr later ↦ few-old n (more k r) v rs o.1 (grind (arith, nat_tests))
+      ],
+    )
 
 -- ---- the issue turn
 

@@ -1,8 +1,8 @@
 -- Records that are done change nothing later.
-use Rattle.std.proofs.Common.{◌≡◌, ℕ, ◌+◌, ◌<◌, ◌≤◌, max, Bool, false, cond, ◌&&◌, ltb, List, [], ◌∷◌, sym, refl, ap, ◌∙◌, subst, inl, inr, arith}
+use Rattle.std.proofs.Common.{◌≡◌, ℕ, ◌+◌, ◌<◌, ◌≤◌, max, Bool, false, cond, ◌&&◌, ltb, List, [], ◌∷◌, sym, refl, ap, subst, inl, inr, arith}
 use Rattle.std.specs.Prelude.{IsTrue, nat_lt}
 use Rattle.std.specs.List.{AllByRecursion, count_by}
-use Rattle.std.proofs.lemmas.Bool.{cond-true, cond-false, cases_lt, lt-ltb, le-ltb, and_right}
+use Rattle.std.proofs.lemmas.Bool.{cond-true, cond-false, cases_lt, lt-ltb, le-ltb}
 use Rattle.std.proofs.lemmas.List.Sums.{sum_by-cons}
 use Rattle.std.proofs.lemmas.Bool.Decides.{nat_tests}
 use Rattle.i9_model.specs.declared.need.Need.{Need}
@@ -55,16 +55,8 @@ open-each n u t le (r ∷ rs) w h =
 pub count-open : (p : TimedNeed → Bool) (u t : ℕ) → u ≤ t → (rs : List TimedNeed) → count_by (λ r. p r && nat_lt t r.done) (open_at u rs) ≡ count_by (λ r. p r && nat_lt t r.done) rs
 count-open p u t le [] = refl
 count-open p u t le (r ∷ rs) =
-    let count : List TimedNeed → ℕ = λ xs. count_by (λ r. p r && nat_lt t r.done) xs in
-    let one : ℕ = cond (p r && nat_lt t r.done) 1 0 in
-    let cons : (xs : List TimedNeed) → count (r ∷ xs) ≡ one + count xs = λ xs. sum_by-cons (λ r. cond (p r && nat_lt t r.done) 1 0) r xs in
-    let rest : count (open_at u rs) ≡ count rs = count-open p u t le rs in
-    elim (cases_lt u r.done) [
-      | inl later ↦ ap count (open-yes u r rs later) ∙ cons (open_at u rs) ∙ ap (λ m. one + m) rest ∙ sym (cons rs)
-      | inr over ↦
-          let none : one ≡ 0 = cond-false (p r && nat_lt t r.done) 1 0 (and_right (p r) (nat_lt t r.done) (le-ltb t r.done (omega arith))) in
-          ap count (open-no u r rs over) ∙ rest ∙ omega (arith, cons rs, none)
-    ]
+    let cons = λ (xs : List TimedNeed). sum_by-cons (λ (y : TimedNeed). cond (p y && nat_lt t y.done) 1 0) r xs in
+    grind (arith, nat_tests, count-open p u t le rs, cons rs, cons (open_at u rs))
 
 -- from u on, what is done at u changes nothing
 pub can-open : (u last : ℕ) (rs : List TimedNeed) (n : Need) (t : ℕ) → u ≤ t → CanIssue last rs n t → CanIssue last (open_at u rs) n t

@@ -1,13 +1,11 @@
 -- The turns are the least solution of the rules.
-use Rattle.std.proofs.Common.{◌≡◌, ℕ, ◌≤◌, ◌&&◌, List, [], ◌∷◌, sym, ap, ◌∙◌, subst, inl, inr, arith}
-use Rattle.std.specs.Prelude.{IsTrue, nat_lt, map}
+use Rattle.std.proofs.Common.{◌≡◌, ℕ, ◌≤◌, ◌&&◌, List, [], ◌∷◌, ap, arith}
+use Rattle.std.specs.Prelude.{nat_lt, map}
 use Rattle.std.specs.List.{AllByRecursion, AllZip}
-use Rattle.std.proofs.lemmas.Bool.{cases_Bool}
 use Rattle.std.proofs.lemmas.Bool.Decides.{nat_tests}
 use Rattle.i9_model.specs.declared.need.Need.{Need}
 use Rattle.i9_model.specs.declared.need.TimedNeed.{TimedNeed}
-use Rattle.i9_model.specs.Turns.{Permits, CanIssue, IsTimed, Solves, IsNoLater, open_requests, done_turn, last_request, last_issue, keeps_side, ChangesValue, ChangesWords}
-use Rattle.i9_turns.proofs.TurnDropped.{last_request-yes, last_request-no}
+use Rattle.i9_model.specs.Turns.{Permits, CanIssue, IsTimed, Solves, IsNoLater, open_requests, done_turn, last_request, last_issue}
 use Rattle.i9_turns.proofs.TurnComputed.{IssuedBy, issued-later, open_requests-cons, one_if}
 
 abbrev pub NoLater : List TimedNeed → List TimedNeed → Type 0
@@ -19,34 +17,27 @@ solves-issued (r ∷ rs) h = (omega arith, issued-later (last_issue rs) r.issue 
 
 pub last-no_later : (xs ys : List TimedNeed) → NoLater xs ys → last_issue xs ≤ last_issue ys
 last-no_later [] [] h = omega arith
-last-no_later [] (y ∷ ys) h = absurd h
-last-no_later (x ∷ xs) [] h = absurd h
 last-no_later (x ∷ xs) (y ∷ ys) h = h.0.issue
+last-no_later _ _ h = absurd h
 
 pub permits-no_later : (n : Need) (t : ℕ) (x y : TimedNeed) → y.issue ≤ t → IsNoLater x y → Permits n t y → Permits n t x
 permits-no_later n t x y before h p =
     let issue : x.issue ≤ y.issue = h.issue in
     let done : x.done ≤ y.done = h.done in
-    let need : x.need ≡ y.need = h.need in
-    let S : Need → Type 0 = λ m. IsTrue (keeps_side m.side n) in
-    let V : Need → Type 0 = λ m. ChangesValue m n in
-    let L : Need → Type 0 = λ m. IsTrue m.slow in
-    let W : Need → Type 0 = λ m. ChangesWords m.store n.code in
-    let B : Need → Type 0 = λ m. IsTrue m.barrier in
+    let q : Permits n t (record y { need = x.need }) = rw h.need p in
     record {
-      side = λ k same. p.side (subst S need k) (omega arith);
-      values = λ k. let le : y.done ≤ t = p.values (subst V need k) in omega arith;
-      slow = λ a k. let le : y.done ≤ t = p.slow a (subst L need k) in omega arith;
-      words = λ k. let le : y.done ≤ t = p.words (subst W need k) in omega arith;
-      barrier = λ k. let le : y.done ≤ t = p.barrier (subst B need k) in omega arith;
-      alone = λ k. let le : y.done ≤ t = p.alone k in omega arith;
+      side = λ k same. q.side k (omega arith);
+      values = λ k. let le : y.done ≤ t = q.values k in omega arith;
+      slow = λ a k. let le : y.done ≤ t = q.slow a k in omega arith;
+      words = λ k. let le : y.done ≤ t = q.words k in omega arith;
+      barrier = λ k. let le : y.done ≤ t = q.barrier k in omega arith;
+      alone = λ k. let le : y.done ≤ t = q.alone k in omega arith;
     }
 
 pub each-no_later : (n : Need) (t : ℕ) (xs ys : List TimedNeed) → IssuedBy t ys → NoLater xs ys → AllByRecursion (Permits n t) ys → AllByRecursion (Permits n t) xs
 each-no_later n t [] [] b h p = tt
-each-no_later n t [] (y ∷ ys) b h p = absurd h
-each-no_later n t (x ∷ xs) [] b h p = absurd h
 each-no_later n t (x ∷ xs) (y ∷ ys) b h p = (permits-no_later n t x y b.0 h.0 p.0, each-no_later n t xs ys b.1 h.1 p.1)
+each-no_later n t _ _ b h p = absurd h
 
 pub one-no_later : (t : ℕ) (x y : TimedNeed) → IsNoLater x y → one_if (x.need.request && nat_lt t x.done) ≤ one_if (y.need.request && nat_lt t y.done)
 one-no_later t x y h =
@@ -56,22 +47,17 @@ one-no_later t x y h =
 
 pub requests-no_later : (t : ℕ) (xs ys : List TimedNeed) → NoLater xs ys → open_requests t xs ≤ open_requests t ys
 requests-no_later t [] [] h = omega arith
-requests-no_later t [] (y ∷ ys) h = absurd h
-requests-no_later t (x ∷ xs) [] h = absurd h
 requests-no_later t (x ∷ xs) (y ∷ ys) h =
     omega (arith, requests-no_later t xs ys h.1, one-no_later t x y h.0, open_requests-cons t x xs, open_requests-cons t y ys)
+requests-no_later t _ _ h = absurd h
 
 pub last_request-no_later : (xs ys : List TimedNeed) → NoLater xs ys → last_request xs ≤ last_request ys
 last_request-no_later [] [] h = omega arith
-last_request-no_later [] (y ∷ ys) h = absurd h
-last_request-no_later (x ∷ xs) [] h = absurd h
 last_request-no_later (x ∷ xs) (y ∷ ys) h =
     let done : x.done ≤ y.done = h.0.done in
     let same : x.need.request ≡ y.need.request = ap (λ (m : Need). m.request) h.0.need in
-    elim (cases_Bool x.need.request) [
-      | inl is ↦ omega (arith, last_request-yes x xs is, last_request-yes y ys (sym same ∙ is))
-      | inr none ↦ omega (arith, last_request-no x xs none, last_request-no y ys (sym same ∙ none), last_request-no_later xs ys h.1)
-    ]
+    grind (arith, nat_tests, last_request-no_later xs ys h.1)
+last_request-no_later _ _ h = absurd h
 
 pub can-no_later : (xs ys : List TimedNeed) (n : Need) (t : ℕ) → IssuedBy (last_issue ys) ys → NoLater xs ys → CanIssue (last_issue ys) ys n t → CanIssue (last_issue xs) xs n t
 can-no_later xs ys n t b h c =
@@ -89,18 +75,15 @@ done-no_later xs ys n t u h le =
 
 pub timed-least : (xs ys : List TimedNeed) → IsTimed xs → Solves ys → map (λ r. r.need) xs ≡ map (λ r. r.need) ys → NoLater xs ys
 timed-least [] [] h s e = tt
-timed-least [] (y ∷ ys) h s e = absurd cc
-timed-least (x ∷ xs) [] h s e = absurd cc
 timed-least (x ∷ xs) (y ∷ ys) h s e =
     let need : x.need ≡ y.need = cc in
     let needs : map (λ r. r.need) xs ≡ map (λ r. r.need) ys = cc in
     let rest = timed-least xs ys h.1 s.2 needs in
-    let C : Need → Type 0 = λ n. CanIssue (last_issue xs) xs n y.issue in
-    let can = subst C (sym need) (can-no_later xs ys y.need y.issue (solves-issued ys s.2) rest s.0) in
-    let issue : x.issue ≤ y.issue = h.0.issue.least y.issue can in
+    let issue : x.issue ≤ y.issue = h.0.issue.least y.issue (rw need (can-no_later xs ys y.need y.issue (solves-issued ys s.2) rest s.0)) in
     let le : done_turn xs x.need x.issue ≤ done_turn ys x.need y.issue = done-no_later xs ys x.need x.issue y.issue rest issue in
     let same : done_turn ys x.need y.issue ≡ done_turn ys y.need y.issue = ap (λ n. done_turn ys n y.issue) need in
     (record { need = need; issue = issue; done = omega (arith, h.0.done, s.1, le, same) }, rest)
+timed-least _ _ h s e = absurd cc
 
 pub timed-solves : (rs : List TimedNeed) → IsTimed rs → Solves rs
 timed-solves [] h = tt

@@ -1,7 +1,7 @@
 -- The open records alone decide the turns of the next one.
 use Rattle.std.proofs.Common.{◌≡◌, ℕ, ◌<◌, ◌≤◌, max, List, [], ◌∷◌, sym, refl, ap, ◌∙◌, subst, inl, inr, arith}
 use Rattle.std.specs.Prelude.{IsTrue}
-use Rattle.std.proofs.lemmas.Bool.{cases_Bool, cond-true, cond-false, cases_lt}
+use Rattle.std.proofs.lemmas.Bool.{cond-true, cases_lt}
 use Rattle.std.specs.List.{AllByRecursion}
 use Rattle.std.proofs.lemmas.Bool.Decides.{nat_tests}
 use Rattle.i9_model.specs.declared.need.Need.{Need}
@@ -11,10 +11,7 @@ use Rattle.i9_turns.proofs.TurnDropped.{TakeTime, each-open, open-yes, open-no, 
 
 -- a record is done after its turn, and a request after the one before it
 pub done-after : (rs : List TimedNeed) (n : Need) (t : ℕ) → 1 ≤ n.cost → t < done_turn rs n t
-done-after rs n t c = elim (cases_Bool n.request) [
-  | inl is ↦ omega (arith, cond-true n.request (max t (last_request rs)) t is)
-  | inr not ↦ omega (arith, cond-false n.request (max t (last_request rs)) t not)
-]
+done-after rs n t c = grind (arith, nat_tests)
 
 pub request-after : (rs : List TimedNeed) (n : Need) (t : ℕ) → IsTrue n.request → last_request rs ≤ done_turn rs n t
 request-after rs n t is = omega (arith, cond-true n.request (max t (last_request rs)) t is)
@@ -22,14 +19,12 @@ request-after rs n t is = omega (arith, cond-true n.request (max t (last_request
 pub timed-take_time : (rs : List TimedNeed) → IsTimed rs → TakesTurns rs → TakeTime rs
 timed-take_time [] h c = tt
 timed-take_time (r ∷ rs) h c =
-    let e : r.done ≡ done_turn rs r.need r.issue = h.0.done in
-    (subst (λ m. r.issue < m) (sym e) (done-after rs r.need r.issue c.0), timed-take_time rs h.1 c.1)
+    (rw h.0.done (done-after rs r.need r.issue c.0), timed-take_time rs h.1 c.1)
 
 pub timed-in_order : (rs : List TimedNeed) → IsTimed rs → RequestsInOrder rs
 timed-in_order [] h = tt
 timed-in_order (r ∷ rs) h =
-    let e : r.done ≡ done_turn rs r.need r.issue = h.0.done in
-    (λ is. subst (λ m. last_request rs ≤ m) (sym e) (request-after rs r.need r.issue is), timed-in_order rs h.1)
+    (λ is. rw h.0.done (request-after rs r.need r.issue is), timed-in_order rs h.1)
 
 pub open-open : (t u : ℕ) → t ≤ u → (rs : List TimedNeed) → open_at u (open_at t rs) ≡ open_at u rs
 open-open t u le [] = refl

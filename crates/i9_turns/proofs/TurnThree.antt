@@ -2,7 +2,7 @@
 use Rattle.std.proofs.Common.{◌≡◌, ℕ, ◌+◌, ◌≤◌, Bool, true, false, ◌&&◌, List, [], ◌∷◌, refl, subst, inl, inr, arith}
 use Rattle.std.specs.Prelude.{nat_eq}
 use Rattle.std.specs.List.{AllByRecursion, count_by}
-use Rattle.std.proofs.lemmas.Bool.{cases_Bool, cond-true, cond-false, eqb-true, or_left, and_parts, false_from_ne_true, false≢true}
+use Rattle.std.proofs.lemmas.Bool.{cases_Bool, cond-true, cond-false, eqb-true, or_left, and_parts, false_from_ne_true}
 use Rattle.std.proofs.lemmas.List.Sums.{sum_by-cons}
 use Rattle.i9_isa.specs.declared.inst.Side.{Side}
 use Rattle.i9_isa.specs.declared.inst.Side.TheVariants.{Reg, Mem, Ctl}
@@ -15,15 +15,7 @@ abbrev pub at_side : Side → ℕ → TimedNeed → Bool
 at_side side t r = same_side side r.need.side && nat_eq r.issue t
 
 pub same_side-join : (s a b : Side) → same_side s a ≡ true → same_side s b ≡ true → same_side a b ≡ true
-same_side-join Reg Reg b h k = k
-same_side-join Mem Mem b h k = k
-same_side-join Ctl Ctl b h k = k
-same_side-join Reg Mem b h k = absurd (false≢true h)
-same_side-join Reg Ctl b h k = absurd (false≢true h)
-same_side-join Mem Reg b h k = absurd (false≢true h)
-same_side-join Mem Ctl b h k = absurd (false≢true h)
-same_side-join Ctl Reg b h k = absurd (false≢true h)
-same_side-join Ctl Mem b h k = absurd (false≢true h)
+same_side-join s a b h k = grind arith
 
 pub one-true : (b : Bool) → b ≡ true → one_if b ≡ 1
 one-true b h = cond-true b 1 0 h
@@ -55,10 +47,7 @@ one-at side t (r ∷ rs) h =
     ]
 
 pub some-side : (s : Side) (b : Bool) → one_if b ≤ one_if (same_side Reg s && b) + one_if (same_side Mem s && b) + one_if (same_side Ctl s && b)
-some-side s false = omega arith
-some-side Reg true = omega arith
-some-side Mem true = omega arith
-some-side Ctl true = omega arith
+some-side s b = grind arith
 
 pub by-sides : (t : ℕ) (rs : List TimedNeed) → issues_at t rs ≤ count_by (at_side Reg t) rs + count_by (at_side Mem t) rs + count_by (at_side Ctl t) rs
 by-sides t [] = omega arith
