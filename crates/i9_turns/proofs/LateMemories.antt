@@ -1,6 +1,6 @@
 -- Memory that is written late.
 use Rattle.std.proofs.Common.{◌≡◌, ℕ, ◌<◌, ◌≤◌, true, false, leb, List, [], ◌∷◌, ◌++◌, refl, sym, ap, ◌∙◌, inl, inr, arith, append_assoc, append-nil}
-use Rattle.std.proofs.lemmas.Bool.{cases_Bool, cases_lt, cond-true, cond-false, lt-ltb, le-ltb, le-leb, lt-leb, and_from, and_left, and_right}
+use Rattle.std.proofs.lemmas.Bool.{cases_Bool, cases_lt, cond-true, cond-false, le-ltb, le-leb, lt-leb, and_right}
 use Rattle.std.proofs.lemmas.Bool.Decides.{nat_tests}
 use Rattle.i9_model.specs.Memory.{stored}
 use Rattle.i9_model.proofs.Stored.{stored-append, stored-none}
@@ -57,53 +57,25 @@ acted-still m t u (x ∷ xs) le h = grind (arith, nat_tests, h.0, acted-still m 
 Moves : (ℕ → ℕ) → ℕ → ℕ → List Late → Type 0
 Moves m t u xs = acted_memory m u xs ≡ stored (acted_memory m t xs) (due_puts u (waiting t xs))
 
--- a record that doesn't wait, after records none of which wait
-moves-after-done : (m : ℕ → ℕ) (t u : ℕ) (x : Late) (xs : List Late) → t ≤ u → is_waiting t x ≡ false → is_waiting u x ≡ false → RequestsDone t xs → Moves m t u (x ∷ xs)
-unfolding Moves
-moves-after-done m t u x xs le nt nu h =
-    acted-no m u x xs nu
-    ∙ ap (λ n. stored n x.puts) (acted-still m t u xs le h)
-    ∙ sym (acted-no m t x xs nt)
-    ∙ sym (stored-none (acted_memory m t (x ∷ xs)))
-    ∙ ap (λ ws. stored (acted_memory m t (x ∷ xs)) (due_puts u ws)) (sym (waiting-no t x xs nt ∙ none-wait t xs h))
-
-moves-request : (m : ℕ → ℕ) (t u : ℕ) (x : Late) (xs : List Late) → t ≤ u → x.timed.need.request ≡ true → RequestsDone x.timed.done xs → Moves m t u xs → Moves m t u (x ∷ xs)
-unfolding Moves
-moves-request m t u x xs le q order before =
-    elim (cases_lt t x.timed.done) [
-      | inr done ↦ moves-after-done m t u x xs le (waits-not t x done) (waits-not u x (omega arith)) (requests-later x.timed.done t xs done order)
-      | inl now ↦
-          let w = and_from _ _ q (lt-ltb t x.timed.done now) in
-          let same = acted-yes m t x xs w in
-          let list = waiting-yes t x xs w in
-          elim (cases_lt u x.timed.done) [
-            | inl waits ↦
-                acted-yes m u x xs (and_from _ _ q (lt-ltb u x.timed.done waits)) ∙ before
-                ∙ ap (stored (acted_memory m t xs)) (sym (ap (due_puts u) list ∙ due-not-last u (waiting t xs) (wait_of x) waits))
-                ∙ ap (λ n. stored n (due_puts u (waiting t (x ∷ xs)))) (sym same)
-            | inr over ↦
-                acted-no m u x xs (waits-not u x over) ∙ ap (λ n. stored n x.puts) before
-                ∙ sym (stored-append (acted_memory m t xs) (due_puts u (waiting t xs)) x.puts)
-                ∙ ap (stored (acted_memory m t xs)) (sym (ap (due_puts u) list ∙ due-last u (waiting t xs) (wait_of x) over))
-                ∙ ap (λ n. stored n (due_puts u (waiting t (x ∷ xs)))) (sym same)
-          ]
-    ]
-
-moves-plain : (m : ℕ → ℕ) (t u : ℕ) (x : Late) (xs : List Late) → x.timed.need.request ≡ false → x.puts ≡ [] → Moves m t u xs → Moves m t u (x ∷ xs)
-unfolding Moves
-moves-plain m t u x xs n e before =
-    let step : (v : ℕ) → acted_memory m v (x ∷ xs) ≡ acted_memory m v xs = λ v. acted-no m v x xs (and_left _ _ n) ∙ ap (stored (acted_memory m v xs)) e ∙ stored-none (acted_memory m v xs) in
-    step u ∙ before ∙ ap (λ ws. stored (acted_memory m t xs) (due_puts u ws)) (sym (waiting-no t x xs (and_left _ _ n))) ∙ ap (λ n. stored n (due_puts u (waiting t (x ∷ xs)))) (sym (step t))
-
 moves : (m : ℕ → ℕ) (t u : ℕ) (xs : List Late) → t ≤ u → IssuedBy t xs → IsOrderly xs → Moves m t u xs
 unfolding Moves
 moves m t u [] le i o = sym (stored-none m)
 moves m t u (x ∷ xs) le i o =
+    let before = moves m t u xs le i.1 o.1 in
+    let old = acted_memory m t xs in
+    let last = due-append u (waiting t xs) (wait_of x ∷ []) in
+    let both = stored-append old (due_puts u (waiting t xs)) x.puts in
+    let still : RequestsDone t xs → (waiting t xs ≡ []) × (acted_memory m u xs ≡ old) = λ r. (none-wait t xs r, acted-still m t u xs le r) in
+    let ends = append-nil x.puts in
+    let none = append-nil (due_puts u (waiting t xs)) in
     elim (cases_Bool x.timed.need.request) [
-      | inl q ↦ moves-request m t u x xs le q (o.0.requests q) (moves m t u xs le i.1 o.1)
+      | inl q ↦ elim (cases_lt t x.timed.done) [
+        | inr done ↦ let same = still (requests-later x.timed.done t xs done (o.0.requests q)) in grind (arith, nat_tests, stored-none (stored old x.puts))
+        | inl now ↦ grind (arith, nat_tests)
+      ]
       | inr n ↦ elim (o.0.others n) [
-        | inl none ↦ moves-plain m t u x xs n none (moves m t u xs le i.1 o.1)
-        | inr all ↦ moves-after-done m t u x xs le (and_left _ _ n) (and_left _ _ n) (requests-later x.timed.issue t xs i.0 (all-requests x.timed.issue xs all))
+        | inl plain ↦ grind (arith, stored-none (acted_memory m u xs), stored-none old)
+        | inr all ↦ let same = still (requests-later x.timed.issue t xs i.0 (all-requests x.timed.issue xs all)) in grind (arith, stored-none (stored old x.puts))
       ]
     ]
 
@@ -127,31 +99,21 @@ settled-still : (m : ℕ → ℕ) (t : ℕ) (xs : List Late) → RequestsDone t 
 settled-still m t [] h = refl
 settled-still m t (x ∷ xs) h = grind (arith, nat_tests, h.0, settled-still m t xs h.1)
 
-settled-after-done : (m : ℕ → ℕ) (t : ℕ) (x : Late) (xs : List Late) → is_waiting t x ≡ false → RequestsDone t xs → stored (acted_memory m t (x ∷ xs)) (all_puts (waiting t (x ∷ xs))) ≡ settled_memory m (x ∷ xs)
-settled-after-done m t x xs nt h =
-    ap (λ ws. stored (acted_memory m t (x ∷ xs)) (all_puts ws)) (waiting-no t x xs nt ∙ none-wait t xs h)
-    ∙ stored-none (acted_memory m t (x ∷ xs)) ∙ acted-no m t x xs nt ∙ ap (λ n. stored n x.puts) (settled-still m t xs h)
-
 pub memory-settles : (m : ℕ → ℕ) (t : ℕ) (xs : List Late) → IssuedBy t xs → IsOrderly xs → stored (acted_memory m t xs) (all_puts (waiting t xs)) ≡ settled_memory m xs
 memory-settles m t [] i o = stored-none m
 memory-settles m t (x ∷ xs) i o =
+    let before = memory-settles m t xs i.1 o.1 in
+    let old = acted_memory m t xs in
+    let last = all-last (waiting t xs) (wait_of x) in
+    let both = stored-append old (all_puts (waiting t xs)) x.puts in
+    let still : RequestsDone t xs → (waiting t xs ≡ []) × (old ≡ settled_memory m xs) = λ r. (none-wait t xs r, settled-still m t xs r) in
     elim (cases_Bool x.timed.need.request) [
       | inl q ↦ elim (cases_lt t x.timed.done) [
-        | inr done ↦ settled-after-done m t x xs (waits-not t x done) (requests-later x.timed.done t xs done (o.0.requests q))
-        | inl now ↦
-            let w = and_from _ _ q (lt-ltb t x.timed.done now) in
-            ap (λ n. stored n (all_puts (waiting t (x ∷ xs)))) (acted-yes m t x xs w)
-            ∙ ap (λ ws. stored (acted_memory m t xs) (all_puts ws)) (waiting-yes t x xs w)
-            ∙ ap (stored (acted_memory m t xs)) (all-last (waiting t xs) (wait_of x))
-            ∙ stored-append (acted_memory m t xs) (all_puts (waiting t xs)) x.puts
-            ∙ ap (λ n. stored n x.puts) (memory-settles m t xs i.1 o.1)
+        | inr done ↦ let same = still (requests-later x.timed.done t xs done (o.0.requests q)) in grind (arith, nat_tests, stored-none (stored old x.puts))
+        | inl now ↦ grind (arith, nat_tests)
       ]
       | inr n ↦ elim (o.0.others n) [
-        | inr all ↦ settled-after-done m t x xs (and_left _ _ n) (requests-later x.timed.issue t xs i.0 (all-requests x.timed.issue xs all))
-        | inl none ↦
-            ap (λ ws. stored (acted_memory m t (x ∷ xs)) (all_puts ws)) (waiting-no t x xs (and_left _ _ n))
-            ∙ ap (λ n. stored n (all_puts (waiting t xs))) (acted-no m t x xs (and_left _ _ n) ∙ ap (stored (acted_memory m t xs)) none ∙ stored-none (acted_memory m t xs))
-            ∙ memory-settles m t xs i.1 o.1
-            ∙ sym (ap (stored (settled_memory m xs)) none ∙ stored-none (settled_memory m xs))
+        | inl plain ↦ grind (arith, stored-none old, stored-none (settled_memory m xs))
+        | inr all ↦ let same = still (requests-later x.timed.issue t xs i.0 (all-requests x.timed.issue xs all)) in grind (arith, stored-none (stored old x.puts))
       ]
     ]

@@ -1,11 +1,11 @@
 -- The waiting requests as a queue.
-use Rattle.std.proofs.Common.{◌≡◌, ℕ, ◌≤◌, cond, ◌&&◌, List, [], ◌∷◌, length, refl, sym, ap, subst, inl, inr, arith, length-append}
+use Rattle.std.proofs.Common.{◌≡◌, ℕ, ◌≤◌, cond, ◌&&◌, List, [], ◌∷◌, length, refl, inl, inr, arith, length-append}
 use Rattle.std.specs.Prelude.{nat_lt}
-use Rattle.std.specs.List.{AllByRecursion}
 use Rattle.std.proofs.lemmas.List.Sums.{sum_by-cons}
-use Rattle.std.proofs.lemmas.Bool.{cases_Bool, cond-true, cond-false, and_parts}
+use Rattle.std.proofs.lemmas.Bool.{cases_Bool, and_parts}
+use Rattle.std.proofs.lemmas.Bool.Decides.{nat_tests}
 use Rattle.i9_model.specs.Turns.{open_requests}
-use Rattle.i9_model.specs.Late.{Late, wait_of, Wait, turns, is_waiting, waiting, AreDueInOrder, RequestsDone, IsOrderly}
+use Rattle.i9_model.specs.Late.{Late, wait_of, turns, is_waiting, waiting, AreDueInOrder, RequestsDone, IsOrderly}
 use Rattle.i9_turns.proofs.LateMemories.{waiting-yes, waiting-no}
 use Rattle.i9_model.proofs.Queues.{AllBefore, all-append, order-append}
 
@@ -13,8 +13,8 @@ pub waits-before : (t d : ℕ) (xs : List Late) → RequestsDone d xs → AllBef
 waits-before t d [] h = tt
 waits-before t d (x ∷ xs) h =
     elim (cases_Bool (is_waiting t x)) [
-      | inl w ↦ subst (AllByRecursion (λ (v : Wait). v.due ≤ d)) (sym (waiting-yes t x xs w)) (all-append (λ v. v.due ≤ d) (waiting t xs) (wait_of x) (waits-before t d xs h.1) (h.0 (and_parts _ _ w).0))
-      | inr n ↦ subst (AllByRecursion (λ (v : Wait). v.due ≤ d)) (sym (waiting-no t x xs n)) (waits-before t d xs h.1)
+      | inl w ↦ rw (waiting-yes t x xs w) (all-append (λ v. v.due ≤ d) (waiting t xs) (wait_of x) (waits-before t d xs h.1) (h.0 (and_parts _ _ w).0))
+      | inr n ↦ rw (waiting-no t x xs n) (waits-before t d xs h.1)
     ]
 
 -- The requests wait in the order of their turns.
@@ -22,8 +22,8 @@ pub waiting-in-order : (t : ℕ) (xs : List Late) → IsOrderly xs → AreDueInO
 waiting-in-order t [] o = tt
 waiting-in-order t (x ∷ xs) o =
     elim (cases_Bool (is_waiting t x)) [
-      | inl w ↦ subst AreDueInOrder (sym (waiting-yes t x xs w)) (order-append (waiting t xs) (wait_of x) (waiting-in-order t xs o.1) (waits-before t x.timed.done xs (o.0.requests (and_parts _ _ w).0)))
-      | inr n ↦ subst AreDueInOrder (sym (waiting-no t x xs n)) (waiting-in-order t xs o.1)
+      | inl w ↦ rw (waiting-yes t x xs w) (order-append (waiting t xs) (wait_of x) (waiting-in-order t xs o.1) (waits-before t x.timed.done xs (o.0.requests (and_parts _ _ w).0)))
+      | inr n ↦ rw (waiting-no t x xs n) (waiting-in-order t xs o.1)
     ]
 
 -- There are as many as there are open requests.
@@ -31,7 +31,4 @@ pub waiting-count : (t : ℕ) (xs : List Late) → length (waiting t xs) ≡ ope
 waiting-count t [] = refl
 waiting-count t (x ∷ xs) =
     let cons = sum_by-cons (λ r. cond (r.need.request && nat_lt t r.done) 1 0) x.timed (turns xs) in
-    elim (cases_Bool (is_waiting t x)) [
-      | inl w ↦ omega (arith, waiting-count t xs, cons, cond-true {A = ℕ} (is_waiting t x) 1 0 w, ap length (waiting-yes t x xs w), length-append (waiting t xs) (wait_of x ∷ []))
-      | inr n ↦ omega (arith, waiting-count t xs, cons, cond-false {A = ℕ} (is_waiting t x) 1 0 n, ap length (waiting-no t x xs n))
-    ]
+    grind (arith, nat_tests, waiting-count t xs, length-append (waiting t xs) (wait_of x ∷ []))

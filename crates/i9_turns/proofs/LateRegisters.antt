@@ -1,9 +1,9 @@
 -- Registers that are written late.
-use Rattle.std.proofs.Common.{◌≡◌, ℕ, ◌<◌, ◌≤◌, true, false, List, [], ◌∷◌, Option, Some, None, refl, sym, ap, ◌∙◌, inl, inr, arith}
-use Rattle.std.proofs.lemmas.Bool.{cases_Bool, cases_lt, cond-true, cond-false, lt-ltb, le-ltb, le-leb, lt-leb, and_from, and_left, and_right}
+use Rattle.std.proofs.Common.{◌≡◌, ℕ, ◌<◌, ◌≤◌, true, false, List, [], ◌∷◌, Option, Some, None, refl, ap, ◌∙◌, arith}
+use Rattle.std.proofs.lemmas.Bool.{cond-true, cond-false, lt-ltb, le-ltb, le-leb, lt-leb, and_from, and_left, and_right}
 use Rattle.std.proofs.lemmas.Bool.Decides.{nat_tests}
 use Rattle.i9_model.specs.State.{State}
-use Rattle.i9_model.specs.Late.{Late, resource, resources, cell, Passes, IsOrderly, IssuedBy, Leaves, WritersDone, marks, raw_value, planned, cell_at, landed, landed_value, landed_plan, latest, latest_value, last_state, is_busy, is_plan_open}
+use Rattle.i9_model.specs.Late.{Late, resource, resources, cell, IsOrderly, IssuedBy, Leaves, WritersDone, marks, raw_value, planned, cell_at, landed, landed_value, landed_plan, latest, last_state, is_busy, is_plan_open}
 
 pub raw-yes : (first : State) (t r : ℕ) (x : Late) (xs : List Late) → marks x r ≡ true → x.timed.done ≤ t → raw_value first t (x ∷ xs) r ≡ resource x.after r
 raw-yes first t r x xs w d = cond-true _ _ _ (and_from _ _ w (le-leb x.timed.done t d))
@@ -35,62 +35,20 @@ pub writers-later : (r t u : ℕ) (xs : List Late) → t ≤ u → WritersDone r
 writers-later r t u [] le h = tt
 writers-later r t u (x ∷ xs) le h = ((λ w. let d : x.timed.done ≤ t = h.0 w in omega arith), writers-later r t u xs le h.1)
 
-some_landed : (u : ℕ) (p : Option (ℕ × ℕ)) (v a d : ℕ) → p ≡ Some (a, d) → d ≤ u → (landed_value u p v ≡ a) × (landed_plan u p ≡ None)
-some_landed u p v a d e h =
-    (ap (λ q. landed_value u q v) e ∙ cond-true _ _ _ (le-leb d u h), ap (landed_plan u) e ∙ cond-true _ _ _ (le-leb d u h))
-
-some_waits : (u : ℕ) (p : Option (ℕ × ℕ)) (v a d : ℕ) → p ≡ Some (a, d) → u < d → (landed_value u p v ≡ v) × (landed_plan u p ≡ Some (a, d))
-some_waits u p v a d e h =
-    (ap (λ q. landed_value u q v) e ∙ cond-false _ _ _ (lt-leb d u h), ap (landed_plan u) e ∙ cond-false _ _ _ (lt-leb d u h))
-
-none_lands : (u : ℕ) (p : Option (ℕ × ℕ)) (v : ℕ) → p ≡ None → (landed_value u p v ≡ v) × (landed_plan u p ≡ None)
-none_lands u p v e = (ap (λ q. landed_value u q v) e, ap (landed_plan u) e)
-
 -- what a cell becomes as the turn moves on
 Lands : State → ℕ → ℕ → ℕ → List Late → Type 0
 Lands first t u r xs = (raw_value first u xs r ≡ landed_value u (planned t xs r) (raw_value first t xs r)) × (planned u xs r ≡ landed_plan u (planned t xs r))
-
-lands-writer : (first : State) (t u r : ℕ) (x : Late) (xs : List Late) → t ≤ u → x.timed.issue ≤ t → Passes x xs → marks x r ≡ true → Lands first t u r (x ∷ xs)
-unfolding Lands
-lands-writer first t u r x xs le i o w =
-    let before : WritersDone r x.timed.issue xs = o.writers r w in
-    let at_t : WritersDone r t xs = writers-later r x.timed.issue t xs i before in
-    let at_u : WritersDone r u xs = writers-later r t u xs le at_t in
-    let v = raw_value first t (x ∷ xs) r in
-    elim (cases_lt u x.timed.done) [
-      | inl waits ↦
-          let e = plan-yes t r x xs w (omega arith) in
-          let s = some_waits u (planned t (x ∷ xs) r) v (resource x.after r) x.timed.done e waits in (
-            raw-open first u r x xs waits ∙ raw-still first t u r xs le at_t ∙ sym (raw-open first t r x xs (omega arith)) ∙ sym s.0,
-            plan-yes u r x xs w waits ∙ sym s.1,
-          )
-      | inr over ↦
-          elim (cases_lt t x.timed.done) [
-            | inl op ↦
-                let e = plan-yes t r x xs w op in
-                let s = some_landed u (planned t (x ∷ xs) r) v (resource x.after r) x.timed.done e over in
-                (raw-yes first u r x xs w over ∙ sym s.0, plan-done u r x xs over ∙ plan-none u r xs at_u ∙ sym s.1)
-            | inr done ↦
-                let e : planned t (x ∷ xs) r ≡ None = plan-done t r x xs done ∙ plan-none t r xs at_t in
-                let s = none_lands u (planned t (x ∷ xs) r) v e in
-                (raw-yes first u r x xs w over ∙ sym (raw-yes first t r x xs w done) ∙ sym s.0, plan-done u r x xs over ∙ plan-none u r xs at_u ∙ sym s.1)
-          ]
-    ]
 
 lands : (first : State) (t u r : ℕ) (xs : List Late) → t ≤ u → IssuedBy t xs → IsOrderly xs → Lands first t u r xs
 unfolding Lands
 lands first t u r [] le i o = (refl, refl)
 lands first t u r (x ∷ xs) le i o =
-    elim (cases_Bool (marks x r)) [
-      | inl w ↦ lands-writer first t u r x xs le i.0 o.0 w
-      | inr n ↦
-          let before = lands first t u r xs le i.1 o.1 in
-          let p = plan-other t r x xs n in
-          let v = raw-other first t r x xs n in (
-            raw-other first u r x xs n ∙ before.0 ∙ ap (λ q. landed_value u q (raw_value first t xs r)) (sym p) ∙ ap (landed_value u (planned t (x ∷ xs) r)) (sym v),
-            plan-other u r x xs n ∙ before.1 ∙ ap (landed_plan u) (sym p),
-          )
-    ]
+    let before = lands first t u r xs le i.1 o.1 in
+    let done : marks x r ≡ true → WritersDone r t xs = λ w. writers-later r x.timed.issue t xs i.0 (o.0.writers r w) in
+    let none : marks x r ≡ true → planned t xs r ≡ None = λ w. plan-none t r xs (done w) in
+    let later : marks x r ≡ true → planned u xs r ≡ None = λ w. plan-none u r xs (writers-later r t u xs le (done w)) in
+    let still : marks x r ≡ true → raw_value first u xs r ≡ raw_value first t xs r = λ w. raw-still first t u r xs le (done w) in
+    (grind (arith, nat_tests), grind (arith, nat_tests))
 
 make_cell : (v w : ℕ) (p q : Option (ℕ × ℕ)) → v ≡ w → p ≡ q → cell v p ≡ cell w q
 make_cell v w p q e f = ap (λ x. cell x p) e ∙ ap (cell w) f
@@ -111,16 +69,10 @@ cell-keeps first t r x xs n = make_cell _ _ _ _ (raw-other first t r x xs n) (pl
 pub cell-latest : (first : State) (t r : ℕ) (xs : List Late) → r < resources → IssuedBy t xs → IsOrderly xs → Leaves first xs → latest (cell_at first t xs r) ≡ resource (last_state first xs) r
 cell-latest first t r [] lt i o l = refl
 cell-latest first t r (x ∷ xs) lt i o l =
-    elim (cases_Bool (marks x r)) [
-      | inr n ↦ ap latest (cell-keeps first t r x xs n) ∙ cell-latest first t r xs lt i.1 o.1 l.1 ∙ sym (l.0 r lt n)
-      | inl w ↦
-          elim (cases_lt t x.timed.done) [
-            | inl op ↦ ap (λ p. latest_value p (raw_value first t (x ∷ xs) r)) (plan-yes t r x xs w op)
-            | inr done ↦
-                let p : planned t (x ∷ xs) r ≡ None = plan-done t r x xs done ∙ plan-none t r xs (writers-later r x.timed.issue t xs i.0 (o.0.writers r w)) in
-                ap (λ p. latest_value p (raw_value first t (x ∷ xs) r)) p ∙ raw-yes first t r x xs w done
-          ]
-    ]
+    let before = cell-latest first t r xs lt i.1 o.1 l.1 in
+    let same = l.0 r lt in
+    let none : marks x r ≡ true → planned t xs r ≡ None = λ w. plan-none t r xs (writers-later r x.timed.issue t xs i.0 (o.0.writers r w)) in
+    grind (arith, nat_tests)
 
 -- A register is busy where a value is planned for it.
 pub cell-busy : (t r : ℕ) (xs : List Late) → is_plan_open t (planned t xs r) ≡ is_busy t xs r
