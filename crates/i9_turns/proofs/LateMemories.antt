@@ -1,6 +1,6 @@
 -- Memory that is written late.
-use Rattle.std.proofs.Common.{◌≡◌, ℕ, ◌<◌, ◌≤◌, true, false, leb, List, [], ◌∷◌, ◌++◌, refl, sym, ap, ◌∙◌, inl, inr, arith, append_assoc, append-nil}
-use Rattle.std.proofs.lemmas.Bool.{cases_Bool, cases_lt, cond-true, cond-false, le-ltb, le-leb, lt-leb, and_right}
+use Rattle.std.proofs.Common.{◌≡◌, ℕ, ◌≤◌, true, false, List, [], ◌∷◌, ◌++◌, refl, sym, ap, ◌∙◌, inl, inr, arith, append_assoc, append-nil}
+use Rattle.std.proofs.lemmas.Bool.{cases_Bool, cases_lt, cond-true, cond-false, le-ltb, and_right}
 use Rattle.std.proofs.lemmas.Bool.Decides.{nat_tests}
 use Rattle.i9_model.specs.Memory.{stored}
 use Rattle.i9_model.proofs.Stored.{stored-append, stored-none}
@@ -13,13 +13,6 @@ due-append u (v ∷ vs) ws = grind (arith, nat_tests, append_assoc, due-append u
 left-append : (u : ℕ) (vs ws : List Wait) → left_waiting u (vs ++ ws) ≡ left_waiting u vs ++ left_waiting u ws
 left-append u [] ws = refl
 left-append u (v ∷ vs) ws = grind (arith, nat_tests, left-append u vs ws)
-
--- one more request at the end
-due-last : (u : ℕ) (vs : List Wait) (w : Wait) → w.due ≤ u → due_puts u (vs ++ w ∷ []) ≡ due_puts u vs ++ w.puts
-due-last u vs w over = due-append u vs (w ∷ []) ∙ ap (λ ps. due_puts u vs ++ ps) (cond-true (leb w.due u) (w.puts ++ []) [] (le-leb w.due u over) ∙ append-nil w.puts)
-
-due-not-last : (u : ℕ) (vs : List Wait) (w : Wait) → u < w.due → due_puts u (vs ++ w ∷ []) ≡ due_puts u vs
-due-not-last u vs w waits = due-append u vs (w ∷ []) ∙ ap (λ ps. due_puts u vs ++ ps) (cond-false (leb w.due u) (w.puts ++ []) [] (lt-leb w.due u waits)) ∙ append-nil (due_puts u vs)
 
 pub waiting-yes : (t : ℕ) (x : Late) (xs : List Late) → is_waiting t x ≡ true → waiting t (x ∷ xs) ≡ waiting t xs ++ wait_of x ∷ []
 waiting-yes t x xs h = cond-true _ _ _ h

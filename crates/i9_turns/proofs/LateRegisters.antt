@@ -1,12 +1,9 @@
 -- Registers that are written late.
 use Rattle.std.proofs.Common.{◌≡◌, ℕ, ◌<◌, ◌≤◌, true, false, List, [], ◌∷◌, Option, Some, None, refl, ap, ◌∙◌, arith}
-use Rattle.std.proofs.lemmas.Bool.{cond-true, cond-false, lt-ltb, le-ltb, le-leb, lt-leb, and_from, and_left, and_right}
+use Rattle.std.proofs.lemmas.Bool.{cond-true, cond-false, lt-ltb, lt-leb, and_from, and_left, and_right}
 use Rattle.std.proofs.lemmas.Bool.Decides.{nat_tests}
 use Rattle.i9_model.specs.State.{State}
 use Rattle.i9_model.specs.Late.{Late, resource, resources, cell, IsOrderly, IssuedBy, Leaves, WritersDone, marks, raw_value, planned, cell_at, landed, landed_value, landed_plan, latest, last_state, is_busy, is_plan_open}
-
-pub raw-yes : (first : State) (t r : ℕ) (x : Late) (xs : List Late) → marks x r ≡ true → x.timed.done ≤ t → raw_value first t (x ∷ xs) r ≡ resource x.after r
-raw-yes first t r x xs w d = cond-true _ _ _ (and_from _ _ w (le-leb x.timed.done t d))
 
 pub raw-other : (first : State) (t r : ℕ) (x : Late) (xs : List Late) → marks x r ≡ false → raw_value first t (x ∷ xs) r ≡ raw_value first t xs r
 raw-other first t r x xs w = cond-false _ _ _ (and_left _ _ w)
@@ -19,9 +16,6 @@ plan-yes t r x xs w d = cond-true _ _ _ (and_from _ _ w (lt-ltb t x.timed.done d
 
 pub plan-other : (t r : ℕ) (x : Late) (xs : List Late) → marks x r ≡ false → planned t (x ∷ xs) r ≡ planned t xs r
 plan-other t r x xs w = cond-false _ _ _ (and_left _ _ w)
-
-pub plan-done : (t r : ℕ) (x : Late) (xs : List Late) → x.timed.done ≤ t → planned t (x ∷ xs) r ≡ planned t xs r
-plan-done t r x xs d = cond-false _ _ _ (and_right _ _ (le-ltb t x.timed.done d))
 
 pub plan-none : (t r : ℕ) (xs : List Late) → WritersDone r t xs → planned t xs r ≡ None
 plan-none t r [] h = refl

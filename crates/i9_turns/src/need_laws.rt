@@ -14,6 +14,12 @@ ghost use Rattle.i9_model.specs.Needs.{inst_need, refused_need, event_need, entr
 ghost use Rattle.i9_model.specs.Needs.{is_barrier_name};
 
 /// Each need takes a turn at least, and just one where it is no request, not slow and no barrier.
+#[tactic(auto, using(
+    crate::proofs::NeedLaws::inst_cost,
+    crate::proofs::NeedLaws::refused_cost,
+    crate::proofs::NeedLaws::event_cost,
+    crate::proofs::NeedLaws::entry_cost,
+))]
 pub fn needs_have_costs()
     ensures instruction { (i : Inst) (f : Facts) → HasCost (inst_need i f) }
     ensures refused { (ip : ℕ) → HasCost (refused_need ip) }
@@ -22,6 +28,7 @@ pub fn needs_have_costs()
 {}
 
 /// What is neither a request nor a barrier stores nothing and moves no frame.
+#[tactic(auto, using(crate::proofs::NeedLaws::quiet))]
 pub fn others_write_no_memory()
     ensures { (i : Inst) (s : State) → is_request_name i.op ≡ false → is_barrier_name i.op ≡ false
         → ((action_of i s).writes ≡ []) × ((action_of i s).move ≡ Stays) }

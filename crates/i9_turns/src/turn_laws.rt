@@ -35,6 +35,7 @@ pub fn open_records_decide()
 
 /// What follows a barrier depends on nothing before it: the records have the turns that they would
 /// have alone, from the barrier's done turn on.
+#[tactic(auto, using(crate::proofs::TurnBetween::between))]
 pub fn barriers_forget()
     ensures { (rs : List TimedNeed) (b : TimedNeed) (before : List TimedNeed) → IsTrue b.need.barrier
         → IsTimed (rs ++ b ∷ before) → TakesTurns (rs ++ b ∷ before) → WaitForNone rs
@@ -49,6 +50,7 @@ pub fn barriers_decide_no_overtaking()
 {}
 
 /// All barriers issue alike, at the least turn at which all before them is done.
+#[tactic(auto, using(crate::proofs::Barriers::barriers_alike))]
 pub fn barriers_issue_alike()
     ensures { (n m : Need) (rs : List TimedNeed) → IsTimed rs → TakesTurns rs → IsTrue n.barrier → IsTrue m.barrier
         → n.not_before ≡ m.not_before → issue_turn (last_issue rs) rs n ≡ issue_turn (last_issue rs) rs m }
