@@ -57,11 +57,14 @@ use Rattle.i9_laws.proofs.StoredWords.{ArePut, all_append, put_pairs, all_map, w
 use Rattle.i9_laws.proofs.ResultWords.{AreWords, either_word, results_words}
 
 -- registers and the instruction address are words, and bytes are bytes, soft ones as they are read too
-pub record HasWords (s : State) : Type 0 where
-  pub regs : (r : ℕ) → IsWord (s.regs r)
-  pub ip : IsWord s.ip
-  pub bytes : (x : ℕ) → s.memory.bytes x < 256
-  pub reading : (b : ℕ) → b < 256 → s.reading b < 256
+pub record AreWithinWords (f : ℕ → ℕ) (at : ℕ) (memory soft : ℕ → ℕ) : Type 0 where
+  pub regs : (r : ℕ) → IsWord (f r)
+  pub ip : IsWord at
+  pub bytes : (x : ℕ) → memory x < 256
+  pub reading : (b : ℕ) → b < 256 → soft b < 256
+
+abbrev pub HasWords : State → Type 0
+HasWords s = AreWithinWords s.regs s.ip s.memory.bytes s.reading
 
 -- so bytes are as a load and as a return finds them
 legible_bytes : (s : State) → HasWords s → (x : ℕ) → (legible s).bytes x < 256
@@ -296,8 +299,7 @@ entering_words s fault e h ok =
     let made = entry_by (λ (x : Sys). IsPushed x.push × IsWord x.target) s fault e
     (record { switched = λ x y. (push (aligned (word_in s.memory y)), target x); here = λ x. (push (s.regs SP), target x) }) ok in
     let both : IsPushed e.push × IsWord e.target = subst (λ (x : Entry). IsPushed x.push × IsWord x.target) made.2 made.1 in
-    let pushes = pushing_words s e.push s.ip e.target h both.0 h.ip both.1 in
-    record { registers = pushes.registers; saves = pushes.saves; starts = tt; next = pushes.next }
+    pushing_words s e.push s.ip e.target h both.0 h.ip both.1
 
 interrupting_words : (s : State) (c : Chosen) (e : Entry) → HasWords s → interrupt_in s c ≡ Ok e → DoesWords (interrupting c e s)
 interrupting_words s c e h ok =
@@ -305,9 +307,8 @@ interrupting_words s c e h ok =
     let push = pushed_words (s.regs FP) base RECORD_SIZE INTERRUPT_RETURN (h.regs FP) (omega arith) in
     let at = vector_place s.tables.interrupt_table c.vector in
     let made = entry_for s c in
-    let pushes = pushing_words s made.push s.ip made.target h push h.ip (aligned_word (word_in s.memory at) (word_below s.memory at h.bytes)) in
-    subst (λ (x : Entry). DoesWords (interrupting c x s)) (interrupt_made s c e ok).0
-    (record { registers = pushes.registers; saves = pushes.saves; starts = tt; next = pushes.next })
+    let pushes : DoesWords (interrupting c made s) = pushing_words s made.push s.ip made.target h push h.ip (aligned_word (word_in s.memory at) (word_below s.memory at h.bytes)) in
+    subst (λ (x : Entry). DoesWords (interrupting c x s)) (interrupt_made s c e ok).0 pushes
 
 kind_words : (limit : ℕ) (due : Due) (stands : Option Event) (k : Kind) (s : State) → MayCome limit due stands s k
     → IsTurn stands s k
@@ -328,10 +329,10 @@ start_words u =
 
 -- a control group changes no register and no instruction address
 group_words_kept : (a b c : Bool) (s : State) (group : ℕ) (ws : List ℕ) → HasWords s → HasWords (by_group a b c s group ws)
-group_words_kept true b c s group ws h = record { regs = h.regs; ip = h.ip; bytes = h.bytes; reading = h.reading }
-group_words_kept false true c s group ws h = record { regs = h.regs; ip = h.ip; bytes = h.bytes; reading = h.reading }
-group_words_kept false false true s group ws h = record { regs = h.regs; ip = h.ip; bytes = h.bytes; reading = h.reading }
-group_words_kept false false false s group ws h = record { regs = h.regs; ip = h.ip; bytes = h.bytes; reading = h.reading }
+group_words_kept true b c s group ws h = h
+group_words_kept false true c s group ws h = h
+group_words_kept false false true s group ws h = h
+group_words_kept false false false s group ws h = h
 
 controlled_words : (s : State) (c : Control) → StartsWord c → HasWords s → HasWords (controlled s c)
 unfolding started configured setup_of
@@ -351,7 +352,7 @@ acted_words s a k stores h =
       bytes = moved_bytes s a h.bytes stores;
       reading = h.reading;
     }) in
-    subst HasWords (sym (flagged-others a.trace (controlled (moved s a) a.control))) (record { regs = after.regs; ip = after.ip; bytes = after.bytes; reading = after.reading })
+    subst HasWords (sym (flagged-others a.trace (controlled (moved s a) a.control))) after
 
 -- ---- a run
 
@@ -383,7 +384,7 @@ words_after g (r ∷ rs) image plan past =
     let stores = done_stores g r rs plan past h.bytes in
     let after = acted_words s (action_by_kind r.kind s) (done_words g r rs plan past h) stores h in
     let comes = next_comes g.length (due_after rs) (event_after g rs) s r past.1 in
-    subst (λ (q : Record). HasWords q.after) (sym comes.0) (record { regs = after.regs; ip = after.ip; bytes = after.bytes; reading = after.reading })
+    subst (λ (q : Record). HasWords q.after) (sym comes.0) after
 
 -- the frames that are saved
 pub saved_after : (g : Given) (r : Record) (rs : List Record) → HasBytes g.image → IsPlan g.plan → IsPast g (r ∷ rs)

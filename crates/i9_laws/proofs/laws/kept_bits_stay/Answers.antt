@@ -1,6 +1,5 @@
 use Rattle.i9_laws.proofs.KeptBits.{kept_after}
 use Rattle.i9_laws.proofs.KeptLines.{lines_after}
-use Rattle.i9_laws.proofs.BytesAfter.{bytes_after}
 use Rattle.i9_laws.proofs.WordsAfter.{words_after, parts_bytes}
 use Rattle.i9_laws.proofs.laws.kept_bits_stay.Goals as goal
 
@@ -15,6 +14,6 @@ returns c = record {
   command = λ g rs plan past. (lines_after g rs plan past).command;
   registers = λ g rs image plan past. (words_after g rs image plan past).regs;
   address = λ g rs image plan past. (words_after g rs image plan past).ip;
-  bytes = bytes_after;
+  bytes = λ g rs image plan past. (words_after g rs image plan past).bytes;
   images = parts_bytes;
 }
