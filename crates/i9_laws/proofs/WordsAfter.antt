@@ -1,11 +1,11 @@
 -- Along every run registers are below 2^32 and bytes of memory below 256, where the bytes of the image are.
-use Rattle.std.proofs.Common.{◌≡◌, ℕ, zero, suc, ◌+◌, ◌-◌, ◌^◌, ◌<◌, Bool, true, false, cond, List, [], ◌∷◌, Option, Some, None, Ok, length, refl, sym, subst, arith}
-use Rattle.std.specs.Prelude.{◌==◌, ◌||◌, replicate, bit_and}
+use Rattle.std.proofs.Common.{◌≡◌, ℕ, zero, suc, ◌+◌, ◌-◌, ◌^◌, ◌<◌, Bool, true, false, cond, List, [], ◌∷◌, Option, Some, None, Ok, length, refl, sym, subst, arith, rules}
+use Rattle.std.specs.Prelude.{◌==◌, replicate, bit_and}
 use Rattle.std.specs.List.{range_with_len}
 use Rattle.std.proofs.lemmas.Nat.{and_le_r}
 use Rattle.i9_isa.specs.Words.{field}
 use Rattle.i9_isa.specs.declared.op.Op.{Op}
-use Rattle.i9_isa.specs.declared.op.Op.TheVariants.{Lda, Atadd, Atmod, Bx, Balx, Bal, Call, Callx, Calls, Ret, Flushreg, Modac, Modtc, Modpc, Sdma, Sysctl}
+use Rattle.i9_isa.specs.declared.op.Op.TheVariants.{Flushreg, Modac, Modtc, Modpc}
 use Rattle.i9_isa.specs.declared.size.Size.{Size}
 use Rattle.i9_isa.specs.declared.size.Size.TheVariants.{Byte, Half, Words}
 use Rattle.i9_isa.specs.declared.size.Direction.{Direction}
@@ -27,13 +27,13 @@ use Rattle.i9_model.specs.Memory.{Memory, half_in, word_in, words_in}
 use Rattle.i9_model.specs.Boot.{setup_of, configured, with_boot_bytes, boot_setup}
 use Rattle.i9_model.specs.State.{State, Interrupts, image_memory, frame_sets, first_frame, start_sets, started, boot}
 use Rattle.i9_model.specs.Frames.{rounded_down, pushed}
-use Rattle.i9_model.specs.Stale.{legible, left_memory, mark_of}
+use Rattle.i9_model.specs.Stale.{legible, left_memory}
 use Rattle.i9_model.specs.Operands.{value, higher_word, word_of, source_words, assigned, address, target}
-use Rattle.i9_model.specs.Branches.{asks, question_of, is_taken}
+use Rattle.i9_model.specs.Branches.{is_taken}
 use Rattle.i9_model.specs.Calls.{popped}
 use Rattle.i9_model.specs.Controls.{Control, KeepsControls, Restarts, LoadsGroup, controlled}
 use Rattle.i9_model.specs.Tables.{group_words}
-use Rattle.i9_model.specs.Step.{Move, Stays, Saves, Action, saved_local, saved_locals, pushing, call_action, calls_action, ret_action, first_word, next_word, loaded, moving, merged, atomic, atomic_address, following, answer_in, destination, values_of, branching, resulting, Message, AsksRestart, asked_message, message_action, push_sets, system_call, entering, action_by_name, action_by, action_of, moved, acted}
+use Rattle.i9_model.specs.Step.{Move, Stays, Saves, Action, saved_local, saved_locals, pushing, call_action, calls_action, ret_action, first_word, next_word, loaded, moving, atomic, atomic_address, following, answer_in, destination, values_of, branching, resulting, Message, AsksRestart, message_action, push_sets, system_call, entering, action_by_name, action_by, action_of, moved, acted}
 use Rattle.i9_model.specs.declared.run.Due.{Due}
 use Rattle.i9_model.specs.declared.interrupts.TheConstants.{LINE_MASK}
 use Rattle.i9_model.specs.declared.dma.TheConstants.{COMMAND_MASK}
@@ -52,7 +52,7 @@ use Rattle.i9_laws.proofs.Entered.{call_by, entry_by, entry_for, interrupt_made}
 use Rattle.i9_laws.proofs.KeptBits.{IsKept, kept_after}
 use Rattle.i9_laws.proofs.KeptLines.{HasLines, lines_after}
 use Rattle.i9_laws.proofs.BytesAfter.{done_stores, moved_bytes, image_bytes, boot_bytes}
-use Rattle.i9_laws.proofs.Decoded.{IsSmall, HasSmall, decoded_small, runs_decoded, IsTurn, next_turn}
+use Rattle.i9_laws.proofs.Decoded.{IsSmall, HasSmall, decoded_small, IsTurn, next_turn}
 use Rattle.i9_laws.proofs.StoredWords.{ArePut, all_append, put_pairs, all_map, written_below, half_below, word_below, words_below}
 use Rattle.i9_laws.proofs.ResultWords.{AreWords, either_word, results_words}
 
@@ -263,24 +263,14 @@ ret_words s h =
       next = aligned_word _ (word_below m (wrapped (a + 8)) bytes);
     }
 
+ruleset action_rules = (setting, one_set, behind_word, aligned_word, word_below, legible_bytes, call_words, calls_words, ret_words, message_words, other_words)
+
 name_words : (op : Op) (i : Inst) (s : State) → HasWords s → HasLines s → IsKept s → HasSmall i → DoesWords (action_by_name op i s)
-name_words Lda i s h l k small = setting (one_set i.c (address s i.ea) (omega arith)) (behind_word i s)
-name_words Atadd i s h l k small = atomic_words i s (mark_of s i.b 0) (λ old. wrapped (old + value s i.b)) h
-name_words Atmod i s h l k small = atomic_words i s (mark_of s i.b 0 || mark_of s i.c 0) (λ old. merged old (value s i.b) (value s i.c)) h
-name_words Bx i s h l k small = setting tt (aligned_word (address s i.ea) (omega arith))
-name_words Balx i s h l k small = setting (one_set i.c (following i s) (behind_word i s)) (aligned_word (address s i.ea) (omega arith))
-name_words Bal i s h l k small = setting (behind_word i s, tt) (aligned_word (target i s) (omega arith))
-name_words Call i s h l k small = call_words i s (target i s) h (omega arith)
-name_words Callx i s h l k small = call_words i s (address s i.ea) h (omega arith)
-name_words Calls i s h l k small = calls_words i s h
-name_words Ret i s h l k small = ret_words s h
 name_words Flushreg i s h l k small = record { registers = tt; saves = tt; starts = tt; next = behind_word i s }
 name_words Modac i s h l k small = setting (one_set i.c s.ac (within_word AC_MASK s.ac (omega arith) k.ac)) (behind_word i s)
 name_words Modtc i s h l k small = setting (one_set i.c s.trace.tc (within_word TC_MASK s.trace.tc (omega arith) k.tc)) (behind_word i s)
 name_words Modpc i s h l k small = setting (one_set i.c s.pc (within_word PC_MASK s.pc (omega arith) k.pc)) (behind_word i s)
-name_words Sdma i s h l k small = setting tt (behind_word i s)
-name_words Sysctl i s h l k small = message_words (asked_message i s) i s h l small
-name_words op i s h l k small = other_words (asks (question_of op)) i s h l small
+name_words _ i s h l k small = search (rules, arith, action_rules)
 
 instruction_words : (i : Inst) (s : State) → HasWords s → HasLines s → IsKept s → HasSmall i → DoesWords (action_of i s)
 unfolding action_of
@@ -314,7 +304,7 @@ kind_words : (limit : ℕ) (due : Due) (stands : Option Event) (k : Kind) (s : S
     → IsTurn stands s k
     → HasWords s → HasLines s → IsKept s → DoesWords (action_by_kind k s)
 kind_words limit due stands (Instruction i) s may d h l k =
-    instruction_words i s h l k (decoded_small (first_word s) (next_word s) i (runs_decoded s i d.1))
+    instruction_words i s h l k (decoded_small (first_word s) (next_word s) i d.1)
 kind_words limit due stands (Faulted inst fault) s may d h l k = setting tt (omega arith)
 kind_words limit due stands (Entered e) s may d h l k = entering_words s may.0 e h may.2
 kind_words limit due stands (Interrupted c e) s may d h l k = interrupting_words s c e h may.3
