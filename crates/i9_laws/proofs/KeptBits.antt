@@ -83,25 +83,21 @@ coded ac new h =
 
 overflow_kept : (b c : Bool) (v ac : ℕ) → IsWithin AC_MASK ac
     → IsWithin AC_MASK (cond b (cond c (word v (bit_or ac (2 ^ 8))) (faulting Overflow ac)) (word v ac)).controls
-overflow_kept true true v ac h = masked_or AC_MASK ac (2 ^ 8) h refl
-overflow_kept true false v ac h = h
-overflow_kept false c v ac h = h
+overflow_kept b c v ac h = grind (arith, masked_or AC_MASK ac (2 ^ 8) h refl, h)
 
 checked_kept : (z : ℤ) (ac : ℕ) → IsWithin AC_MASK ac → IsWithin AC_MASK (checked z ac).controls
 checked_kept z ac h = overflow_kept _ _ _ ac h
 
 divided_kept : (b : Bool) (r : Answer) (ac : ℕ) → IsWithin AC_MASK ac → IsWithin AC_MASK r.controls
     → IsWithin AC_MASK (cond b (faulting ZeroDivide ac) r).controls
-divided_kept true r ac h k = h
-divided_kept false r ac h k = k
+divided_kept b r ac h k = grind (arith, h, k)
 
 found_kept : (o : Option ℕ) (ac : ℕ) → IsWithin AC_MASK ac → IsWithin AC_MASK (found o ac).controls
 found_kept None ac h = coded ac 0 h
 found_kept (Some p) ac h = coded ac 2 h
 
 unless_kept : (b : Bool) (new ac : ℕ) → IsWithin AC_MASK ac → IsWithin AC_MASK (cond b (words [] ac) (code new ac)).controls
-unless_kept true new ac h = h
-unless_kept false new ac h = coded ac new h
+unless_kept b new ac h = grind (arith, h, coded)
 
 ruleset answer_rules = (coded, found_kept, unless_kept, checked_kept, divided_kept)
 
@@ -143,8 +139,7 @@ jumping_kept : (s : State) (to : ℕ) → IsKept s → Keeps (going s (aligned t
 jumping_kept s to h = going_kept s (aligned to) h (aligned_even to)
 
 branched_even : (b : Bool) (x y : ℕ) → x % 4 ≡ 0 → y % 4 ≡ 0 → cond b x y % 4 ≡ 0
-branched_even true x y h k = h
-branched_even false x y h k = k
+branched_even b x y h k = grind (arith, h, k)
 
 other_kept : (b : Bool) (i : Inst) (s : State) → IsKept s → Keeps (cond b (branching i s) (resulting i s (answer_in i s)))
 other_kept true i s h = record {
@@ -171,14 +166,11 @@ calls_kept i s h = record { ac = h.ac; pc = both.0; tc = h.tc; ip = both.1 }
 
 returned_kept : (user takes leaves : Bool) (m : Memory) (kind fp pc : ℕ) → IsWithin PC_MASK pc
     → IsWithin PC_MASK (cond user pc (cond takes (bit_and (saved_pc m fp) PC_MASK) (cond leaves (without_supervisor pc (kind % 2)) pc)))
-returned_kept true r l m kind fp pc h = h
-returned_kept false true l m kind fp pc h = masked PC_MASK (saved_pc m fp)
-returned_kept false false true m kind fp pc h = same_above pc (without_supervisor pc (kind % 2)) (omega arith) h
-returned_kept false false false m kind fp pc h = h
+returned_kept user takes leaves m kind fp pc h =
+    grind (arith, h, masked, same_above pc (without_supervisor pc (kind % 2)) (omega arith) h)
 
 read_kept : (b : Bool) (w ac : ℕ) → IsWithin AC_MASK ac → IsWithin AC_MASK (cond b (bit_and w AC_MASK) ac)
-read_kept true w ac h = masked AC_MASK w
-read_kept false w ac h = h
+read_kept b w ac h = grind (arith, masked, h)
 
 -- ---- an instruction
 

@@ -38,8 +38,7 @@ reduced_word (pos n) = omega arith
 reduced_word (negsuc n) = omega arith
 
 pub either_word : (b : Bool) (x y : ℕ) → IsWord x → IsWord y → IsWord (cond b x y)
-either_word true x y h k = h
-either_word false x y h k = k
+either_word b x y h k = grind (arith, h, k)
 
 shifted_word : (w p : ℕ) → IsWord w → IsWord (w / 2 ^ p)
 shifted_word w p h = let k = shr_le w p in omega (arith, h, k)

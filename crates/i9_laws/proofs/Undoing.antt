@@ -42,8 +42,7 @@ undoes m f a kind fp new pc ac low small t k e none =
 -- ---- the controls
 
 pub either : (b : Bool) (n : ℕ) → cond b n n ≡ n
-either true n = refl
-either false n = refl
+either b n = grind arith
 
 -- type 000 leaves the process controls
 local_pc : (m : Memory) (fp pc : ℕ) → returned_pc m 0 fp pc ≡ pc
@@ -62,9 +61,7 @@ left_controls pc w ac x (suc (suc t)) b h = absurd (omega (arith, h))
 
 -- and their frame has no request to look at
 switched_type : (t : ℕ) → t < 2 → (takes_record (2 + t) ≡ false) × ((2 + t == 7) ≡ false)
-switched_type zero h = (refl, refl)
-switched_type (suc zero) h = (refl, refl)
-switched_type (suc (suc t)) h = absurd (omega arith)
+switched_type t h = (grind (arith, h), grind (arith, h))
 
 user_bit : (pc : ℕ) → in_supervisor_mode pc ≡ false → pc / 2 % 2 ≡ 0
 user_bit pc e = let other : pc / 2 % 2 ≡ 1 → ⊥ = eqb-false _ _ e in omega arith
@@ -107,7 +104,7 @@ entered c later table n ac none =
     by_switch (is_switch entry c.pc) later c.frames entry (word_in c.memory (stack_address table)) c.pc c.fp c.sp ac (λ e. not-true _ (and_parts _ _ e).1) none
 
 -- a return right after a system call undoes it
-pub call-undone : (c : Caller) (later : Memory) (table n ac : ℕ) (s : Sys) → planned_calls c table n ≡ Ok s → Undoes later c.frames c.pc ac s
-call-undone c later table n ac s e =
+pub call_undone : (c : Caller) (later : Memory) (table n ac : ℕ) (s : Sys) → planned_calls c table n ≡ Ok s → Undoes later c.frames c.pc ac s
+call_undone c later table n ac s e =
     let both = made (nat_le n MOST_SYSTEM_CALL) (system_hazard c.memory c.frames table n c.pc c.fp) (system_entered c table n 0 (call_type c.pc)) s e in
     subst (Undoes later c.frames c.pc ac) both.1 (entered c later table n ac (saves c.memory c.frames table n c.pc c.fp both.0))

@@ -117,9 +117,8 @@ pending_is_word i h =
     omega (arith, kept, within, levels, sum)
 
 special_word : (a b : Bool) (s : State) → HasLines s → IsWord (cond a (pending_word s.interrupts) (cond b s.interrupts.mask s.dma.dmac))
-special_word true b s l = pending_is_word s.interrupts l.pending
-special_word false true s l = within_word LINE_MASK s.interrupts.mask (omega arith) l.mask
-special_word false false s l = within_word COMMAND_MASK s.dma.dmac (omega arith) l.command
+special_word a b s l =
+    grind (arith, pending_is_word s.interrupts l.pending, within_word LINE_MASK s.interrupts.mask (omega arith) l.mask, within_word COMMAND_MASK s.dma.dmac (omega arith) l.command)
 
 value_word : (s : State) (o : Operand) → HasWords s → HasLines s → IsSmall o → IsWord (value s o)
 value_word s (Reg r) h l k = h.regs r
@@ -151,9 +150,7 @@ frame_words locals fp h k =
 -- ---- loads and stores
 
 filled_word : (signed b : Bool) (width v : ℕ) → v < 2 ^ width → IsWord v → IsWord (cond signed (cond b v (v + 2 ^ 32 - 2 ^ width)) v)
-filled_word true true width v h k = k
-filled_word true false width v h k = omega (arith, h, k)
-filled_word false b width v h k = k
+filled_word signed b width v h k = grind (arith, h, k)
 
 loaded_words : (size : Size) (signed : Bool) (m : Memory) (a : ℕ) → ((x : ℕ) → m.bytes x < 256) → AreWords (loaded size signed m a)
 loaded_words Byte signed m a h = let k = h a in (filled_word signed _ 8 (m.bytes a) k (omega (arith, k)), tt)
