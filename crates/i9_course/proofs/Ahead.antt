@@ -1,6 +1,6 @@
 -- What lies ahead issues no earlier than what has issued, and which faults are imprecise.
-use Rattle.std.proofs.Common.{◌≡◌, ℕ, ◌<◌, ◌≤◌, max, Bool, true, false, cond, ◌&&◌, ltb, List, [], ◌∷◌, Option, Some, None, refl, ap, ◌⊎◌, inl, inr, arith}
-use Rattle.std.specs.Prelude.{IsTrue, not, ◌==◌}
+use Rattle.std.proofs.Common.{◌≡◌, ℕ, ◌<◌, ◌≤◌, max, Bool, true, cond, ◌&&◌, ltb, List, ◌∷◌, Option, Some, None, ap, ◌⊎◌, arith}
+use Rattle.std.specs.Prelude.{IsTrue}
 use Rattle.std.proofs.lemmas.Bool.{le-ltb, and_parts}
 use Rattle.std.proofs.lemmas.Bool.Decides.{nat_tests}
 use Rattle.i9_isa.specs.declared.inst.Inst.{Inst}
@@ -8,14 +8,14 @@ use Rattle.i9_model.specs.declared.faults.TheConstants.{ARITHMETIC}
 use Rattle.i9_model.specs.declared.faults.Fault.{Fault}
 use Rattle.i9_model.specs.declared.need.Need.{Need}
 use Rattle.i9_model.specs.State.{State}
-use Rattle.i9_model.specs.HeldFrames.{Cache, cache_after}
-use Rattle.i9_model.specs.Standing.{Standing, Meets, Refused, Faults, Runs, stands_at}
-use Rattle.i9_model.specs.Run.{Given, Kind, Instruction, Faulted, Entered, Interrupted, Reached, Record, Next, next_by_standing, state_after}
+use Rattle.i9_model.specs.HeldFrames.{Cache}
+use Rattle.i9_model.specs.Standing.{Standing}
+use Rattle.i9_model.specs.Run.{Given, Kind, Faulted, Record, Next, next_by_standing, state_after}
 use Rattle.i9_model.specs.Turns.{CanIssue, last_issue, end_turn, waiting_until}
 use Rattle.i9_model.specs.Late.{Late, turns}
 use Rattle.i9_turns.proofs.TurnWhole.{timed-issues}
 use Rattle.i9_course.specs.NeedOf.{stands_alone, need_of, need_ahead}
-use Rattle.i9_course.specs.Course.{Item, Fence, records_of, course, need_after, issue_of_next, instruction_ahead, late_fault, last_fault, last_done, is_overtaken, imprecise_at, to_issue, ahead}
+use Rattle.i9_course.specs.Course.{Item, Fence, records_of, course, need_after, issue_of_next, instruction_ahead, late_fault, last_done, imprecise_at, to_issue, ahead}
 use Rattle.i9_course.proofs.Timed.{course_timed}
 use Rattle.i9_course.proofs.Barriers.{waits_for_all, last_reached, next_by_end}
 
@@ -56,58 +56,32 @@ ahead_can g h e = next_can g h (ahead g h).next
 -- ---- which faults are imprecise
 
 pub some_both : (b : Bool) (o : Option ℕ) (a : ℕ) → cond b o None ≡ Some a → (b ≡ true) × (o ≡ Some a)
-some_both true o a h = (refl, h)
-some_both false o a h = absurd (cc h)
+some_both b o a h = grind arith
 
 -- only one of which the last record is, and which is overtaken, within the length
 pub imprecise_overtaken : (g : Given) (h : List Item) (a : ℕ) → (ahead g h).imprecise ≡ Some a
     → ((ahead g h).turn < last_done (course g h).late) × ((state_after g (records_of h)).count < g.length)
-imprecise_overtaken g h a e =
-    let s = state_after g (records_of h) in
-    let p = some_both (is_overtaken g h) (last_fault (records_of h)) a e in
-    let q = and_parts (ltb s.count g.length)
-    (ltb (issue_of_next g h (instruction_ahead s)) (last_done (course g h).late)) p.0 in
-    let turn : (ahead g h).turn ≡ issue_of_next g h (instruction_ahead s) =
-    ap (λ (o : Option ℕ). issue_of_next g h (to_issue g h o)) e in
-    (grind (arith, nat_tests, turn, q.1), grind (arith, nat_tests, q.0))
+imprecise_overtaken g h a e = grind (arith, some_both, and_parts, nat_tests)
 
 pub late_only : (k : Kind) (a : ℕ) → late_fault k ≡ Some a → (inst : Option Inst) × (f : Fault) × (k ≡ Faulted inst f)
     × (f.kind ≡ ARITHMETIC) × (f.address ≡ a)
-late_only (Instruction i) a e = absurd (cc e)
-late_only (Entered x) a e = absurd (cc e)
-late_only (Interrupted c x) a e = absurd (cc e)
-late_only (Reached x u) a e = absurd (cc e)
-late_only (Faulted inst f) a e = by_kind (f.kind == ARITHMETIC) refl e
-  where
-    by_kind : (b : Bool) → (f.kind == ARITHMETIC) ≡ b → cond (not b) None (Some f.address) ≡ Some a
-        → (inst' : Option Inst) × (f' : Fault) × (Faulted inst f ≡ Faulted inst' f') × (f'.kind ≡ ARITHMETIC)
-        × (f'.address ≡ a)
-    by_kind true is h = (inst, f, refl, grind (arith, nat_tests, is), cc h)
-    by_kind false is h = absurd (cc h)
+late_only k a e = grind (arith, nat_tests)
 
 pub imprecise_only : (g : Given) (h : List Item) (a : ℕ) → (ahead g h).imprecise ≡ Some a
     → (r : Record) × (rs : List Record) × (inst : Option Inst) × (f : Fault) × (records_of h ≡ r ∷ rs)
     × (r.kind ≡ Faulted inst f) × (f.kind ≡ ARITHMETIC) × (f.address ≡ a)
-imprecise_only g h a e = by_last (records_of h) refl (some_both (is_overtaken g h) (last_fault (records_of h)) a e).1
-  where
-    by_last : (qs : List Record) → records_of h ≡ qs → last_fault qs ≡ Some a
-        → (r : Record) × (rs : List Record) × (inst : Option Inst) × (f : Fault) × (records_of h ≡ r ∷ rs)
-        × (r.kind ≡ Faulted inst f) × (f.kind ≡ ARITHMETIC) × (f.address ≡ a)
-    by_last [] is none = absurd (cc none)
-    by_last (r ∷ rs) is one = let p = late_only r.kind a one in (r, rs, p.0, p.1, is, p.2, p.3, p.4)
+imprecise_only g h a e = grind (arith, some_both, late_only)
 
 -- ---- where none is
 
 none_overtaken : (b : Bool) (t d : ℕ) (o : Option ℕ) → d ≤ t → cond (b && ltb t d) o None ≡ None
-none_overtaken true t d o le = ap (λ (c : Bool). cond c o None) (le-ltb t d le)
-none_overtaken false t d o le = refl
+none_overtaken b t d o le = grind (arith, nat_tests, le-ltb)
 
 -- where the instruction ahead waits until the last record is done
 pub precise_by : (g : Given) (h : List Item)
     → last_done (course g h).late ≤ issue_of_next g h (instruction_ahead (state_after g (records_of h)))
     → (ahead g h).imprecise ≡ None
-precise_by g h le = none_overtaken (ltb (state_after g (records_of h)).count g.length) _ _
-    (last_fault (records_of h)) le
+precise_by g h le = grind (arith, nat_tests, none_overtaken)
 
 -- so it does behind a fence
 pub fenced_precise : (g : Given) (h : List Item) → (ahead g (Fence ∷ h)).imprecise ≡ None
@@ -123,20 +97,12 @@ alone_need : (asked : Option ℕ) (c : Cache) (s : State) (x : Standing) → IsT
     → IsTrue (need_ahead asked c (next_by_standing s x)).barrier
     ⊎ IsTrue (need_ahead asked c (next_by_standing s x)).alone
 unfolding need_of
-alone_need asked c s (Meets a) alone = inl refl
-alone_need asked c s (Refused number) alone = inl refl
-alone_need asked c s (Faults i number) alone = inr alone
-alone_need asked c s (Runs i) alone = inr alone
+alone_need asked c s x alone = grind arith
 
 last_by : (xs : List Late) (n : Need) (t : ℕ) → CanIssue (last_issue (turns xs)) (turns xs) n t
     → IsTrue n.barrier ⊎ IsTrue n.alone → last_done xs ≤ t
-last_by [] n t can b = can.in_order
-last_by (x ∷ xs) n t can b = (waits_for_all n t (turns (x ∷ xs)) b can.each).0
+last_by xs n t can b = grind (arith, waits_for_all)
 
 pub alone_precise : (g : Given) (h : List Item) → IsTrue (stands_alone (state_after g (records_of h)))
     → (ahead g h).imprecise ≡ None
-alone_precise g h alone =
-    let s = state_after g (records_of h) in
-    let o = instruction_ahead s in
-    precise_by g h (last_by (course g h).late (waiting_until (course g h).fence (need_after g h o))
-    (issue_of_next g h o) (next_can g h o) (alone_need g.sets (cache_after g (records_of h)) s (stands_at s) alone))
+alone_precise g h alone = grind (arith, precise_by, last_by, next_can, alone_need)

@@ -1,5 +1,5 @@
 -- What passes nothing issues at the turn at which all records are done.
-use Rattle.std.proofs.Common.{◌≡◌, ℕ, ◌≤◌, Bool, true, false, ◌||◌, List, [], ◌∷◌, Some, None, refl, ◌⊎◌, inl, arith}
+use Rattle.std.proofs.Common.{◌≡◌, ℕ, ◌≤◌, Bool, true, ◌||◌, List, [], ◌∷◌, refl, ◌⊎◌, arith}
 use Rattle.std.specs.Prelude.{IsTrue}
 use Rattle.std.specs.List.{AllByRecursion}
 use Rattle.std.proofs.lemmas.Bool.Decides.{nat_tests}
@@ -7,15 +7,14 @@ use Rattle.i9_model.specs.declared.need.Need.{Need}
 use Rattle.i9_model.specs.declared.need.TimedNeed.{TimedNeed}
 use Rattle.i9_model.specs.State.{State}
 use Rattle.i9_model.specs.HeldFrames.{Cache, sets_in, cache_after}
-use Rattle.i9_model.specs.Run.{Given, Kind, Instruction, Faulted, Entered, Interrupted, Reached, Next, Does, Ends, Record, Finish}
+use Rattle.i9_model.specs.Run.{Given, Kind, Next, Does, Ends, Record, Finish}
 use Rattle.i9_model.specs.Turns.{Permits, CanIssue, IsTimed, TakesTurns, AreAllDone, last_issue, issue_turn, end_turn, waiting_until}
-use Rattle.i9_model.specs.Needs.{is_barrier_name, writes_sfr}
 use Rattle.i9_model.specs.Late.{Late, turns}
 use Rattle.i9_turns.proofs.TurnOpen.{timed-take_time}
 use Rattle.i9_turns.proofs.TurnWhole.{timed-issues}
 use Rattle.i9_turns.proofs.Barriers.{none_open, all_permit}
 use Rattle.i9_turns.proofs.TurnFences.{all-end, end-least}
-use Rattle.i9_course.specs.NeedOf.{is_early, facts_of, need_of, is_barrier_kind}
+use Rattle.i9_course.specs.NeedOf.{need_of, is_barrier_kind}
 use Rattle.i9_course.specs.Course.{Item, Step, Fence, records_of, course, issue_after, late_after, need_after, issue_of_next, last_done}
 use Rattle.i9_course.proofs.Timed.{course_timed, course_costs, first_of}
 
@@ -45,12 +44,7 @@ issues_by_end n rs h c early =
 -- so what passes nothing waits for no more
 pub barrier_turn : (n : Need) (rs : List TimedNeed) → IsTimed rs → TakesTurns rs → IsTrue n.barrier
     → n.not_before ≤ end_turn rs → issue_turn (last_issue rs) rs n ≡ end_turn rs
-barrier_turn n rs h c b early =
-    let can = (timed-issues rs n h).can in
-    let le : issue_turn (last_issue rs) rs n ≤ end_turn rs = issues_by_end n rs h c early in
-    let ge : end_turn rs ≤ issue_turn (last_issue rs) rs n =
-    end-least rs _ (record { in_order = can.in_order; done = waits_for_all n _ rs (inl b) can.each }) in
-    omega (arith, le, ge)
+barrier_turn n rs h c b early = grind (arith, timed-issues, issues_by_end, end-least, waits_for_all)
 
 -- ---- fences
 
@@ -73,8 +67,7 @@ fence_reached g (Step r ∷ h) =
 
 -- the last record is done by then
 pub last_reached : (xs : List Late) → last_done xs ≤ end_turn (turns xs)
-last_reached [] = omega arith
-last_reached (x ∷ xs) = (all-end (turns (x ∷ xs))).done.0
+last_reached xs = grind (arith, all-end)
 
 -- ---- what comes next
 
@@ -88,13 +81,10 @@ barrier_after g h n b none =
 -- no record waits for a turn of its own
 pub need_unbound : (n : ℕ) (c : Cache) (s : State) (k : Kind) → (need_of n c s k).not_before ≡ 0
 unfolding need_of
-need_unbound n c s (Faulted None fault) = refl
-need_unbound n c s (Faulted (Some i) fault) = refl
-need_unbound n c s _ = refl
+need_unbound n c s k = grind arith
 
 next_unbound : (g : Given) (h : List Item) (o : Next) → (need_after g h o).not_before ≡ 0
-next_unbound g h (Does r) = need_unbound (sets_in g.sets r.before) (cache_after g (records_of h)) r.before r.kind
-next_unbound g h (Ends f) = refl
+next_unbound g h o = grind (arith, need_unbound)
 
 -- whatever comes next issues no later than that
 pub next_by_end : (g : Given) (h : List Item) (o : Next)
@@ -117,14 +107,7 @@ by_fault a b c d e f h = grind (arith, nat_tests, h)
 pub kind_barrier : (n : ℕ) (c : Cache) (s : State) (k : Kind) → IsTrue (is_barrier_kind k)
     → IsTrue (need_of n c s k).barrier
 unfolding need_of
-kind_barrier n c s (Instruction i) b = first_of _ _ _ _ _ _ b
-kind_barrier n c s (Faulted None fault) b = refl
-kind_barrier n c s (Faulted (Some i) fault) b =
-    let f = facts_of i s 0 (is_early fault) false in
-    by_fault (is_barrier_name i.op) (writes_sfr i) f.port (is_early fault) false false b
-kind_barrier n c s (Entered e) b = refl
-kind_barrier n c s (Interrupted x e) b = refl
-kind_barrier n c s (Reached e u) b = refl
+kind_barrier n c s k b = grind (arith, first_of, by_fault)
 
 pub record_barrier : (g : Given) (h : List Item) (r : Record) → IsTrue (is_barrier_kind r.kind)
     → issue_of_next g h (Does r) ≡ end_turn (turns (course g h).late)

@@ -1,5 +1,5 @@
 -- The check flag is set only behind a barrier, so that what comes next waits for all.
-use Rattle.std.proofs.Common.{◌≡◌, ℕ, ◌≤◌, true, false, List, [], ◌∷◌, Option, Some, None, refl, sym, ap, ◌∙◌, inl, inr, arith}
+use Rattle.std.proofs.Common.{◌≡◌, ℕ, ◌≤◌, true, false, List, [], ◌∷◌, Option, None, refl, sym, ap, ◌∙◌, inl, arith}
 use Rattle.std.specs.Prelude.{IsTrue}
 use Rattle.std.specs.List.{AllByRecursion}
 use Rattle.std.proofs.lemmas.Bool.{cases_Bool, both_ways}
@@ -8,11 +8,11 @@ use Rattle.i9_model.specs.declared.need.Need.{Need}
 use Rattle.i9_model.specs.declared.need.TimedNeed.{TimedNeed}
 use Rattle.i9_model.specs.declared.trace.Trace.{Trace}
 use Rattle.i9_model.specs.State.{State, started, boot}
-use Rattle.i9_model.specs.Controls.{Control, KeepsControls, controlled}
+use Rattle.i9_model.specs.Controls.{KeepsControls}
 use Rattle.i9_model.specs.Step.{Action, faulting, moved, flagged, acted}
 use Rattle.i9_model.specs.Traced.{traced_action}
 use Rattle.i9_model.specs.HeldFrames.{Cache, sets_in, cache_after}
-use Rattle.i9_model.specs.Run.{Given, Kind, Instruction, Faulted, Entered, Interrupted, Reached, Record, after_kind, faulted_words, state_after}
+use Rattle.i9_model.specs.Run.{Given, Kind, Record, after_kind, state_after}
 use Rattle.i9_model.specs.Turns.{CanIssue, IsTimed, last_issue, end_turn}
 use Rattle.i9_model.specs.Needs.{is_barrier_name}
 use Rattle.i9_model.specs.Late.{turns}
@@ -28,20 +28,15 @@ use Rattle.i9_course.proofs.NeedActs.{instruction_keeps}
 -- ---- the check flag behind a record
 
 flagged_check : (t : Option Trace) (s : State) → (flagged t s).check ≡ s.check
-flagged_check None s = refl
-flagged_check (Some t) s = refl
+flagged_check t s = grind arith
 
 -- what keeps the controls leaves the check flag as it says
 acted_check : (s : State) (a : Action) → a.control ≡ KeepsControls → (acted s a).check ≡ a.check
 unfolding acted moved
-acted_check s a keeps =
-    flagged_check a.trace (controlled (moved s a) a.control)
-    ∙ ap (λ (c : Control). (controlled (moved s a) c).check) keeps
+acted_check s a keeps = grind (arith, flagged_check)
 
 instruction_check : (i : Inst) (s : State) → is_barrier_name i.op ≡ false → (acted s (traced_action i s)).check ≡ false
-instruction_check i s other =
-    let keeps = instruction_keeps i s other in
-    acted_check s (traced_action i s) keeps.control ∙ keeps.check
+instruction_check i s other = grind (arith, instruction_keeps, acted_check)
 
 fault_check : (words : ℕ) (s : State) → (acted s (faulting words s)).check ≡ false
 fault_check words s = acted_check s (faulting words s) refl
@@ -49,16 +44,7 @@ fault_check words s = acted_check s (faulting words s) refl
 -- only a barrier leaves it set
 check_barrier : (n : ℕ) (c : Cache) (s : State) (k : Kind) → (after_kind k s).check ≡ true
     → IsTrue (need_of n c s k).barrier
-check_barrier n c s (Instruction i) set =
-    elim (cases_Bool (is_barrier_name i.op)) [
-      | inl barrier ↦ kind_barrier n c s (Instruction i) barrier
-      | inr other ↦ absurd (both_ways (acted s (traced_action i s)).check (instruction_check i s other) set)
-    ]
-check_barrier n c s (Faulted inst fault) set =
-    absurd (both_ways (acted s (faulting (faulted_words inst) s)).check (fault_check (faulted_words inst) s) set)
-check_barrier n c s (Entered e) set = kind_barrier n c s (Entered e) refl
-check_barrier n c s (Interrupted x e) set = kind_barrier n c s (Interrupted x e) refl
-check_barrier n c s (Reached e u) set = kind_barrier n c s (Reached e u) refl
+check_barrier n c s k set = grind (arith, cases_Bool, kind_barrier, both_ways, instruction_check, fault_check)
 
 -- ---- behind a barrier
 

@@ -1,11 +1,11 @@
 -- A spill and a flush write 64 bytes for each frame that they move.
-use Rattle.std.proofs.Common.{◌≡◌, ◌≢◌, ℕ, suc, ◌+◌, ◌*◌, ◌≤◌, Bool, true, false, cond, ltb, List, [], ◌∷◌, length, refl, ap, arith, length-append}
+use Rattle.std.proofs.Common.{◌≡◌, ◌≢◌, ℕ, suc, ◌+◌, ◌*◌, ◌≤◌, Bool, cond, ltb, List, [], ◌∷◌, length, refl, ap, arith, length-append}
 use Rattle.std.proofs.lemmas.Bool.Decides.{nat_tests}
 use Rattle.i9_model.specs.declared.frame.Frame.{Frame}
 use Rattle.i9_model.specs.declared.layout.TheConstants.{LOCALS, FRAME_SIZE}
 use Rattle.i9_model.specs.Writes.{upwards}
 use Rattle.i9_model.specs.Memory.{Memory}
-use Rattle.i9_model.specs.Step.{Move, Stays, Saves, Returns, Flushes, bytes_of_words}
+use Rattle.i9_model.specs.Step.{Move, Returns}
 use Rattle.i9_model.specs.HeldFrames.{Cache, AreWhole}
 use Rattle.i9_model.proofs.Lengths.{words_long}
 use Rattle.i9_course.specs.NeedOf.{moved_frames}
@@ -16,10 +16,7 @@ as_long a [] = refl
 as_long a (b ∷ bs) = ap suc (as_long (a + 1) bs)
 
 frame_long : (m : Memory) (f : Frame) → length f.words ≡ LOCALS → length (frame_writes m f) ≡ FRAME_SIZE
-frame_long m f whole =
-    let run = as_long f.address (bytes_of_words m f.address f.words) in
-    let words = words_long m f.address f.words in
-    omega (arith, run, words, whole)
+frame_long m f whole = grind (arith, as_long, words_long)
 
 all_long : (m : Memory) (fs : List Frame) → AreWhole fs → length (all_writes m fs) ≡ FRAME_SIZE * length fs
 all_long m [] whole = refl
@@ -31,14 +28,8 @@ all_long m (f ∷ fs) whole =
 
 spill_long : (b : Bool) (n : ℕ) (m : Memory) (fs : List Frame) → ltb (length fs) n ≡ b → 1 ≤ n → AreWhole fs
     → length (cond b [] (oldest_writes m fs)) ≡ FRAME_SIZE * cond b 0 1
-spill_long true n m fs room some whole = refl
-spill_long false n m [] room some whole = absurd (grind (arith, nat_tests, room, some))
-spill_long false n m (f ∷ fs) room some whole = frame_long m f whole.0
+spill_long b n m fs room some whole = grind (arith, nat_tests, frame_long)
 
 pub writes_counted : (n : ℕ) (c : Cache) (v : Move) → 1 ≤ n → AreWhole c.held → v ≢ Returns
     → length (move_writes n c v) ≡ FRAME_SIZE * moved_frames n c v
-writes_counted n c Stays some whole other = refl
-writes_counted n c (Saves save words) some whole other =
-    spill_long (ltb (length c.held) n) n c.behind c.held refl some whole
-writes_counted n c Returns some whole other = absurd (other refl)
-writes_counted n c Flushes some whole other = all_long c.behind c.held whole
+writes_counted n c v some whole other = grind (arith, nat_tests, spill_long, all_long)

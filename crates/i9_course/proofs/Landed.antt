@@ -5,7 +5,7 @@ use Rattle.i9_model.specs.Memory.{stored}
 use Rattle.i9_model.specs.HeldFrames.{cache_after}
 use Rattle.i9_model.specs.Run.{Given, Record}
 use Rattle.i9_model.specs.Turns.{end_turn}
-use Rattle.i9_model.specs.Late.{Late, Wait, turns, all_puts, RequestsDone, AllDone}
+use Rattle.i9_model.specs.Late.{Late, Wait, turns, RequestsDone, AllDone}
 use Rattle.i9_turns.proofs.TurnFences.{all-end}
 use Rattle.i9_model.proofs.Stored.{stored-none}
 use Rattle.i9_turns.proofs.LateQueues.{waits-before}
@@ -45,8 +45,7 @@ request_last g h r k lands request =
 -- memory is that behind the held frames
 settled_now : (g : Given) (h : List Item) (k : Kernel) → Lands g h k → k.queue ≡ []
     → (cache_after g (records_of h)).behind.bytes ≡ k.bytes
-settled_now g h k lands none =
-    sym (lands_memory g h k lands) ∙ ap (λ (ws : List Wait). stored k.bytes (all_puts ws)) none ∙ stored-none k.bytes
+settled_now g h k lands none = grind (arith, lands_memory, stored-none)
 
 pub acts_at_once : (g : Given) (h : List Item) (r : Record) (k j : Kernel) → Lands g h k → k.queue ≡ []
     → j.bytes ≡ (cache_after g (r ∷ records_of h)).behind.bytes → j.bytes ≡ stored k.bytes (late_after g h r).puts

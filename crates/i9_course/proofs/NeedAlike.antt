@@ -1,33 +1,30 @@
 -- States that are alike give the same need.
-use Rattle.std.proofs.Common.{◌≡◌, ℕ, Bool, true, false, ◌||◌, Option, Some, None, refl, sym, ap, ◌∙◌, inl, inr}
-use Rattle.std.specs.Option.{is_some, option_map}
+use Rattle.std.proofs.Common.{◌≡◌, ℕ, Bool, false, Option, Some, None, refl, sym, ap, ◌∙◌, arith}
+use Rattle.std.specs.Option.{option_map}
 use Rattle.std.proofs.lemmas.Bool.{cases_Bool}
 use Rattle.i9_isa.specs.declared.op.Op.{Op}
-use Rattle.i9_isa.specs.declared.op.Op.TheVariants.{Calls, Ret, Sysctl}
+use Rattle.i9_isa.specs.declared.op.Op.TheVariants.{Sysctl}
 use Rattle.i9_isa.specs.declared.inst.Inst.{Inst}
 use Rattle.i9_isa.specs.declared.size.Size.{Size}
 use Rattle.i9_isa.specs.declared.size.Direction.{Direction}
-use Rattle.i9_isa.specs.declared.size.Direction.TheVariants.{Load, Store}
 use Rattle.i9_isa.specs.declared.size.Transfer.{Transfer}
 use Rattle.i9_isa.specs.Transfers.{transfer_of}
 use Rattle.i9_model.specs.declared.need.Facts.{Facts}
 use Rattle.i9_model.specs.declared.trace.Seen.{Seen}
-use Rattle.i9_model.specs.declared.trace.Trace.{Trace}
-use Rattle.i9_model.specs.State.{State, TraceControls}
-use Rattle.i9_model.specs.Controls.{Control, controlled}
+use Rattle.i9_model.specs.State.{State}
 use Rattle.i9_model.specs.Branches.{is_taken}
 use Rattle.i9_model.specs.Operands.{value}
 use Rattle.i9_model.specs.Tracing.{trace_of}
-use Rattle.i9_model.specs.Step.{Action, Message, AsksNothing, AsksCheck, AsksInterrupt, AsksRestart, AsksGroup, moving, asked_message, message_action, action_by_name, action_by, action_of, flagged, moved, acted}
+use Rattle.i9_model.specs.Step.{Action, Message, moving, asked_message, message_action, action_by_name, action_by, action_of, moved, acted}
 use Rattle.i9_model.specs.Access.{Access, message_access, access_by_name, access_by, access_of, data_of}
-use Rattle.i9_model.specs.Traced.{switches, seen_of, trace_left, traced_action}
+use Rattle.i9_model.specs.Traced.{switches, traced_action}
 use Rattle.i9_model.specs.Alike.{with_other, with_memory, AreAlike, AreNextAlike}
-use Rattle.i9_model.specs.HeldFrames.{Cache, sets_in}
-use Rattle.i9_model.specs.Run.{Next, Does, Ends, Kind, Instruction, Faulted, Entered, Interrupted, Reached}
-use Rattle.i9_model.specs.Needs.{is_barrier_name, inst_need, writes_sfr}
+use Rattle.i9_model.specs.HeldFrames.{Cache}
+use Rattle.i9_model.specs.Run.{Next, Kind, Instruction}
+use Rattle.i9_model.specs.Needs.{is_barrier_name, inst_need}
 use Rattle.i9_past.proofs.Untraced.{action_untraced}
 use Rattle.i9_course.proofs.NeedActs.{Keeps, instruction_keeps}
-use Rattle.i9_course.specs.NeedOf.{moved_frames, touches_port, access_waits, facts_of, is_early, need_of, need_ahead}
+use Rattle.i9_course.specs.NeedOf.{moved_frames, touches_port, access_waits, facts_of, need_of, need_ahead}
 
 -- ---- the frames that are moved and the access do not depend on bytes of memory
 
@@ -38,11 +35,7 @@ module _ (n : ℕ) (c : Cache) (i : Inst) (s : State) (bytes : ℕ → ℕ) wher
   message_same : (m : Message)
       → AreSame n c (message_action m i (with_memory s bytes)) (message_action m i s)
       (message_access m i (with_memory s bytes)) (message_access m i s)
-  message_same AsksNothing = (refl, refl)
-  message_same AsksCheck = (refl, refl)
-  message_same AsksInterrupt = (refl, refl)
-  message_same AsksRestart = (refl, refl)
-  message_same AsksGroup = (refl, refl)
+  message_same m = grind arith
 
   name_same : (op : Op)
       → AreSame n c (action_by_name op i (with_memory s bytes)) (action_by_name op i s)
@@ -53,8 +46,7 @@ module _ (n : ℕ) (c : Cache) (i : Inst) (s : State) (bytes : ℕ → ℕ) wher
   moving_frames : (d : Direction) (size : Size) (signed : Bool)
       → moved_frames n c (moving d size signed i (with_memory s bytes)).move
       ≡ moved_frames n c (moving d size signed i s).move
-  moving_frames Load size signed = refl
-  moving_frames Store size signed = refl
+  moving_frames d size signed = grind arith
 
   action_same : AreSame n c (action_of i (with_memory s bytes)) (action_of i s)
       (access_of i (with_memory s bytes)) (access_of i s)
@@ -71,15 +63,10 @@ module _ (n : ℕ) (c : Cache) (i : Inst) (s : State) (bytes : ℕ → ℕ) wher
 
 trace_kept : (s : State) (a : Action) → a.trace ≡ None → Keeps s a → (acted s a).trace ≡ s.trace
 unfolding acted moved
-trace_kept s a none k =
-    ap (λ (o : Option Trace). (flagged o (controlled (moved s a) a.control)).trace) none
-    ∙ ap (λ (x : Control). (controlled (moved s a) x).trace) k.control
-    ∙ ap (λ (x : ℕ). record s.trace { tc = x }) k.tc
+trace_kept s a none k = grind arith
 
 no_switch : (op : Op) (s : State) (a : Action) → is_barrier_name op ≡ false → switches op s a ≡ false
-no_switch Calls s a h = absurd (cc h)
-no_switch Ret s a h = absurd (cc h)
-no_switch _ s a h = refl
+no_switch op s a h = grind arith
 
 -- what is seen of it
 abbrev plain_seen : Inst → State → Access → Seen
@@ -92,11 +79,7 @@ plain_seen i s x = record {
 
 plain_trace : (i : Inst) (s : State) → is_barrier_name i.op ≡ false
     → (traced_action i s).trace ≡ trace_of s.trace.tc s.pc i (plain_seen i s (access_of i s)) s.trace.breaks
-plain_trace i s h =
-    let a = action_of i s in
-    ap (λ (x : TraceControls). trace_left i s a x) (trace_kept s a (action_untraced i s) (instruction_keeps i s h))
-    ∙ ap (λ (b : Bool). trace_of s.trace.tc s.pc i (record (seen_of i s a) { switched = b }) s.trace.breaks)
-    (no_switch i.op s a h)
+plain_trace i s h = grind (arith, trace_kept, action_untraced, instruction_keeps, no_switch)
 
 trace_same : (i : Inst) (s : State) (bytes : ℕ → ℕ) → access_of i (with_memory s bytes) ≡ access_of i s
     → is_barrier_name i.op ≡ false
@@ -110,10 +93,7 @@ trace_same i s bytes access h =
 
 pub waits_same : (s : State) (bytes : ℕ → ℕ) (x : Access)
     → access_waits (with_other s.memory bytes) x ≡ access_waits s.memory x
-waits_same s bytes (Access.Reads a n) = refl
-waits_same s bytes (Access.Writes a n) = refl
-waits_same s bytes (Access.Changes a n) = refl
-waits_same s bytes _ = refl
+waits_same s bytes x = grind arith
 
 -- by an access and its waits
 abbrev facts_by : Inst → State → Access → ℕ → ℕ → Bool → Bool → Facts
@@ -123,52 +103,24 @@ facts_by i s x waits frames fault trace =
 facts_same : (i : Inst) (s : State) (bytes : ℕ → ℕ) (frames : ℕ) (fault trace : Bool)
     → access_of i (with_memory s bytes) ≡ access_of i s
     → facts_of i (with_memory s bytes) frames fault trace ≡ facts_of i s frames fault trace
-facts_same i s bytes frames fault trace access =
-    let t = with_memory s bytes in
-    ap (λ (x : Access). facts_by i s x (access_waits t.memory x) frames fault trace) access
-    ∙ ap (λ (w : ℕ). facts_by i s (access_of i s) w frames fault trace) (waits_same s bytes (access_of i s))
+facts_same i s bytes frames fault trace access = grind (arith, waits_same)
 
 -- whether it raises a trace fault decides only whether it is a barrier
 trace_needed : (i : Inst) (s : State) (frames : ℕ) (p q : Bool) → (is_barrier_name i.op ≡ false → p ≡ q)
     → inst_need i (facts_of i s frames false p) ≡ inst_need i (facts_of i s frames false q)
-trace_needed i s frames p q same = elim (cases_Bool (is_barrier_name i.op)) [
-  | inl barrier ↦ by_barrier p barrier ∙ sym (by_barrier q barrier)
-  | inr other ↦ ap (λ (b : Bool). inst_need i (facts_of i s frames false b)) (same other)
-]
-  where
-    by_barrier : (b : Bool) → is_barrier_name i.op ≡ true
-        → inst_need i (facts_of i s frames false b) ≡ record
-        (inst_need i (facts_of i s frames false b)) { barrier = true }
-    by_barrier b h =
-        let n = inst_need i (facts_of i s frames false b) in
-        let port = touches_port (data_of (access_of i s)) in
-        ap (λ (x : Bool). record n { barrier = x || writes_sfr i || port || false || b || false }) h
+trace_needed i s frames p q same = grind (arith, cases_Bool)
 
 -- ---- needs
 
 instruction_same : (n : ℕ) (c : Cache) (i : Inst) (s : State) (bytes : ℕ → ℕ)
     → need_of n c (with_memory s bytes) (Instruction i) ≡ need_of n c s (Instruction i)
 unfolding need_of
-instruction_same n c i s bytes =
-    let t = with_memory s bytes in
-    let frames = moved_frames n c (action_of i s).move in
-    let trace = is_some (traced_action i t).trace in
-    let same = action_same n c i s bytes in
-    ap (λ (f : ℕ). inst_need i (facts_of i t f false trace)) same.0
-    ∙ ap (inst_need i) (facts_same i s bytes frames false trace same.1)
-    ∙ trace_needed i s frames trace (is_some (traced_action i s).trace)
-    (λ h. ap (λ (o : Option Trace). is_some o) (trace_same i s bytes same.1 h))
+instruction_same n c i s bytes = grind (arith, action_same, facts_same, trace_needed, trace_same)
 
 need_same : (n : ℕ) (c : Cache) (k : Kind) (s : State) (bytes : ℕ → ℕ)
     → need_of n c (with_memory s bytes) k ≡ need_of n c s k
 unfolding need_of
-need_same n c (Instruction i) s bytes = instruction_same n c i s bytes
-need_same n c (Faulted None fault) s bytes = refl
-need_same n c (Faulted (Some i) fault) s bytes =
-    ap (inst_need i) (facts_same i s bytes 0 (is_early fault) false (action_same n c i s bytes).1)
-need_same n c (Entered e) s bytes = refl
-need_same n c (Interrupted x e) s bytes = refl
-need_same n c (Reached e u) s bytes = refl
+need_same n c k s bytes = grind (arith, instruction_same, facts_same, action_same)
 
 pub need_alike : (n : ℕ) (c : Cache) (s t : State) (k : Kind) → AreAlike s t → need_of n c t k ≡ need_of n c s k
 need_alike n c s t k alike = ap (λ (u : State). need_of n c u k) alike.rest ∙ need_same n c k s t.memory.bytes
@@ -176,12 +128,4 @@ need_alike n c s t k alike = ap (λ (u : State). need_of n c u k) alike.rest ∙
 -- with the same number of sets, too
 pub next_need_alike : (asked : Option ℕ) (c : Cache) (o p : Next) → AreNextAlike o p
     → need_ahead asked c p ≡ need_ahead asked c o
-next_need_alike asked c (Does r) (Does q) alike =
-    let sets : sets_in asked q.before ≡ sets_in asked r.before =
-    ap (λ (s : State). sets_in asked s) alike.before.rest in
-    ap (λ (n : ℕ). need_of n c q.before q.kind) sets
-    ∙ ap (need_of (sets_in asked r.before) c q.before) alike.kind
-    ∙ need_alike (sets_in asked r.before) c r.before q.before r.kind alike.before
-next_need_alike asked c (Ends f) (Ends g) alike = refl
-next_need_alike asked c (Does r) (Ends g) alike = absurd alike
-next_need_alike asked c (Ends f) (Does q) alike = absurd alike
+next_need_alike asked c o p alike = grind (arith, need_alike)

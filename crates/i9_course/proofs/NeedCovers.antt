@@ -12,7 +12,7 @@ use Rattle.i9_model.specs.Writes.{last_put}
 use Rattle.i9_model.specs.State.{State}
 use Rattle.i9_model.specs.HeldFrames.{Cache}
 use Rattle.i9_model.specs.Traced.{traced_action}
-use Rattle.i9_model.specs.Controls.{Control, KeepsControls, Restarts, LoadsGroup}
+use Rattle.i9_model.specs.Controls.{KeepsControls}
 use Rattle.i9_model.specs.Step.{Action, push_sets, action_of}
 use Rattle.i9_model.specs.Run.{Kind, Instruction, Faulted, Entered, Interrupted, Reached, action_by_kind}
 use Rattle.i9_model.specs.Late.{resources}
@@ -39,12 +39,7 @@ start_written i r frame code h = grind (arith, nat_tests, frame, code, h)
 
 starts : (i : Inst) (s : State) → StartsAnew (action_of i s).control
     → (changes_frame i.op ≡ true) × (writes_code i.op ≡ true)
-starts i s h = restarts i s (by_control (action_of i s).control h)
-  where
-    by_control : (c : Control) → StartsAnew c → IsRestart c
-    by_control KeepsControls h = h
-    by_control (Restarts first prcb) h = h
-    by_control (LoadsGroup group) h = h
+starts i s h = grind (arith, restarts, IsRestart)
 
 -- ---- by the kind
 
@@ -62,11 +57,7 @@ instruction_covers f i s = record {
 -- what sets no register, leaves the condition code and keeps the controls
 still_covers : (writes : ℕ) (s : State) (a : Action) → ((r : ℕ) → last_put a.sets r ≡ None) → a.ac ≡ s.ac
     → a.control ≡ KeepsControls → IsCovered writes s a
-still_covers writes s a none same keeps = record {
-  sets = λ r lt out. none r;
-  code = λ out. ap (λ (x : ℕ). x % 8) same;
-  start = λ anew. absurd (subst StartsAnew keeps anew);
-}
+still_covers writes s a none same keeps = grind arith
 
 push_covers : (frames : ℕ) (p : Push) (s : State) (a : Action) → a.sets ≡ push_sets p → a.ac ≡ s.ac
     → a.control ≡ KeepsControls → IsCovered (entry_need frames).writes s a

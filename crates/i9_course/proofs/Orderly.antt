@@ -12,7 +12,7 @@ use Rattle.i9_model.specs.declared.event.Timed.{Timed}
 use Rattle.i9_model.specs.declared.event.When.{When}
 use Rattle.i9_model.specs.declared.event.When.TheVariants.{At, Turn}
 use Rattle.i9_model.specs.ScheduleText.{is_counted, IsByCounts, has_come_at, has_come_by, standing, standing_by}
-use Rattle.i9_model.specs.Run.{Given, Record, IsPast, IsPastOfSome, Does, record_of, after_kind, state_after, reached_after, next_with, next, due_after}
+use Rattle.i9_model.specs.Run.{Given, Record, IsPast, IsPastOfSome, Does, record_of, state_after, reached_after, next_with, next, due_after}
 use Rattle.i9_model.specs.Turns.{last_issue}
 use Rattle.i9_model.specs.Late.{turns, last_state, resource, resources, Leaves, IsOrderly, cell_at, latest, waiting, acted_memory, all_puts}
 use Rattle.i9_past.proofs.Comes.{next_comes}
@@ -83,14 +83,7 @@ step_leaves : (g : Given) (h : List Item) (r : Record) (k : ℕ) → r ≡ recor
     → k < resources
     → bit_at (need_of (sets_in g.sets r.before) (cache_after g (records_of h)) r.before r.kind).writes k ≡ 0
     → resource r.after k ≡ resource (last_state (boot g.image) (course g h).late) k
-step_leaves g h r k e lt none =
-    let s = state_after g (records_of h) in
-    let before : r.before ≡ s = ap (λ (q : Record). q.before) e in
-    let after : r.after ≡ after_kind r.kind r.before =
-    ap (λ (q : Record). q.after) e ∙ ap (after_kind r.kind) (sym before) in
-    ap (λ (x : State). resource x k) after
-    ∙ kind_keeps (sets_in g.sets r.before) (cache_after g (records_of h)) r.before r.kind k lt none
-    ∙ ap (λ (x : State). resource x k) (before ∙ sym (last_after g h))
+step_leaves g h r k e lt none = grind (arith, kind_keeps, last_after)
 
 pub course_leaves : (g : Given) (h : List Item) → IsCourse g h → Leaves (boot g.image) (course g h).late
 course_leaves g [] c = tt
@@ -112,7 +105,4 @@ registers_settle g h t r c le lt =
 pub memory_settles : (g : Given) (h : List Item) (t : ℕ) → last_issue (turns (course g h).late) ≤ t
     → stored (acted_memory (boot g.image).memory.bytes t (course g h).late) (all_puts (waiting t (course g h).late))
     ≡ (cache_after g (records_of h)).behind.bytes
-memory_settles g h t le =
-    memory-settles (boot g.image).memory.bytes t (course g h).late
-    (issued-by t (course g h).late (course_timed g h) le) (course_orderly g h)
-    ∙ course_settles g h
+memory_settles g h t le = grind (arith, memory-settles, issued-by, course_timed, course_orderly, course_settles)

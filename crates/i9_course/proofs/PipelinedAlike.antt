@@ -1,23 +1,21 @@
 -- Which fault is imprecise depends on the records and the length alone: frames that are moved cost turns in barriers.
-use Rattle.std.proofs.Common.{◌≡◌, ℕ, ◌+◌, ◌*◌, ◌≤◌, max, Bool, false, cond, ◌&&◌, List, [], ◌∷◌, Option, Some, None, refl, sym, ap, ◌∙◌, arith}
+use Rattle.std.proofs.Common.{◌≡◌, ℕ, ◌≤◌, Bool, false, ◌&&◌, List, [], ◌∷◌, Option, refl, ap, ◌∙◌, arith}
 use Rattle.std.specs.Prelude.{nat_lt}
 use Rattle.std.specs.List.{AllZip}
 use Rattle.i9_isa.specs.declared.op.Op.{Op}
-use Rattle.i9_isa.specs.declared.op.Op.TheVariants.{Call, Callx, Calls, Ret, Flushreg, Sysctl}
 use Rattle.i9_isa.specs.declared.inst.Inst.{Inst}
-use Rattle.i9_isa.specs.Costs.{latency_of}
 use Rattle.i9_model.specs.declared.need.Need.{Need}
 use Rattle.i9_model.specs.declared.need.TimedNeed.{TimedNeed}
 use Rattle.i9_model.specs.State.{State}
-use Rattle.i9_model.specs.HeldFrames.{Cache, sets_in, cache_after}
-use Rattle.i9_model.specs.Run.{Given, Kind, Instruction, Faulted, Entered, Interrupted, Reached, Record, Next, Does, Ends, state_after}
+use Rattle.i9_model.specs.HeldFrames.{Cache, cache_after}
+use Rattle.i9_model.specs.Run.{Given, Kind, Record, Next, Does, state_after}
 use Rattle.i9_model.specs.Turns.{HaveCosts, IsAlike, last_issue, issue_turn, waiting_until, with_need, timed}
-use Rattle.i9_model.specs.Needs.{has_access, moves_frames, is_barrier_name, writes_sfr, is_calm, cost_by, inst_need}
+use Rattle.i9_model.specs.Needs.{moves_frames, is_barrier_name, cost_by, inst_need}
 use Rattle.i9_model.specs.Late.{Late, turns}
 use Rattle.i9_turns.proofs.NeedLaws.{first_false}
 use Rattle.i9_turns.proofs.TurnAlike.{alike-overtakes}
 use Rattle.i9_course.specs.NeedOf.{facts_of, need_of, record_need, need_ahead}
-use Rattle.i9_course.specs.Course.{records_of, course, instruction_ahead, late_fault, last_done, is_overtaken, imprecise_at}
+use Rattle.i9_course.specs.Course.{records_of, course, instruction_ahead, last_done, is_overtaken, imprecise_at}
 use Rattle.i9_course.specs.PipelinedRun.{steps}
 use Rattle.i9_course.proofs.Timed.{need_cost}
 use Rattle.i9_course.proofs.PipelinedRuns.{records_of-steps, either_none}
@@ -25,33 +23,15 @@ use Rattle.i9_course.proofs.PipelinedRuns.{records_of-steps, either_none}
 -- ---- needs with other sets
 
 unmoved : (op : Op) → is_barrier_name op ≡ false → moves_frames op ≡ false
-unmoved Call h = absurd (cc h)
-unmoved Callx h = absurd (cc h)
-unmoved Calls h = absurd (cc h)
-unmoved Ret h = absurd (cc h)
-unmoved Flushreg h = absurd (cc h)
-unmoved Sysctl h = absurd (cc h)
-unmoved _ h = refl
+unmoved op h = grind arith
 
 cost_same : (op : Op) (waits a b : ℕ) → is_barrier_name op ≡ false → cost_by op waits a ≡ cost_by op waits b
-cost_same op waits a b h =
-    let rest = latency_of op + cond (has_access op) waits 0 in
-    ap (λ (m : Bool). rest + 16 * cond m a 0) (unmoved op h)
-    ∙ sym (ap (λ (m : Bool). rest + 16 * cond m b 0) (unmoved op h))
+cost_same op waits a b h = grind (arith, unmoved)
 
 -- an instruction that moves so many frames
 frames_alike : (i : Inst) (s : State) (a b : ℕ) (fault trace : Bool)
     → IsAlike (inst_need i (facts_of i s a fault trace)) (inst_need i (facts_of i s b fault trace))
-frames_alike i s a b fault trace =
-    let f = facts_of i s a fault trace in
-    record {
-      barrier = refl;
-      same = λ h.
-          let name = first_false (is_barrier_name i.op) (writes_sfr i) f.port fault trace false h in
-          let cost = cost_same i.op f.waits a b name in
-          ap (λ (t : ℕ). record (inst_need i f) { cost = cond (is_calm f) t 1 }) cost;
-      wait = λ h. refl;
-    }
+frames_alike i s a b fault trace = grind (arith, first_false, cost_same)
 
 need_itself : (n : Need) → n.not_before ≡ 0 → IsAlike n n
 need_itself n e = record { barrier = refl; same = λ h. refl; wait = λ h. e }
@@ -59,16 +39,10 @@ need_itself n e = record { barrier = refl; same = λ h. refl; wait = λ h. e }
 -- the same, or barriers
 pub sets_alike : (n m : ℕ) (c d : Cache) (s : State) (k : Kind) → IsAlike (need_of n c s k) (need_of m d s k)
 unfolding need_of
-sets_alike n m c d s (Instruction i) = frames_alike i s _ _ false _
-sets_alike n m c d s (Faulted None fault) = need_itself _ refl
-sets_alike n m c d s (Faulted (Some i) fault) = need_itself _ refl
-sets_alike n m c d s (Entered e) = record { barrier = refl; same = λ h. absurd (cc h); wait = λ h. refl }
-sets_alike n m c d s (Interrupted x e) = record { barrier = refl; same = λ h. absurd (cc h); wait = λ h. refl }
-sets_alike n m c d s (Reached e u) = need_itself _ refl
+sets_alike n m c d s k = grind (arith, frames_alike, need_itself)
 
 ahead_alike : (asked other : Option ℕ) (c d : Cache) (o : Next) → IsAlike (need_ahead asked c o) (need_ahead other d o)
-ahead_alike asked other c d (Does r) = sets_alike (sets_in asked r.before) (sets_in other r.before) c d r.before r.kind
-ahead_alike asked other c d (Ends f) = need_itself _ refl
+ahead_alike asked other c d o = grind (arith, sets_alike, need_itself)
 
 -- ---- the needs of records, newest first
 
@@ -82,8 +56,7 @@ needs_alike g k (r ∷ rs) =
     (ahead_alike g.sets k.sets (cache_after g rs) (cache_after k rs) (Does r), needs_alike g k rs)
 
 ahead_cost : (asked : Option ℕ) (c : Cache) (o : Next) → 1 ≤ (need_ahead asked c o).cost
-ahead_cost asked c (Does r) = (need_cost (sets_in asked r.before) c r.before r.kind).some
-ahead_cost asked c (Ends f) = omega arith
+ahead_cost asked c o = grind (arith, need_cost)
 
 needs_cost : (g : Given) (rs : List Record) → HaveCosts (needs g rs)
 needs_cost g [] = tt
@@ -92,9 +65,7 @@ needs_cost g (r ∷ rs) = (ahead_cost g.sets (cache_after g rs) (Does r), needs_
 -- ---- with no fence between them
 
 waits_none : (n : Need) → waiting_until 0 n ≡ n
-waits_none n =
-    let same : max 0 n.not_before ≡ n.not_before = omega arith in
-    ap (λ (t : ℕ). record n { not_before = t }) same
+waits_none n = grind arith
 
 no_fence : (g : Given) (rs : List Record) → (course g (steps rs)).fence ≡ 0
 no_fence g [] = refl
@@ -118,8 +89,7 @@ last_turn (r ∷ rs) = r.done
 
 last_done-turn : (xs : List Late) → last_done xs ≡ last_turn (turns xs)
 unfolding last_turn
-last_done-turn [] = refl
-last_done-turn (x ∷ xs) = refl
+last_done-turn xs = grind arith
 
 -- the need of the instruction ahead
 abbrev need_there : Given → List Record → Need
@@ -132,17 +102,7 @@ passes ts n = nat_lt (issue_turn (last_issue ts) ts n) (last_turn ts)
 steps_overtaken : (g : Given) (rs : List Record)
     → is_overtaken g (steps rs)
     ≡ (nat_lt (state_after g rs).count g.length && passes (timed (needs g rs)) (need_there g rs))
-steps_overtaken g rs =
-    let k = course g (steps rs) in
-    let before = turns k.late in
-    let test : List Record → Bool = λ qs. nat_lt (state_after g qs).count g.length in
-    let issued : Need → ℕ = λ n. issue_turn (last_issue before) before n in
-    let issue : ℕ → List Record → ℕ = λ t qs. issued (waiting_until t (need_there g qs)) in
-    ap (λ (qs : List Record). test qs && nat_lt (issue k.fence qs) (last_done k.late)) (records_of-steps rs)
-    ∙ ap (λ (t : ℕ). test rs && nat_lt (issue t rs) (last_done k.late)) (no_fence g rs)
-    ∙ ap (λ (n : Need). test rs && nat_lt (issued n) (last_done k.late)) (waits_none (need_there g rs))
-    ∙ ap (λ (t : ℕ). test rs && nat_lt (issued (need_there g rs)) t) (last_done-turn k.late)
-    ∙ ap (λ (ts : List TimedNeed). test rs && passes ts (need_there g rs)) (steps_turns g rs)
+steps_overtaken g rs = grind (arith, records_of-steps, no_fence, waits_none, last_done-turn, steps_turns)
 
 -- so it depends on the records and the test of the length alone
 passes_same : (g k : Given) (r : Record) (rs : List Record)
@@ -159,20 +119,9 @@ passes_same g k r rs =
 pub imprecise_where : (g k : Given) (rs : List Record)
     → nat_lt (state_after k rs).count k.length ≡ nat_lt (state_after g rs).count g.length
     → imprecise_at k (steps rs) ≡ imprecise_at g (steps rs)
-imprecise_where g k [] same =
-    either_none (is_overtaken k []) None refl ∙ sym (either_none (is_overtaken g []) None refl)
-imprecise_where g k (r ∷ rs) same =
-    let o = late_fault r.kind in
-    let there = passes (timed (needs k (r ∷ rs))) (need_there k (r ∷ rs)) in
-    ap (λ (b : Bool). cond b o None) (steps_overtaken k (r ∷ rs))
-    ∙ ap (λ (b : Bool). cond (b && there) o None) same
-    ∙ ap (λ (b : Bool). cond (nat_lt r.after.count g.length && b) o None) (passes_same g k r rs)
-    ∙ sym (ap (λ (b : Bool). cond b o None) (steps_overtaken g (r ∷ rs)))
+imprecise_where g k rs same = grind (arith, either_none, steps_overtaken, passes_same)
 
 -- at one length
 pub imprecise_same : (g k : Given) (rs : List Record) → k.length ≡ g.length
     → imprecise_at k (steps rs) ≡ imprecise_at g (steps rs)
-imprecise_same g k [] same =
-    either_none (is_overtaken k []) None refl ∙ sym (either_none (is_overtaken g []) None refl)
-imprecise_same g k (r ∷ rs) same =
-    imprecise_where g k (r ∷ rs) (ap (λ (n : ℕ). nat_lt r.after.count n) same)
+imprecise_same g k rs same = grind (arith, either_none, imprecise_where)

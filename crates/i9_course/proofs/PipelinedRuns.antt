@@ -1,6 +1,6 @@
 -- A run whose results land late is a run of the events that it reached, as far as it goes; it goes on to its end, and it
 -- is the only one.
-use Rattle.std.proofs.Common.{◌≡◌, ◌≢◌, ℕ, ◌≤◌, Bool, true, false, cond, List, [], ◌∷◌, ◌++◌, length, Option, Some, None, refl, sym, ap, ◌∙◌, subst, ◌⊎◌, inl, inr}
+use Rattle.std.proofs.Common.{◌≡◌, ◌≢◌, ℕ, ◌≤◌, Bool, false, cond, List, [], ◌∷◌, ◌++◌, length, Option, Some, None, refl, sym, ap, ◌∙◌, subst, ◌⊎◌, arith}
 use Rattle.i9_model.specs.declared.run.End.TheVariants.{Imprecise}
 use Rattle.i9_model.specs.ScheduleText.{IsByCounts}
 use Rattle.i9_model.specs.Run.{Given, Record, Next, Does, Ends, state_after, reached_after, next_with, next, IsPast, IsPastOf, IsPastOfSome, IsRun, Finish, finish, reached_in}
@@ -11,7 +11,7 @@ use Rattle.i9_past.proofs.Unique.{one_past, one_end, same_records}
 use Rattle.i9_course.proofs.Orderly.{course_events, counted_next, counted_past}
 use Rattle.i9_course.proofs.PlainEnds.{next_plain}
 use Rattle.i9_course.specs.Course.{Step, records_of, instruction_turn, event_ahead, comes_next, late_fault, is_overtaken, imprecise_at}
-use Rattle.i9_course.specs.PipelinedRun.{steps, IsPipelinedPast, ended_by, finish_by, finish_after, IsPipelinedRun, is_imprecise, HaveNoLateFault}
+use Rattle.i9_course.specs.PipelinedRun.{steps, IsPipelinedPast, finish_by, finish_after, IsPipelinedRun, is_imprecise, HaveNoLateFault}
 
 -- ---- the records of a pipelined run
 
@@ -71,16 +71,11 @@ late_of_past g k (r ∷ rs) precise counted past late =
 -- ---- its end
 
 not_both : (a : ℕ) (e : Finish) → ◌≡◌ {A = Option Finish} (Some (finish (Imprecise a))) (Some e) → is_imprecise e.end ≢ false
-not_both a e h plain =
-    let same : finish (Imprecise a) ≡ e = cc in
-    let is : true ≡ false = ap (λ (f : Finish). is_imprecise f.end) same ∙ plain in
-    cc is
+not_both a e h plain = grind arith
 
 ended_only : (o : Option ℕ) (x : Next) (e : Finish) → is_imprecise e.end ≡ false → finish_by o x ≡ Some e
     → (o ≡ None) × (x ≡ Ends e)
-ended_only (Some a) x e plain h = absurd (not_both a e h plain)
-ended_only None (Does r) e plain h = absurd (cc h)
-ended_only None (Ends f) e plain h = let same : f ≡ e = cc in (refl, ap Ends same)
+ended_only o x e plain h = grind (arith, not_both)
 
 imprecise_by : (o : Option ℕ) (x : Next) (a : ℕ) → ((f : Finish) → x ≡ Ends f → is_imprecise f.end ≡ false)
     → finish_by o x ≡ Some (finish (Imprecise a)) → o ≡ Some a
@@ -95,11 +90,7 @@ imprecise_by None (Ends f) a plain h = absurd (not_both a f (sym h) (plain f ref
 -- an end is no imprecise fault, or it is one by itself
 finish_cases : (o : Option ℕ) (x : Next) (f : Finish) → ((k : Finish) → x ≡ Ends k → is_imprecise k.end ≡ false)
     → finish_by o x ≡ Some f → (is_imprecise f.end ≡ false) ⊎ ((a : ℕ) × (f ≡ finish (Imprecise a)) × (o ≡ Some a))
-finish_cases (Some a) x f plain h = let same : finish (Imprecise a) ≡ f = cc in inr (a, sym same, refl)
-finish_cases None (Does r) f plain h = absurd (cc h)
-finish_cases None (Ends k) f plain h =
-    let same : k ≡ f = cc in
-    inl (ap (λ (x : Finish). is_imprecise x.end) (sym same) ∙ plain k refl)
+finish_cases o x f plain h = grind arith
 
 pub run_cases : (g : Given) (rs : List Record) (f : Finish) → IsPipelinedRun g rs f
     → (is_imprecise f.end ≡ false) ⊎ ((a : ℕ) × (f ≡ finish (Imprecise a)) × (imprecise_at g (steps rs) ≡ Some a))
@@ -129,10 +120,7 @@ run_ends g rs e plain run = ended_only (imprecise_at g (steps rs)) (comes_next g
 
 pub precise_run : (g : Given) (rs : List Record) (e : Finish) → IsPipelinedPast g rs → imprecise_at g (steps rs) ≡ None
     → comes_next g (steps rs) ≡ Ends e → IsPipelinedRun g rs e
-precise_run g rs e late none is = record {
-  past = late;
-  ends = ap (λ (o : Option ℕ). finish_by o (comes_next g (steps rs))) none ∙ ap ended_by is;
-}
+precise_run g rs e late none is = grind arith
 
 -- and a run of the events that were reached
 pub pipelined_run : (g : Given) (rs : List Record) (e : Finish) → is_imprecise e.end ≡ false → IsPipelinedRun g rs e
@@ -144,10 +132,7 @@ pipelined_run g rs e plain run = record {
 
 pub counted_run : (g : Given) (rs : List Record) (e : Finish) → IsByCounts g.plan → is_imprecise e.end ≡ false → IsPipelinedRun g rs e
     → IsRun g rs e
-counted_run g rs e counted plain run = record {
-  past = late_counted g rs counted run.past;
-  ends = sym (steps_counted g rs counted) ∙ (run_ends g rs e plain run).1;
-}
+counted_run g rs e counted plain run = grind (arith, late_counted, steps_counted, run_ends)
 
 -- its records are the first of that run
 pub late_first : (g : Given) (rs qs : List Record) (e : Finish) (f : Finish) → IsRun (with_plan g (reached_after qs)) rs e
@@ -166,8 +151,7 @@ counted_first g rs qs e f counted run late =
 -- ---- where no arithmetic fault is raised
 
 pub either_none : (b : Bool) (o : Option ℕ) → o ≡ None → cond b o None ≡ None
-either_none true o none = none
-either_none false o none = refl
+either_none b o none = grind arith
 
 pub none_precise : (g : Given) (rs : List Record) → HaveNoLateFault rs → imprecise_at g (steps rs) ≡ None
 none_precise g [] none = either_none (is_overtaken g []) None refl
@@ -180,9 +164,7 @@ none_late g (r ∷ rs) counted none past =
 
 pub none_run : (g : Given) (rs : List Record) (e : Finish) → IsByCounts g.plan → HaveNoLateFault rs → IsRun g rs e
     → IsPipelinedRun g rs e
-none_run g rs e counted none run =
-    precise_run g rs e (none_late g rs counted none run.past) (none_precise g rs none)
-    (steps_counted g rs counted ∙ run.ends)
+none_run g rs e counted none run = grind (arith, precise_run, none_late, none_precise, steps_counted)
 
 -- ---- what comes next of a pipelined run: an imprecise fault ends it
 
@@ -194,18 +176,13 @@ abbrev comes_late : Given → List Record → Next
 comes_late g rs = comes_by (imprecise_at g (steps rs)) (comes_next g (steps rs))
 
 does_only : (o : Option ℕ) (x : Next) (r : Record) → comes_by o x ≡ Does r → (o ≡ None) × (x ≡ Does r)
-does_only (Some a) x r h = absurd (cc h)
-does_only None x r h = (refl, h)
+does_only o x r h = grind arith
 
 ends_only : (o : Option ℕ) (x : Next) (f : Finish) → comes_by o x ≡ Ends f → finish_by o x ≡ Some f
-ends_only (Some a) x f h = let same : finish (Imprecise a) ≡ f = cc in ap Some same
-ends_only None (Does r) f h = absurd (cc h)
-ends_only None (Ends e) f h = let same : e ≡ f = cc in ap Some same
+ends_only o x f h = grind arith
 
 finish_only : (o : Option ℕ) (x : Next) (f : Finish) → finish_by o x ≡ Some f → comes_by o x ≡ Ends f
-finish_only (Some a) x f h = let same : finish (Imprecise a) ≡ f = cc in ap Ends same
-finish_only None (Does r) f h = absurd (cc h)
-finish_only None (Ends e) f h = let same : e ≡ f = cc in ap Ends same
+finish_only o x f h = grind arith
 
 past_of_pipelined : (g : Given) (rs : List Record) → IsPipelinedPast g rs → IsPastOf (comes_late g) rs
 past_of_pipelined g [] late = tt
@@ -252,7 +229,4 @@ late_end g rs qs e f a b =
 -- nothing is done behind the end
 pub none_behind : (g : Given) (rs : List Record) (q : Record) (f : Finish) → IsPipelinedRun g rs f
     → ¬ IsPipelinedPast g (q ∷ rs)
-none_behind g rs q f run late =
-    let none : finish_after g rs ≡ None =
-    ap (λ (o : Option ℕ). finish_by o (comes_next g (steps rs))) late.1 ∙ ap ended_by late.2 in
-    cc (sym run.ends ∙ none)
+none_behind g rs q f run late = grind arith

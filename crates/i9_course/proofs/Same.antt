@@ -1,14 +1,11 @@
 -- The turns of a course depend on the image and on the number of sets that is asked for, and on nothing else that a run is
 -- given.
-use Rattle.std.proofs.Common.{◌≡◌, ℕ, List, [], ◌∷◌, length, Option, refl, ap, ◌∙◌}
-use Rattle.i9_model.specs.declared.event.Timed.{Timed}
-use Rattle.i9_model.specs.State.{State, boot}
-use Rattle.i9_model.specs.ScheduleText.{standing_by}
+use Rattle.std.proofs.Common.{◌≡◌, ℕ, List, [], ◌∷◌, Option, refl, ap, ◌∙◌, arith}
+use Rattle.i9_model.specs.State.{boot}
 use Rattle.i9_model.specs.HeldFrames.{Cache, cache, sets_in, cache_acted, cache_configured, cache_after}
-use Rattle.i9_model.specs.Run.{Given, Record, action_done, state_after, reached_after}
+use Rattle.i9_model.specs.Run.{Given, Record, action_done}
 use Rattle.i9_past.proofs.Cuts.{state_by}
-use Rattle.i9_course.specs.NeedOf.{need_ahead}
-use Rattle.i9_course.specs.Course.{Item, Step, Fence, Course, records_of, late_of, with_late, with_fence, course, issue_after, instruction_ahead, instruction_turn, event_ahead}
+use Rattle.i9_course.specs.Course.{Item, Step, Fence, Course, records_of, late_of, with_late, with_fence, course, instruction_turn, event_ahead}
 
 module _ (g k : Given) (image : k.image ≡ g.image) (sets : k.sets ≡ g.sets) where
   pub same_cache : (rs : List Record) → cache_after k rs ≡ cache_after g rs
@@ -27,18 +24,8 @@ module _ (g k : Given) (image : k.image ≡ g.image) (sets : k.sets ≡ g.sets) 
       ∙ ap (λ (x : Course). with_late x (late_of g.sets (cache_after g rs) r x)) (same_course h)
 
   pub same_turn : (h : List Item) → instruction_turn k h ≡ instruction_turn g h
-  same_turn h =
-      let rs = records_of h in
-      ap (λ (x : Course). issue_after x (need_ahead k.sets (cache_after k rs) (instruction_ahead (state_after k rs)))) (same_course h)
-      ∙ ap (λ (o : Option ℕ). issue_after (course g h) (need_ahead o (cache_after k rs) (instruction_ahead (state_after k rs)))) sets
-      ∙ ap (λ (c : Cache). issue_after (course g h) (need_ahead g.sets c (instruction_ahead (state_after k rs)))) (same_cache rs)
-      ∙ ap (λ (s : State). issue_after (course g h) (need_ahead g.sets (cache_after g rs) (instruction_ahead s))) (state_by g k rs image)
+  same_turn h = grind (arith, same_course, same_cache, state_by)
 
   -- with the same plan, the same event stands there
   pub same_event : (h : List Item) → k.plan ≡ g.plan → event_ahead k h ≡ event_ahead g h
-  same_event h plan =
-      let rs = records_of h in
-      let place = length (reached_after rs) in
-      ap (λ (ts : List Timed). standing_by ts place (state_after k rs).count (instruction_turn k h)) plan
-      ∙ ap (λ (s : State). standing_by g.plan place s.count (instruction_turn k h)) (state_by g k rs image)
-      ∙ ap (standing_by g.plan place (state_after g rs).count) (same_turn h)
+  same_event h plan = grind (arith, state_by, same_turn)

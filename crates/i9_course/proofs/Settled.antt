@@ -1,10 +1,10 @@
 -- With everything landed, memory is that behind the held frames.
-use Rattle.std.proofs.Common.{◌≡◌, ℕ, Bool, true, false, cond, ltb, List, [], ◌∷◌, ◌++◌, length, refl, sym, ap, ◌∙◌}
+use Rattle.std.proofs.Common.{◌≡◌, ℕ, Bool, cond, List, [], ◌∷◌, ◌++◌, refl, sym, ap, ◌∙◌, arith}
 use Rattle.i9_model.specs.declared.frame.Frame.{Frame}
 use Rattle.i9_model.specs.Writes.{written, upwards}
 use Rattle.i9_model.specs.Memory.{Memory, stored, with_words}
 use Rattle.i9_model.specs.State.{boot}
-use Rattle.i9_model.specs.Step.{Move, Stays, Saves, Returns, Flushes, Action}
+use Rattle.i9_model.specs.Step.{Move, Action}
 use Rattle.i9_model.specs.Alike.{with_other}
 use Rattle.i9_model.specs.HeldFrames.{Cache, over, spilled, cache_moved, cache_acted, cache_configured, cache_after, sets_in}
 use Rattle.i9_model.specs.Run.{Given, action_done}
@@ -37,29 +37,22 @@ over_bytes (f ∷ fs) m =
 
 spilled_bytes : (fs : List Frame) (m : Memory) → (spilled fs m).behind.bytes ≡ stored m.bytes (oldest_writes m fs)
 unfolding written
-spilled_bytes [] m = refl
-spilled_bytes (f ∷ fs) m = ap (λ (k : Memory). k.bytes) (frame_bytes m f)
+spilled_bytes fs m = grind (arith, frame_bytes)
 
 room_bytes : (b : Bool) (c : Cache)
     → (cond b c (spilled c.held c.behind)).behind.bytes
     ≡ stored c.behind.bytes (cond b [] (oldest_writes c.behind c.held))
 unfolding written
-room_bytes true c = refl
-room_bytes false c = spilled_bytes c.held c.behind
+room_bytes b c = grind (arith, spilled_bytes)
 
 moved_bytes : (n : ℕ) (v : Move) (c : Cache)
     → (cache_moved n v c).behind.bytes ≡ stored c.behind.bytes (move_writes n c v)
 unfolding written
-moved_bytes n Stays c = refl
-moved_bytes n (Saves save words) c = room_bytes (ltb (length c.held) n) c
-moved_bytes n Returns c = refl
-moved_bytes n Flushes c = over_bytes c.held c.behind
+moved_bytes n v c = grind (arith, room_bytes, over_bytes)
 
 puts_behind : (n : ℕ) (c : Cache) (a : Action) (m : Memory)
     → (cache_configured m (cache_acted n a c)).behind.bytes ≡ stored c.behind.bytes (puts_of n c a)
-puts_behind n c a m =
-    ap (λ (g : ℕ → ℕ). stored g a.writes) (moved_bytes n a.move c)
-    ∙ sym (stored-append c.behind.bytes (move_writes n c a.move) a.writes)
+puts_behind n c a m = grind (arith, moved_bytes, stored-append)
 
 pub course_settles : (g : Given) (h : List Item)
     → settled_memory (boot g.image).memory.bytes (course g h).late ≡ (cache_after g (records_of h)).behind.bytes

@@ -1,12 +1,11 @@
 -- What lands late stands for a course as the turn moves, as a record issues, and as a fence is set.
 use Rattle.std.proofs.Common.{◌≡◌, ℕ, ◌<◌, ◌≤◌, max, Bool, true, false, List, [], ◌∷◌, None, refl, sym, ap, ◌∙◌, subst, arith}
-use Rattle.i9_model.specs.declared.need.Cell.{Cell}
 use Rattle.i9_model.specs.Memory.{stored}
 use Rattle.i9_model.specs.State.{boot}
 use Rattle.i9_model.specs.HeldFrames.{cache_after}
 use Rattle.i9_model.specs.Run.{Given, Record, Does, state_after}
 use Rattle.i9_model.specs.Turns.{Pending, StandsFor, CanIssue, last_issue, end_turn, waiting_until, pending_of}
-use Rattle.i9_model.specs.Late.{Wait, turns, cell, resource, resources, latest, waiting, all_puts, AreDueInOrder, Shows, IsClear}
+use Rattle.i9_model.specs.Late.{turns, cell, resource, resources, latest, all_puts, AreDueInOrder, Shows, IsClear}
 use Rattle.i9_turns.proofs.TurnOpen.{done-after}
 use Rattle.i9_turns.proofs.TurnStands.{stands-none}
 use Rattle.i9_turns.proofs.LateQueues.{waiting-in-order}
@@ -33,17 +32,7 @@ moved_board g h t k j lands m = subst (λ (p : Pending). StandsFor p (turns (cou
 
 pub moves_lands : (g : Given) (h : List Item) (t : ℕ) (k j : Kernel) → Lands g h k → k.turn ≤ t
     → t ≤ (ahead g h).turn → MovesTo t k j → j.floor ≡ k.floor → Lands g h j
-moves_lands g h t k j lands le early m floor =
-    let begun : last_issue (turns (course g h).late) ≤ k.turn = lands.begun in
-    let turn : j.turn ≡ t = m.turn in
-    record {
-      board = moved_board g h t k j lands m;
-      fence = floor ∙ lands.fence;
-      last = m.done ∙ lands.last;
-      begun = omega (arith, begun, le, turn);
-      in_time = omega (arith, early, turn);
-      shows = moved_shows g h t k j lands le m;
-    }
+moves_lands g h t k j lands le early m floor = grind (arith, moved_board, moved_shows)
 
 -- ---- a record issues
 
@@ -132,19 +121,14 @@ fence_lands g h k j lands m floor =
 
 pub lands_registers : (g : Given) (h : List Item) (k : Kernel) (r : ℕ) → IsCourse g h → Lands g h k → r < resources
     → latest (k.cells r) ≡ resource (state_after g (records_of h)) r
-lands_registers g h k r c lands lt =
-    ap (λ (x : Cell). latest x) (lands.shows.registers r lt) ∙ registers_settle g h k.turn r c lands.begun lt
+lands_registers g h k r c lands lt = grind (arith, registers_settle)
 
 pub lands_memory : (g : Given) (h : List Item) (k : Kernel) → Lands g h k
     → stored k.bytes (all_puts k.queue) ≡ (cache_after g (records_of h)).behind.bytes
-lands_memory g h k lands =
-    ap (λ (ws : List Wait). stored k.bytes (all_puts ws)) lands.shows.requests
-    ∙ ap (λ (m : ℕ → ℕ). stored m (all_puts (waiting k.turn (course g h).late))) lands.shows.memory
-    ∙ memory_settles g h k.turn lands.begun
+lands_memory g h k lands = grind (arith, memory_settles)
 
 pub lands_order : (g : Given) (h : List Item) (k : Kernel) → Lands g h k → AreDueInOrder k.queue
-lands_order g h k lands =
-    subst AreDueInOrder (sym lands.shows.requests) (waiting-in-order k.turn (course g h).late (course_orderly g h))
+lands_order g h k lands = grind (arith, waiting-in-order, course_orderly)
 
 -- ---- a course begins
 
@@ -152,13 +136,4 @@ lands_order g h k lands =
 pub none_lands : (g : Given) (k : Kernel) → k.board ≡ pending_of [] → k.turn ≡ 1 → k.floor ≡ 0 → k.done ≡ 1
     → ((r : ℕ) → k.cells r ≡ cell (resource (boot g.image) r) None) → k.bytes ≡ (boot g.image).memory.bytes
     → k.queue ≡ [] → Lands g [] k
-none_lands g k board turn floor done cells bytes queue =
-    let later : 1 ≤ (ahead g []).turn = ahead_later g [] in
-    record {
-      board = subst (λ (p : Pending). StandsFor p []) (sym board) stands-none;
-      fence = floor;
-      last = done;
-      begun = omega (arith, turn);
-      in_time = omega (arith, turn, later);
-      shows = record { registers = λ r lt. cells r; memory = bytes; requests = queue };
-    }
+none_lands g k board turn floor done cells bytes queue = grind (arith, ahead_later, stands-none)

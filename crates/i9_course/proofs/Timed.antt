@@ -1,6 +1,6 @@
 -- The records of every course have their turns and take their time, and what is neither a request nor a barrier writes
 -- no memory.
-use Rattle.std.proofs.Common.{◌≡◌, ℕ, Bool, true, false, ◌&&◌, ◌||◌, List, [], ◌∷◌, ◌++◌, Some, None, refl, ap, ◌∙◌, ◌⊎◌, inl, inr}
+use Rattle.std.proofs.Common.{◌≡◌, ℕ, Bool, true, false, ◌&&◌, ◌||◌, List, [], ◌∷◌, ◌++◌, Some, None, refl, ap, ◌∙◌, ◌⊎◌, arith}
 use Rattle.std.specs.Prelude.{IsTrue}
 use Rattle.std.proofs.lemmas.Bool.{cases_Bool}
 use Rattle.i9_model.specs.State.{State}
@@ -8,7 +8,6 @@ use Rattle.i9_model.specs.Step.{Move, Stays, Action}
 use Rattle.i9_model.specs.HeldFrames.{Cache, sets_in, cache_after}
 use Rattle.i9_model.specs.Run.{Given, Kind, Instruction, Faulted, Entered, Interrupted, Reached, action_by_kind}
 use Rattle.i9_model.specs.Turns.{HasCost, IsTimed, TakesTurns, waiting_until}
-use Rattle.i9_model.specs.Needs.{is_request_name, is_barrier_name}
 use Rattle.i9_model.specs.Late.{turns, AreQuiet}
 use Rattle.i9_model.specs.Fences.{fenced, with_item}
 use Rattle.i9_model.specs.Fences as fences
@@ -55,26 +54,15 @@ no_puts : (n : ℕ) (c : Cache) (a : Action) → a.writes ≡ [] → a.move ≡ 
 no_puts n c a none stays = ap (λ (v : Move). move_writes n c v ++ a.writes) stays ∙ none
 
 pub first_of : (a b c d e f : Bool) → a ≡ true → (a || b || c || d || e || f) ≡ true
-first_of true b c d e f h = refl
-first_of false b c d e f h = absurd (cc h)
+first_of a b c d e f h = grind arith
 
 no_request : (b : Bool) → (b && true) ≡ false → b ≡ false
-no_request false h = refl
-no_request true h = absurd (cc h)
+no_request b h = grind arith
 
 pub need_quiet : (n : ℕ) (c : Cache) (s : State) (k : Kind) → (need_of n c s k).request ≡ false
     → (puts_of n c (action_by_kind k s) ≡ []) ⊎ IsTrue (need_of n c s k).barrier
 unfolding need_of
-need_quiet n c s (Instruction i) q = elim (cases_Bool (is_barrier_name i.op)) [
-  | inl barrier ↦ inr (first_of (is_barrier_name i.op) _ _ _ _ _ barrier)
-  | inr other ↦ let none = quiet i s (no_request (is_request_name i.op) q) other in
-      inl (no_puts n c (action_by_kind (Instruction i) s) none.0 none.1)
-]
-need_quiet n c s (Faulted None fault) q = inr refl
-need_quiet n c s (Faulted (Some i) fault) q = inl refl
-need_quiet n c s (Entered e) q = inr refl
-need_quiet n c s (Interrupted x e) q = inr refl
-need_quiet n c s (Reached e u) q = inr refl
+need_quiet n c s k q = grind (arith, cases_Bool, first_of, quiet, no_request, no_puts)
 
 pub course_quiet : (g : Given) (h : List Item) → AreQuiet (course g h).late
 course_quiet g [] = tt

@@ -1,5 +1,5 @@
 -- An event that waits for a turn issues at no earlier one.
-use Rattle.std.proofs.Common.{◌≡◌, ◌≢◌, ℕ, ◌≤◌, Bool, true, false, cond, List, [], length, Option, Some, None, refl, sym, ap, ◌∙◌, ◌↔◌, arith}
+use Rattle.std.proofs.Common.{◌≡◌, ◌≢◌, ℕ, ◌≤◌, Bool, true, cond, List, [], length, Option, Some, None, sym, ap, ◌∙◌, ◌↔◌, arith}
 use Rattle.std.specs.Prelude.{nat_le, IsTrue}
 use Rattle.std.specs.List.{slice_get}
 use Rattle.std.proofs.lemmas.Bool.{le-leb, leb-true}
@@ -7,7 +7,7 @@ use Rattle.i9_model.specs.declared.event.Event.{Event}
 use Rattle.i9_model.specs.declared.run.Due.{Due}
 use Rattle.i9_model.specs.ScheduleText.{timed_by_turn, event_where, has_come_by}
 use Rattle.i9_model.specs.State.{State}
-use Rattle.i9_model.specs.Run.{Given, Kind, Instruction, Faulted, Entered, Interrupted, Reached, Record, Does, due_after, reached_by, reached_after, state_after}
+use Rattle.i9_model.specs.Run.{Given, Kind, Record, Does, due_after, reached_by, reached_after, state_after}
 use Rattle.i9_model.specs.Turns.{end_turn}
 use Rattle.i9_model.specs.Late.{turns}
 use Rattle.i9_past.proofs.Comes.{MayCome, next_comes}
@@ -25,26 +25,18 @@ event_is : (g : Given) (h : List Item) (n : ℕ) (e : Event) → WaitsFor g h n 
 event_is g h n e waits = ap (event_where (has_come_by (state_after g (records_of h)).count (instruction_turn g h))) waits
 
 stood : (b : Bool) (e f : Event) → cond b (Some e) None ≡ Some f → b ≡ true
-stood true e f h = refl
-stood false e f h = absurd (cc h)
+stood b e f h = grind arith
 
 pub stands_where : (g : Given) (h : List Item) (n : ℕ) (e : Event) → WaitsFor g h n e
     → (event_ahead g h ≡ Some e ↔ n ≤ instruction_turn g h)
-stands_where g h n e waits = (
-  (λ is. leb-true n (instruction_turn g h) (stood (nat_le n (instruction_turn g h)) e e (sym (event_is g h n e waits) ∙ is))),
-  (λ le. event_is g h n e waits ∙ ap (λ (b : Bool). cond b (Some e) None) (le-leb n (instruction_turn g h) le)),
-)
+stands_where g h n e waits = grind (arith, leb-true, stood, event_is, le-leb)
 
 -- what reached an event reached one that stood there, and is a barrier
 abbrev ReachedOne : Option Event → Kind → Type 0
 ReachedOne o k = ((e : Event) × (o ≡ Some e)) × IsTrue (is_barrier_kind k)
 
 reached_one : (limit : ℕ) (due : Due) (o : Option Event) (s u : State) (k : Kind) → MayCome limit due o s k → reached_by k u ≢ [] → ReachedOne o k
-reached_one limit due o s u (Instruction i) may some = absurd (some refl)
-reached_one limit due o s u (Faulted inst fault) may some = absurd (some refl)
-reached_one limit due o s u (Entered e) may some = absurd (some refl)
-reached_one limit due o s u (Interrupted c e) may some = absurd (some refl)
-reached_one limit due o s u (Reached e does) may some = ((e, may.2), refl)
+reached_one limit due o s u k may some = grind arith
 
 pub waited_turn : (g : Given) (h : List Item) (n : ℕ) (e : Event) (r : Record) → WaitsFor g h n e
     → (ahead g h).imprecise ≡ None → (ahead g h).next ≡ Does r → reached_by r.kind r.before ≢ [] → n ≤ (ahead g h).turn

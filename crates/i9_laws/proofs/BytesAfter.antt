@@ -1,5 +1,5 @@
 -- Along every run of a schedule's plan bytes of memory are below 256, where the bytes of the image are.
-use Rattle.std.proofs.Common.{◌≡◌, ℕ, ◌+◌, ◌-◌, ◌%◌, ◌^◌, ◌<◌, Bool, true, false, cond, eqb, List, [], ◌∷◌, Option, Some, None, sym, subst, arith}
+use Rattle.std.proofs.Common.{◌≡◌, ℕ, ◌+◌, ◌-◌, ◌%◌, ◌^◌, ◌<◌, Bool, true, false, cond, List, [], ◌∷◌, Option, Some, None, arith}
 use Rattle.std.specs.Prelude.{slice_index, ◌==◌, ◌||◌}
 use Rattle.std.proofs.lemmas.Nat.{and_le_l, or_of_8, pow_below}
 use Rattle.i9_isa.specs.declared.op.Op.{Op}
@@ -30,13 +30,10 @@ use Rattle.i9_model.specs.Operands.{value, source_words, address}
 use Rattle.i9_model.specs.Branches.{asks, question_of}
 use Rattle.i9_model.specs.Calls.{record_address}
 use Rattle.i9_model.specs.Interrupts.{with_bit, without_bit, vector_priority, priority_place, pending_place, request_writes, left_pending, priority_writes, taken_writes, clearing_writes, record_writes}
-use Rattle.i9_model.specs.Tables.{group_words}
-use Rattle.i9_model.specs.Controls.{Control, KeepsControls, Restarts, LoadsGroup, controlled}
-use Rattle.i9_model.specs.Step.{Move, Saves, Action, stored_of, bytes_of_words, moving, merged, atomic, atomic_address, branching, resulting, answer_in, Message, AsksInterrupt, asked_message, argument_of, message_action, action_by_name, action_by, action_of, memory_after, moved, acted}
+use Rattle.i9_model.specs.Step.{Move, Saves, Action, stored_of, bytes_of_words, moving, merged, atomic, atomic_address, branching, resulting, answer_in, Message, AsksInterrupt, asked_message, argument_of, message_action, action_by_name, action_by, action_of, memory_after, moved}
 use Rattle.i9_model.specs.Dma.{unit_length, unit_bytes}
 use Rattle.i9_model.specs.Before.{Received}
 use Rattle.i9_model.specs.Run.{Given, Record, Kind, Instruction, Faulted, Entered, Interrupted, Reached, action_by_kind, due_after, event_after, state_after, IsPast}
-use Rattle.i9_model.proofs.ControlLaws.{by_group, flagged-others}
 use Rattle.i9_past.proofs.Comes.{MayCome, next_comes}
 use Rattle.i9_laws.specs.Kept.{HasBytes}
 use Rattle.i9_laws.proofs.EventCases.{event_range, IsByUnit, IsByEvent, received_as}
@@ -180,25 +177,6 @@ pub moved_bytes : (s : State) (a : Action) → AreBytes s.memory → ArePut 256 
 unfolding moved
 moved_bytes s a h stores = stored_below (memory_after s.memory a.move).bytes a.writes (move_bytes a.move s.memory h) stores
 
-group_bytes : (a b c : Bool) (s : State) (group : ℕ) (ws : List ℕ) → AreBytes s.memory → AreBytes (by_group a b c s group ws).memory
-group_bytes true b c s group ws h = h
-group_bytes false true c s group ws h = h
-group_bytes false false true s group ws h = h
-group_bytes false false false s group ws h = h
-
-controlled_bytes : (s : State) (c : Control) → AreBytes s.memory → AreBytes (controlled s c).memory
-unfolding started configured
-controlled_bytes s KeepsControls h = h
-controlled_bytes s (Restarts first prcb) h = h
-controlled_bytes s (LoadsGroup group) h =
-    group_bytes (eqb group 0) (eqb group 1) (eqb group 6) s group (group_words s.memory s.tables.control_table group) h
-
-acted_bytes : (s : State) (a : Action) → AreBytes s.memory → ArePut 256 a.writes → AreBytes (acted s a).memory
-unfolding acted
-acted_bytes s a h stores =
-    subst (λ (x : State). AreBytes x.memory) (sym (flagged-others a.trace (controlled (moved s a) a.control)))
-    (controlled_bytes (moved s a) a.control (moved_bytes s a h stores))
-
 -- ---- a run
 
 pub image_bytes : (image : List (ℕ × ℕ)) → HasBytes image → AreBytes (image_memory image)
@@ -217,12 +195,3 @@ done_stores g r rs plan past h =
     let range = λ (e : Event) (is : event ≡ Some e). event_range g rs e plan is in
     let comes = next_comes g.length (due_after rs) event s r past.1 in
     kind_stores g.length (due_after rs) event r.kind s range comes.1 h
-
-pub bytes_after : (g : Given) (rs : List Record) → HasBytes g.image → IsPlan g.plan → IsPast g rs → AreBytes (state_after g rs).memory
-bytes_after g [] image plan past = boot_bytes g.image image
-bytes_after g (r ∷ rs) image plan past =
-    let s = state_after g rs in
-    let h = bytes_after g rs image plan past.0 in
-    let comes = next_comes g.length (due_after rs) (event_after g rs) s r past.1 in
-    let acted = acted_bytes s (action_by_kind r.kind s) h (done_stores g r rs plan past h) in
-    subst (λ (q : Record). AreBytes q.after.memory) (sym comes.0) acted

@@ -21,11 +21,11 @@ use Rattle.i9_model.specs.State.{State}
 use Rattle.i9_model.specs.Step.{first_word, next_word}
 use Rattle.i9_model.specs.Stale.{misuses}
 use Rattle.i9_model.specs.Access.{hazard_of, fetch_hazard}
-use Rattle.i9_model.specs.Standing.{Standing, Meets, Refused, Faults, Runs, raised_in, later_fault, by_access, by_later, by_raised, by_word, by_fetch, stands_at}
+use Rattle.i9_model.specs.Standing.{Standing, Meets, Runs, raised_in, later_fault, by_access, by_later, by_raised, by_word, by_fetch, stands_at}
 use Rattle.i9_model.specs.declared.run.Due.{Due}
 use Rattle.i9_model.specs.declared.run.Due.TheVariants as dues
 use Rattle.i9_model.specs.declared.run.End.TheVariants.{Limit}
-use Rattle.i9_model.specs.Run.{Kind, Instruction, Faulted, Entered, Interrupted, Reached, Record, record_of, Does, Ends, next_by_standing, next_by_entry, entry_in, next_by_event, next_by_interrupt, next_by_choice, next_in, fault_at, finish, next_by_received}
+use Rattle.i9_model.specs.Run.{Kind, Instruction, Faulted, Record, Next, Does, Ends, next_by_standing, next_by_entry, entry_in, next_by_event, next_by_interrupt, next_by_choice, next_in, finish, next_by_received}
 
 -- ---- what is done is decoded
 
@@ -61,68 +61,60 @@ fetch_stands : (s : State) (h : Option ℕ) → Stands s (by_fetch s h)
 fetch_stands s (Some a) = tt
 fetch_stands s None = word_stands s (decoded (first_word s) (next_word s)) refl
 
-pub runs_decoded : (s : State) (i : Inst) → stands_at s ≡ Runs i → IsDecoded s i
+decoded_stands : (s : State) → Stands s (stands_at s)
 unfolding stands_at
-runs_decoded s i is = subst (Stands s) is (fetch_stands s (fetch_hazard s))
+decoded_stands s = fetch_stands s (fetch_hazard s)
 
 -- ---- what comes next
 
--- an instruction is done where it stands, and it or its fault comes where no event stands
+-- an instruction is decoded where it stands, and it or its fault comes where no event stands
 abbrev pub IsTurn : Option Event → State → Kind → Type 0
-IsTurn stands s (Instruction i) = (stands ≡ None) × (stands_at s ≡ Runs i)
+IsTurn stands s (Instruction i) = (stands ≡ None) × IsDecoded s i
 IsTurn stands s (Faulted inst fault) = stands ≡ None
 IsTurn stands s _ = Unit {0}
 
-turn_by : (stands : Option Event) (s : State) (k : Kind) (r : Record) → IsTurn stands s k
-    → Does (record_of k s) ≡ Does r
-    → IsTurn stands s r.kind
-turn_by stands s k r d e = let same : record_of k s ≡ r = cc in subst (λ (q : Record). IsTurn stands s q.kind) same d
+abbrev TakesTurn : Option Event → State → Next → Type 0
+TakesTurn stands s (Does r) = IsTurn stands s r.kind
+TakesTurn stands s (Ends f) = Unit {0}
 
-standing_turn : (s : State) (x : Standing) (r : Record) → stands_at s ≡ x → next_by_standing s x ≡ Does r
-    → IsTurn None s r.kind
-standing_turn s (Meets a) r is e = absurd cc
-standing_turn s (Refused number) r is e = turn_by None s (Faulted None (fault_at s number)) r refl e
-standing_turn s (Faults i number) r is e = turn_by None s (Faulted (Some i) (fault_at s number)) r refl e
-standing_turn s (Runs i) r is e = turn_by None s (Instruction i) r (refl, is) e
+standing_turn : (s : State) (x : Standing) → Stands s x → TakesTurn None s (next_by_standing s x)
+standing_turn s (Meets a) d = tt
+standing_turn s (Runs i) d = (refl, d)
+standing_turn s _ d = refl
 
-entry_turn : (stands : Option Event) (s : State) (o : Result Entry FaultStop) (r : Record) → next_by_entry s o ≡ Does r
-    → IsTurn stands s r.kind
-entry_turn stands s (Ok x) r e = turn_by stands s (Entered x) r tt e
-entry_turn stands s (Err (stops.Hazard a)) r e = absurd cc
-entry_turn stands s (Err (stops.Dead code a)) r e = absurd cc
+received_turn : (x : Event) (s : State) (o : Result Received ℕ) → TakesTurn (Some x) s (next_by_received s x o)
+received_turn x s (Ok u) = tt
+received_turn x s (Err a) = tt
 
-reached_turn : (x : Event) (s : State) (o : Result Received ℕ) (r : Record) → next_by_received s x o ≡ Does r
-    → IsTurn (Some x) s r.kind
-reached_turn x s (Ok u) r e = turn_by (Some x) s (Reached x u) r tt e
-reached_turn x s (Err a) r e = absurd (cc e)
+event_turn : (stands : Option Event) (s : State) → TakesTurn stands s (next_by_event stands s)
+event_turn (Some x) s = received_turn x s (received_in s x)
+event_turn None s = standing_turn s (stands_at s) (decoded_stands s)
 
-event_turn : (stands : Option Event) (s : State) (r : Record) → next_by_event stands s ≡ Does r → IsTurn stands s r.kind
-event_turn (Some x) s r e = reached_turn x s (received_in s x) r e
-event_turn None s r e = standing_turn s (stands_at s) r refl e
+interrupt_turn : (stands : Option Event) (s : State) (c : Chosen) (o : Result Entry ℕ) → TakesTurn stands s (next_by_interrupt s c o)
+interrupt_turn stands s c (Ok x) = tt
+interrupt_turn stands s c (Err a) = tt
 
-interrupt_turn : (stands : Option Event) (s : State) (c : Chosen) (o : Result Entry ℕ) (r : Record)
-    → next_by_interrupt s c o ≡ Does r → IsTurn stands s r.kind
-interrupt_turn stands s c (Ok x) r e = turn_by stands s (Interrupted c x) r tt e
-interrupt_turn stands s c (Err a) r e = absurd cc
+choice_turn : (stands : Option Event) (s : State) (o : Result (Option Chosen) ℕ) → TakesTurn stands s (next_by_choice stands s o)
+choice_turn stands s (Ok (Some c)) = interrupt_turn stands s c (interrupt_in s c)
+choice_turn stands s (Ok None) = event_turn stands s
+choice_turn stands s (Err a) = tt
 
-choice_turn : (stands : Option Event) (s : State) (o : Result (Option Chosen) ℕ) (r : Record)
-    → next_by_choice stands s o ≡ Does r
-    → IsTurn stands s r.kind
-choice_turn stands s (Ok (Some c)) r e = interrupt_turn stands s c (interrupt_in s c) r e
-choice_turn stands s (Ok None) r e = event_turn stands s r e
-choice_turn stands s (Err a) r e = absurd cc
+entry_turn : (stands : Option Event) (s : State) (o : Result Entry FaultStop) → TakesTurn stands s (next_by_entry s o)
+entry_turn stands s (Err (stops.Hazard a)) = tt
+entry_turn stands s _ = tt
 
-pub next_turn : (limit : ℕ) (due : Due) (stands : Option Event) (s : State) (r : Record)
-    → next_in limit due stands s ≡ Does r
-    → IsTurn stands s r.kind
-next_turn limit (dues.End f) stands s r e = absurd cc
-next_turn limit (dues.Entry fault) stands s r e = entry_turn stands s (entry_in s fault) r e
-next_turn limit dues.Nothing stands s r e = by_length (eqb s.count limit) e
+in_turn : (limit : ℕ) (due : Due) (stands : Option Event) (s : State) → TakesTurn stands s (next_in limit due stands s)
+in_turn limit (dues.End f) stands s = tt
+in_turn limit (dues.Entry fault) stands s = entry_turn stands s (entry_in s fault)
+in_turn limit dues.Nothing stands s = by_length (eqb s.count limit)
   where
-    by_length : (b : Bool) → cond b (Ends (finish Limit)) (next_by_choice stands s (choice_in s)) ≡ Does r
-        → IsTurn stands s r.kind
-    by_length true h = absurd cc
-    by_length false h = choice_turn stands s (choice_in s) r h
+    by_length : (b : Bool) → TakesTurn stands s (cond b (Ends (finish Limit)) (next_by_choice stands s (choice_in s)))
+    by_length true = tt
+    by_length false = choice_turn stands s (choice_in s)
+
+pub next_turn : (limit : ℕ) (due : Due) (stands : Option Event) (s : State) (r : Record) → next_in limit due stands s ≡ Does r
+    → IsTurn stands s r.kind
+next_turn limit due stands s r e = subst (TakesTurn stands s) e (in_turn limit due stands s)
 
 -- ---- its literals
 

@@ -69,12 +69,8 @@ received_by_unit P s c given (Err a) u h next is = absurd cc
 -- what an event does has the property
 pub received_as : (P : Received → Type 0) (s : State) (e : Event) (u : Received) → IsByEvent P s e → received_in s e ≡ Ok u → P u
 unfolding received_in
-received_as P s (Pin x) u h is = same_received P (posting s (posted s.interrupts x)) u h is
-received_as P s (Low x) u h is = same_received P (posting s (lowered s.interrupts x)) u h is
-received_as P s (High x) u h is = same_received P (posting s (raised s.interrupts x)) u h is
-received_as P s Nmi u h is = same_received P (posting s (posted_nmi s.interrupts)) u h is
 received_as P s (Dma c) u h is = received_by_unit P s c None (next_unit s.memory s.frames s.dma c None) u h refl is
 received_as P s (Feed c bytes) u h is =
     let given = Some bytes.items in
     received_by_unit P s c given (next_unit s.memory s.frames s.dma c given) u h refl is
-received_as P s (Show a n) u h is = same_received P (posting s s.interrupts) u h is
+received_as P s _ u h is = same_received P _ u h is

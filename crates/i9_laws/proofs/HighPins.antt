@@ -42,9 +42,8 @@ event_high s (Feed c bytes) of h = unit_high s c (Some bytes.items) h
 event_high s _ of h = h
 
 cleared_high : (c : Cause) (i : Interrupts) (d : states.Dma) → AreHigh i d → AreHigh (cleared c i) d
-cleared_high causes.Nmi i d h = h
 cleared_high (causes.Line k) i d h = h
-cleared_high causes.Soft i d h = h
+cleared_high _ i d h = h
 
 keeping_high : AreKeeping AreHigh (IsOfVersion first_version)
 keeping_high = record {

@@ -1,8 +1,8 @@
 -- A property of interrupts and DMA holds along every run where what may change them keeps it.
-use Rattle.std.proofs.Common.{◌≡◌, ℕ, Bool, true, false, cond, eqb, List, [], ◌∷◌, Option, Some, None, sym, subst}
+use Rattle.std.proofs.Common.{◌≡◌, ℕ, Bool, true, false, cond, eqb, List, [], ◌∷◌, Option, Some, None, sym, subst, rules}
 use Rattle.std.specs.Prelude.{◌==◌}
 use Rattle.i9_isa.specs.declared.op.Op.{Op}
-use Rattle.i9_isa.specs.declared.op.Op.TheVariants.{Lda, Atadd, Atmod, Bx, Balx, Bal, Call, Callx, Calls, Ret, Flushreg, Modac, Modtc, Modpc, Sdma, Sysctl}
+use Rattle.i9_isa.specs.declared.op.Op.TheVariants.{Sdma}
 use Rattle.i9_isa.specs.declared.size.Size.{Size}
 use Rattle.i9_isa.specs.declared.size.Direction.{Direction}
 use Rattle.i9_isa.specs.declared.size.Direction.TheVariants.{Load, Store}
@@ -15,18 +15,16 @@ use Rattle.i9_model.specs.declared.event.Event.{Event}
 use Rattle.i9_model.specs.declared.interrupts.Cause.{Cause}
 use Rattle.i9_model.specs.declared.run.Due.{Due}
 use Rattle.i9_model.specs.declared.setup.Setup.{Setup}
-use Rattle.i9_model.specs.Memory.{word_in}
 use Rattle.i9_model.specs.State as states
 use Rattle.i9_model.specs.State.{State, Interrupts, Channel, start_interrupts, no_dma, image_memory, started, boot}
 use Rattle.i9_model.specs.Boot.{setup_of, boot_setup}
-use Rattle.i9_model.specs.Branches.{asks, question_of}
 use Rattle.i9_model.specs.Stale.{legible}
 use Rattle.i9_model.specs.Operands.{with_pending, with_mask, with_command, with_dma_special, interrupts_assigned, dma_assigned, value, address}
 use Rattle.i9_model.specs.Interrupts.{cleared}
 use Rattle.i9_model.specs.Dma.{set_up}
 use Rattle.i9_model.specs.Tables.{group_words}
 use Rattle.i9_model.specs.Controls.{Control, KeepsControls, Restarts, LoadsGroup, controlled}
-use Rattle.i9_model.specs.Step.{Action, loaded, atomic_address, following, values_of, destination, answer_in, branching, resulting, moving, channel_in, Message, AsksNothing, asked_message, message_action, action_by_name, action_by, action_of, moved, acted}
+use Rattle.i9_model.specs.Step.{Action, loaded, values_of, destination, answer_in, branching, resulting, moving, channel_in, Message, AsksNothing, message_action, action_by_name, action_by, action_of, moved, acted}
 use Rattle.i9_model.specs.Before.{Received}
 use Rattle.i9_model.specs.Run.{Given, Record, Kind, Instruction, Faulted, Entered, Interrupted, Reached, action_by_kind, due_after, event_after, state_after, IsPast}
 use Rattle.i9_model.proofs.ControlLaws.{by_group, flagged-others}
@@ -85,24 +83,11 @@ module _ (P : Interrupts → states.Dma → Type 0) (Fits : Event → Type 0) (k
   other_has true i s h = h
   other_has false i s h = assigning_has (destination i) (values_of (answer_in i s)) s h
 
+  ruleset leaving_rules = (assigning_has, message_has, other_has)
+
   name_has : (op : Op) (i : Inst) (s : State) → Has s → Leaves (action_by_name op i s)
-  name_has Lda i s h = assigning_has i.c (address s i.ea ∷ []) s h
-  name_has Atadd i s h = assigning_has i.c (word_in (legible s) (atomic_address i s) ∷ []) s h
-  name_has Atmod i s h = assigning_has i.c (word_in (legible s) (atomic_address i s) ∷ []) s h
-  name_has Bx i s h = h
-  name_has Balx i s h = assigning_has i.c (following i s ∷ []) s h
-  name_has Bal i s h = h
-  name_has Call i s h = h
-  name_has Callx i s h = h
-  name_has Calls i s h = h
-  name_has Ret i s h = h
-  name_has Flushreg i s h = h
-  name_has Modac i s h = assigning_has i.c (s.ac ∷ []) s h
-  name_has Modtc i s h = assigning_has i.c (s.trace.tc ∷ []) s h
-  name_has Modpc i s h = assigning_has i.c (s.pc ∷ []) s h
   name_has Sdma i s h = keeping.sets (value s i.a) (channel_in i s) s.interrupts s.dma h
-  name_has Sysctl i s h = message_has (asked_message i s) i s h
-  name_has op i s h = other_has (asks (question_of op)) i s h
+  name_has op i s h = search (rules, leaving_rules)
 
   moving_has : (d : Direction) (size : Size) (signed : Bool) (i : Inst) (s : State) → Has s
       → Leaves (moving d size signed i s)

@@ -1,20 +1,20 @@
 -- Along every run controls keep to their masks, and the instruction address is a multiple of 4.
-use Rattle.std.proofs.Common.{◌≡◌, ℕ, ◌+◌, ◌*◌, ◌/◌, ◌%◌, ◌^◌, Bool, true, false, cond, eqb, List, [], ◌∷◌, Option, Some, None, Ok, refl, sym, ap, ◌∙◌, subst, arith, bit_and, bit_or, ℤ}
+use Rattle.std.proofs.Common.{◌≡◌, ℕ, ◌+◌, ◌*◌, ◌/◌, ◌%◌, ◌^◌, Bool, true, false, cond, eqb, List, [], ◌∷◌, Option, Some, None, Ok, refl, sym, ap, ◌∙◌, subst, arith, rules, bit_and, bit_or, ℤ}
 use Rattle.std.specs.List.{AllByRecursion}
-use Rattle.std.specs.Prelude.{map, filter, IfSome, ◌++◌, ◌&&◌, not, slice_index, ◌==◌, ◌+ℤ◌, ◌-ℤ◌, ◌*ℤ◌, pos}
+use Rattle.std.specs.Prelude.{map, filter, IfSome, ◌++◌, ◌&&◌, not, slice_index, ◌==◌}
 use Rattle.std.specs.Int.{bit_at}
 use Rattle.std.specs.Int.RustNames.{int_div}
 use Rattle.std.proofs.lemmas.Nat.{and_assoc, and_comm, and_mod, and_mask, and_shr}
 use Rattle.std.proofs.lemmas.Nat.Bits.{bit_at_and, bit_at_or, same_from_bits}
 use Rattle.i9_isa.specs.declared.op.Op.{Op}
-use Rattle.i9_isa.specs.declared.op.Op.TheVariants.{Lda, Atadd, Atmod, Bx, Balx, Bal, Call, Callx, Calls, Ret, Flushreg, Modac, Modtc, Modpc, Sdma, Sysctl, Cmpinco, Cmpinci, Cmpdeco, Cmpdeci, Addc, Subc, Spanbit, Scanbit, Cmpo, Cmpi, Concmpo, Concmpi, Scanbyte, Chkbit, Addi, Subi, Muli, Shli, Divo, Remo, Divi, Remi, Modi, Ediv}
+use Rattle.i9_isa.specs.declared.op.Op.TheVariants.{Ret, Modac, Modtc, Modpc, Divi}
 use Rattle.i9_isa.specs.declared.size.Size.{Size}
 use Rattle.i9_isa.specs.declared.size.Direction.{Direction}
 use Rattle.i9_isa.specs.declared.size.Direction.TheVariants.{Load, Store}
 use Rattle.i9_isa.specs.declared.size.Transfer.{Transfer}
 use Rattle.i9_isa.specs.declared.inst.Inst.{Inst}
 use Rattle.i9_isa.specs.Transfers.{transfer_of}
-use Rattle.i9_isa.specs.Words.{bit, words_of}
+use Rattle.i9_isa.specs.Words.{words_of}
 use Rattle.i9_model.specs.declared.layout.TheConstants.{AC_MASK, PC_MASK, TC_MASK, PFP, FP}
 use Rattle.i9_model.specs.declared.arith.Arith.TheVariants.{Overflow, ZeroDivide}
 use Rattle.i9_model.specs.declared.calls.Sys.{Sys}
@@ -24,16 +24,16 @@ use Rattle.i9_model.specs.declared.faults.TheConstants.{TRACE_MASK}
 use Rattle.i9_model.specs.Writes.{wrapped, aligned}
 use Rattle.i9_model.specs.Memory.{Memory, word_in}
 use Rattle.i9_model.specs.State.{State, started, boot}
-use Rattle.i9_model.specs.Numbers.{signed, complement, highest_one}
+use Rattle.i9_model.specs.Numbers.{signed, complement}
 use Rattle.i9_model.specs.Conditions.{with_code, code_of}
 use Rattle.i9_model.specs.Operands.{value}
 use Rattle.i9_model.specs.Results.{Answer, word, words, code, checked, faulting, found, results_by}
-use Rattle.i9_model.specs.Branches.{question_of, asks, code_after, is_taken}
+use Rattle.i9_model.specs.Branches.{question_of, code_after, is_taken}
 use Rattle.i9_model.specs.Boot.{setup_of, boot_setup}
 use Rattle.i9_model.specs.Calls.{in_supervisor_mode, takes_record, leaves_supervisor, with_supervisor, without_supervisor, saved_pc, saved_ac, return_type, popped}
 use Rattle.i9_model.specs.Tables.{group_words}
 use Rattle.i9_model.specs.Controls.{Control, KeepsControls, Restarts, LoadsGroup, controlled}
-use Rattle.i9_model.specs.Step.{Action, going, following, branching, resulting, controls_of, answer_in, moving, action_by_name, action_by, action_of, Message, AsksNothing, asked_message, message_action, system_call, calls_action, entering, moved, flagged, acted}
+use Rattle.i9_model.specs.Step.{Action, going, following, branching, resulting, controls_of, answer_in, moving, action_by_name, action_by, action_of, Message, AsksNothing, message_action, system_call, calls_action, entering, moved, flagged, acted}
 use Rattle.i9_model.specs.declared.run.Due.{Due}
 use Rattle.i9_model.specs.declared.interrupts.Chosen.{Chosen}
 use Rattle.i9_model.specs.declared.event.Event.{Event}
@@ -83,54 +83,29 @@ coded ac new h =
 
 overflow_kept : (b c : Bool) (v ac : ℕ) → IsWithin AC_MASK ac
     → IsWithin AC_MASK (cond b (cond c (word v (bit_or ac (2 ^ 8))) (faulting Overflow ac)) (word v ac)).controls
-overflow_kept true true v ac h = masked_or AC_MASK ac (2 ^ 8) h refl
-overflow_kept true false v ac h = h
-overflow_kept false c v ac h = h
+overflow_kept b c v ac h = grind (arith, masked_or AC_MASK ac (2 ^ 8) h refl, h)
 
 checked_kept : (z : ℤ) (ac : ℕ) → IsWithin AC_MASK ac → IsWithin AC_MASK (checked z ac).controls
 checked_kept z ac h = overflow_kept _ _ _ ac h
 
 divided_kept : (b : Bool) (r : Answer) (ac : ℕ) → IsWithin AC_MASK ac → IsWithin AC_MASK r.controls
     → IsWithin AC_MASK (cond b (faulting ZeroDivide ac) r).controls
-divided_kept true r ac h k = h
-divided_kept false r ac h k = k
+divided_kept b r ac h k = grind (arith, h, k)
 
 found_kept : (o : Option ℕ) (ac : ℕ) → IsWithin AC_MASK ac → IsWithin AC_MASK (found o ac).controls
 found_kept None ac h = coded ac 0 h
 found_kept (Some p) ac h = coded ac 2 h
 
 unless_kept : (b : Bool) (new ac : ℕ) → IsWithin AC_MASK ac → IsWithin AC_MASK (cond b (words [] ac) (code new ac)).controls
-unless_kept true new ac h = h
-unless_kept false new ac h = coded ac new h
+unless_kept b new ac h = grind (arith, h, coded)
+
+ruleset answer_rules = (coded, found_kept, unless_kept, checked_kept, divided_kept)
 
 result_kept : (op : Op) (a b : List ℕ) (c ac : ℕ) → IsWithin AC_MASK ac → IsWithin AC_MASK (controls_of (results_by op a b c ac) ac)
-result_kept Cmpinco a b c ac h = coded ac _ h
-result_kept Cmpinci a b c ac h = coded ac _ h
-result_kept Cmpdeco a b c ac h = coded ac _ h
-result_kept Cmpdeci a b c ac h = coded ac _ h
-result_kept Addc a b c ac h = coded ac _ h
-result_kept Subc a b c ac h = coded ac _ h
-result_kept Cmpo a b c ac h = coded ac _ h
-result_kept Cmpi a b c ac h = coded ac _ h
-result_kept Scanbyte a b c ac h = coded ac _ h
-result_kept Chkbit a b c ac h = coded ac _ h
-result_kept Spanbit a b c ac h = found_kept (highest_one 32 (complement (slice_index a 0))) ac h
-result_kept Scanbit a b c ac h = found_kept (highest_one 32 (slice_index a 0)) ac h
-result_kept Concmpo a b c ac h = unless_kept (bit ac 2) _ ac h
-result_kept Concmpi a b c ac h = unless_kept (bit ac 2) _ ac h
-result_kept Addi a b c ac h = checked_kept (signed (slice_index b 0) +ℤ signed (slice_index a 0)) ac h
-result_kept Subi a b c ac h = checked_kept (signed (slice_index b 0) -ℤ signed (slice_index a 0)) ac h
-result_kept Muli a b c ac h = checked_kept (signed (slice_index b 0) *ℤ signed (slice_index a 0)) ac h
-result_kept Shli a b c ac h = checked_kept (signed (slice_index b 0) *ℤ pos (2 ^ slice_index a 0)) ac h
-result_kept Divo a b c ac h = divided_kept (slice_index a 0 == 0) _ ac h h
-result_kept Remo a b c ac h = divided_kept (slice_index a 0 == 0) _ ac h h
-result_kept Remi a b c ac h = divided_kept (slice_index a 0 == 0) _ ac h h
-result_kept Modi a b c ac h = divided_kept (slice_index a 0 == 0) _ ac h h
-result_kept Ediv a b c ac h = divided_kept (slice_index a 0 == 0) _ ac h h
 result_kept Divi a b c ac h =
     let z = int_div (signed (slice_index b 0)) (signed (slice_index a 0)) in
     divided_kept (slice_index a 0 == 0) (checked z ac) ac h (checked_kept z ac h)
-result_kept _ a b c ac h = h
+result_kept _ a b c ac h = search (rules, answer_rules)
 
 -- ---- what an action leaves
 
@@ -164,8 +139,7 @@ jumping_kept : (s : State) (to : ℕ) → IsKept s → Keeps (going s (aligned t
 jumping_kept s to h = going_kept s (aligned to) h (aligned_even to)
 
 branched_even : (b : Bool) (x y : ℕ) → x % 4 ≡ 0 → y % 4 ≡ 0 → cond b x y % 4 ≡ 0
-branched_even true x y h k = h
-branched_even false x y h k = k
+branched_even b x y h k = grind (arith, h, k)
 
 other_kept : (b : Bool) (i : Inst) (s : State) → IsKept s → Keeps (cond b (branching i s) (resulting i s (answer_in i s)))
 other_kept true i s h = record {
@@ -192,32 +166,22 @@ calls_kept i s h = record { ac = h.ac; pc = both.0; tc = h.tc; ip = both.1 }
 
 returned_kept : (user takes leaves : Bool) (m : Memory) (kind fp pc : ℕ) → IsWithin PC_MASK pc
     → IsWithin PC_MASK (cond user pc (cond takes (bit_and (saved_pc m fp) PC_MASK) (cond leaves (without_supervisor pc (kind % 2)) pc)))
-returned_kept true r l m kind fp pc h = h
-returned_kept false true l m kind fp pc h = masked PC_MASK (saved_pc m fp)
-returned_kept false false true m kind fp pc h = same_above pc (without_supervisor pc (kind % 2)) (omega arith) h
-returned_kept false false false m kind fp pc h = h
+returned_kept user takes leaves m kind fp pc h =
+    grind (arith, h, masked, same_above pc (without_supervisor pc (kind % 2)) (omega arith) h)
 
 read_kept : (b : Bool) (w ac : ℕ) → IsWithin AC_MASK ac → IsWithin AC_MASK (cond b (bit_and w AC_MASK) ac)
-read_kept true w ac h = masked AC_MASK w
-read_kept false w ac h = h
+read_kept b w ac h = grind (arith, masked, h)
 
 -- ---- an instruction
 
 message_kept : (m : Message) (i : Inst) (s : State) → IsKept s → Keeps (message_action m i s)
 message_kept AsksNothing i s h = passing_kept s i h
-message_kept _ i s h = let k = passing_kept s i h in record { ac = k.ac; pc = k.pc; tc = k.tc; ip = k.ip }
+message_kept _ i s h = passing_kept s i h
+
+ruleset action_rules = (passing_kept, jumping_kept, calls_kept, message_kept, other_kept)
 
 name_kept : (op : Op) (i : Inst) (s : State) → IsKept s → Keeps (action_by_name op i s)
 unfolding popped
-name_kept Lda i s h = passing_kept s i h
-name_kept Atadd i s h = passing_kept s i h
-name_kept Atmod i s h = passing_kept s i h
-name_kept Bx i s h = jumping_kept s _ h
-name_kept Balx i s h = jumping_kept s _ h
-name_kept Bal i s h = jumping_kept s _ h
-name_kept Call i s h = jumping_kept s _ h
-name_kept Callx i s h = jumping_kept s _ h
-name_kept Calls i s h = calls_kept i s h
 name_kept Ret i s h =
     let kind = return_type (s.regs PFP) in
     let fp = s.regs FP in record {
@@ -226,13 +190,10 @@ name_kept Ret i s h =
       tc = h.tc;
       ip = aligned_even _;
     }
-name_kept Flushreg i s h = passing_kept s i h
 name_kept Modac i s h = record { ac = masked AC_MASK _; pc = h.pc; tc = h.tc; ip = following_even s (words_of i) h }
 name_kept Modtc i s h = record { ac = h.ac; pc = h.pc; tc = masked TC_MASK _; ip = following_even s (words_of i) h }
 name_kept Modpc i s h = record { ac = h.ac; pc = masked PC_MASK _; tc = h.tc; ip = following_even s (words_of i) h }
-name_kept Sdma i s h = passing_kept s i h
-name_kept Sysctl i s h = message_kept (asked_message i s) i s h
-name_kept op i s h = other_kept (asks (question_of op)) i s h
+name_kept _ i s h = search (rules, action_rules)
 
 moving_kept : (d : Direction) (size : Size) (signed : Bool) (i : Inst) (s : State) → IsKept s → Keeps (moving d size signed i s)
 moving_kept Load size signed i s h = passing_kept s i h
@@ -265,13 +226,13 @@ interrupting_kept s c e h chosen ok =
 
 kind_kept : (limit : ℕ) (due : Due) (stands : Option Event) (k : Kind) (s : State) → MayCome limit due stands s k → IsKept s
     → Keeps (action_by_kind k s)
-kind_kept limit due stands (Instruction i) s may h = let k = instruction_kept i s h in record { ac = k.ac; pc = k.pc; tc = k.tc; ip = k.ip }
+kind_kept limit due stands (Instruction i) s may h = instruction_kept i s h
 kind_kept limit due stands (Faulted inst fault) s may h =
     let words = faulted_words inst in
     going_kept s (wrapped (s.ip + 4 * words)) h (following_even s words h)
 kind_kept limit due stands (Entered e) s may h = entering_kept s may.0 e h may.2
 kind_kept limit due stands (Interrupted c e) s may h = interrupting_kept s c e h may.2 may.3
-kind_kept limit due stands (Reached e u) s may h = record { ac = h.ac; pc = h.pc; tc = h.tc; ip = h.ip }
+kind_kept limit due stands (Reached e u) s may h = h
 
 -- ---- the state after it
 
@@ -300,7 +261,7 @@ acted_kept : (s : State) (a : Action) → FlagsKept a.trace → Keeps a → IsKe
 unfolding acted moved
 acted_kept s a flags h =
     flagged_kept a.trace (controlled (moved s a) a.control) flags
-    (controlled_kept (moved s a) a.control (record { ac = h.ac; pc = h.pc; tc = h.tc; ip = h.ip }))
+    (controlled_kept (moved s a) a.control h)
 
 -- ---- the flags of trace events
 
@@ -337,9 +298,8 @@ kind_flags : (k : Kind) (s : State) → Keeps (action_by_kind k s) → FlagsKept
 unfolding trace_of
 kind_flags (Instruction i) s h =
     let a = action_of i s in
-    let plain : Keeps a = record { ac = h.ac; pc = h.pc; tc = h.tc; ip = h.ip } in
     let left = (acted s a).trace in
-    let after = acted_kept s a (subst FlagsKept (sym (action_untraced i s)) tt) plain in
+    let after = acted_kept s a (subst FlagsKept (sym (action_untraced i s)) tt) h in
     let seen = seen_of i s a in
     trace_kept (is_traced s && is_raised left.tc i seen left.breaks) (trace_made left.tc i seen left.breaks)
     (made_kept left.tc i seen left.breaks after.tc)

@@ -8,7 +8,7 @@ use Rattle.i9_model.specs.declared.dma.TheConstants.{COMMAND_MASK, FIRST_ENDED_P
 use Rattle.i9_model.specs.declared.interrupts.Cause.{Cause}
 use Rattle.i9_model.specs.declared.interrupts.Cause.TheVariants as causes
 use Rattle.i9_model.specs.declared.event.Event.{Event}
-use Rattle.i9_model.specs.declared.event.Event.TheVariants.{Pin, Low, High, Nmi, Dma, Feed, Show}
+use Rattle.i9_model.specs.declared.event.Event.TheVariants.{Pin, Low, Dma, Feed}
 use Rattle.i9_model.specs.Events.{last_channel, IsInRange}
 use Rattle.i9_model.specs.ScheduleText.{IsPlan}
 use Rattle.i9_model.specs.State as states
@@ -17,7 +17,6 @@ use Rattle.i9_model.specs.Numbers.{complement}
 use Rattle.i9_model.specs.Interrupts.{with_bit, by_edge, is_low, posted, lowered, cleared}
 use Rattle.i9_model.specs.Requests.{without_bit}
 use Rattle.i9_model.specs.Dma.{set_up, is_last, posts_at_end, ended, dma_behind}
-use Rattle.i9_model.specs.Step.{Action}
 use Rattle.i9_model.specs.Before.{Received}
 use Rattle.i9_model.specs.Run.{Given, Record, state_after, IsPast}
 use Rattle.i9_model.proofs.KeptBits.{masked}
@@ -27,16 +26,16 @@ use Rattle.i9_laws.proofs.KeptBits.{masked_more, masked_or}
 use Rattle.i9_laws.proofs.InterruptsAlong.{AreKeeping, interrupts_after}
 
 -- the words of the special function registers: two of lines, and the DMA command word with the bits of channels
-pub record AreLines (i : Interrupts) (d : states.Dma) : Type 0 where
-  pub pending : IsWithin LINE_MASK i.pending
-  pub mask : IsWithin LINE_MASK i.mask
-  pub command : IsWithin COMMAND_MASK d.dmac
+pub record AreWithin (p m c : ℕ) : Type 0 where
+  pub pending : IsWithin LINE_MASK p
+  pub mask : IsWithin LINE_MASK m
+  pub command : IsWithin COMMAND_MASK c
+
+abbrev AreLines : Interrupts → states.Dma → Type 0
+AreLines i d = AreWithin i.pending i.mask d.dmac
 
 abbrev pub HasLines : State → Type 0
 HasLines s = AreLines s.interrupts s.dma
-
-abbrev LeavesLines : Action → Type 0
-LeavesLines a = AreLines a.interrupts a.dma
 
 -- ---- what posts and clears
 
@@ -52,14 +51,13 @@ lowered_lines : (x : ℕ) (i : Interrupts) (d : states.Dma) → x < 12 → AreLi
 lowered_lines x i d small h = by_post (by_edge i x && not (is_low i x))
   where
     by_post : (b : Bool) → AreLines (record (cond b (posted i x) i) { low = with_bit i.low x }) d
-    by_post true = let p = posted_lines x i d small h in record { pending = p.pending; mask = p.mask; command = p.command }
-    by_post false = record { pending = h.pending; mask = h.mask; command = h.command }
+    by_post true = posted_lines x i d small h
+    by_post false = h
 
 cleared_lines : (c : Cause) (i : Interrupts) (d : states.Dma) → AreLines i d → AreLines (cleared c i) d
-cleared_lines causes.Nmi i d h = record { pending = h.pending; mask = h.mask; command = h.command }
 cleared_lines (causes.Line k) i d h =
     record { pending = masked_more LINE_MASK i.pending (complement (2 ^ k)) h.pending; mask = h.mask; command = h.command }
-cleared_lines causes.Soft i d h = h
+cleared_lines _ i d h = h
 
 -- ---- the DMA command word
 
@@ -95,9 +93,11 @@ unfolding dma_behind
 unit_lines s c given small h = (h, posted_at_end (is_last (s.dma.channels c) && posts_at_end (s.dma.channels c)))
   where
     behind : AreLines s.interrupts (dma_behind s.dma c)
-    behind =
-        let command = ended_command (is_last (s.dma.channels c)) s.dma.dmac c small h.command in
-        record { pending = h.pending; mask = h.mask; command = command }
+    behind = record {
+      pending = h.pending;
+      mask = h.mask;
+      command = ended_command (is_last (s.dma.channels c)) s.dma.dmac c small h.command;
+    }
 
     posted_at_end : (b : Bool) → AreLines (cond b (posted s.interrupts (FIRST_DMA_LINE + c)) s.interrupts) (dma_behind s.dma c)
     posted_at_end true = posted_lines (FIRST_DMA_LINE + c) s.interrupts (dma_behind s.dma c) (omega (arith, small)) behind
@@ -106,11 +106,9 @@ unit_lines s c given small h = (h, posted_at_end (is_last (s.dma.channels c) && 
 event_lines : (s : State) (e : Event) → IsInRange e → HasLines s → IsByEvent ReceivesLines s e
 event_lines s (Pin x) range h = posted_lines x s.interrupts s.dma (omega (arith, range)) h
 event_lines s (Low x) range h = lowered_lines x s.interrupts s.dma (omega (arith, range)) h
-event_lines s (High x) range h = record { pending = h.pending; mask = h.mask; command = h.command }
-event_lines s Nmi range h = record { pending = h.pending; mask = h.mask; command = h.command }
 event_lines s (Dma c) range h = unit_lines s c None range h
 event_lines s (Feed c bytes) range h = unit_lines s c (Some bytes.items) range.0 h
-event_lines s (Show a n) range h = h
+event_lines s _ range h = h
 
 -- ---- a run
 
@@ -121,7 +119,7 @@ keeping_lines = record {
   command = λ v i d h. record { pending = h.pending; mask = h.mask; command = masked COMMAND_MASK v };
   sets = set_up_lines;
   clears = cleared_lines;
-  maps = λ maps icon i d h. record { pending = h.pending; mask = h.mask; command = h.command };
+  maps = λ maps icon i d h. h;
   starts = λ u i d h. record { pending = refl; mask = refl; command = refl };
   boots = λ u. record { pending = refl; mask = refl; command = refl };
   events = event_lines;

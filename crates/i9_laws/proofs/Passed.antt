@@ -2,15 +2,16 @@
 use Rattle.std.proofs.Common.{◌≡◌, ◌⊎◌, ℕ, zero, suc, ◌+◌, ◌≤◌, Bool, true, false, cond, List, [], ◌∷◌, length, drop, Option, Some, None, refl, sym, ap, ◌∙◌, subst, inl, inr, length-append, arith}
 use Rattle.std.specs.Prelude.{◌==◌}
 use Rattle.std.proofs.lemmas.Bool.{eqb-false}
+use Rattle.std.proofs.lemmas.List.{drop-drop}
 use Rattle.i9_past.proofs.Ends.{boot_count}
+use Rattle.i9_past.proofs.Left.{counts_after}
 use Rattle.i9_model.specs.declared.event.Event.{Event}
 use Rattle.i9_model.specs.declared.event.Timed.{Timed}
 use Rattle.i9_model.specs.declared.event.When.{When}
 use Rattle.i9_model.specs.declared.event.When.TheVariants.{At, Turn}
 use Rattle.i9_model.specs.State.{State}
 use Rattle.i9_model.specs.ScheduleText.{at_time, time_of, is_counted, has_come_at, InOrder, IsPlan, IsByCounts, standing}
-use Rattle.i9_model.specs.Run.{Given, Kind, Instruction, Faulted, Entered, Interrupted, Reached, Record, counts_of, action_by_kind, due_after, reached_by, reached_after, event_after, state_after, IsPast}
-use Rattle.i9_model.proofs.ControlLaws.{acted-count}
+use Rattle.i9_model.specs.Run.{Given, Kind, Instruction, Faulted, Record, counts_of, due_after, reached_by, reached_after, event_after, state_after, IsPast}
 use Rattle.i9_past.proofs.Comes.{next_comes}
 use Rattle.i9_laws.proofs.Decoded.{IsTurn, next_turn}
 
@@ -24,17 +25,6 @@ dropped : (time n : ℕ) (ts : List Timed) → InOrder time ts → InOrder time 
 dropped time zero ts order = order
 dropped time (suc n) [] order = tt
 dropped time (suc n) (t ∷ ts) order = sooner time (time_of t) (drop n ts) order.0 (dropped (time_of t) n ts order.1)
-
-further : (time place n : ℕ) (ts : List Timed) → InOrder time (drop place ts) → InOrder time (drop (place + n) ts)
-further time zero n ts order =
-    let same : n ≡ 0 + n = omega arith in
-    subst (λ (k : ℕ). InOrder time (drop k ts)) same (dropped time n ts order)
-further time (suc place) n [] order =
-    let same : suc (place + n) ≡ suc place + n = omega arith in
-    subst (λ (k : ℕ). InOrder time (drop k [])) same tt
-further time (suc place) n (t ∷ ts) order =
-    let same : suc (place + n) ≡ suc place + n = omega arith in
-    subst (λ (k : ℕ). InOrder time (drop k (t ∷ ts))) same (further time place n ts order)
 
 -- a time that has not come yet after so many instructions is later
 not_come : (k : ℕ) (w : When) (x : Event) → is_counted w ≡ true → cond (has_come_at k w) (Some x) None ≡ None → k ≤ at_time w
@@ -63,9 +53,7 @@ Counts stands k = (counts_of k ≡ 0) ⊎ ((counts_of k ≡ 1) × (stands ≡ No
 kind_counts : (stands : Option Event) (s : State) (k : Kind) → IsTurn stands s k → Counts stands k
 kind_counts stands s (Instruction i) turn = inr (refl, turn.0)
 kind_counts stands s (Faulted inst fault) turn = inr (refl, turn)
-kind_counts stands s (Entered e) turn = inl refl
-kind_counts stands s (Interrupted c e) turn = inl refl
-kind_counts stands s (Reached e u) turn = inl refl
+kind_counts stands s _ turn = inl refl
 
 -- ---- a run
 
@@ -79,12 +67,10 @@ none_passed g (r ∷ rs) plan counted past =
     let counts = kind_counts (event_after g rs) s r.kind
     (next_turn g.length (due_after rs) (event_after g rs) s r past.1) in
     let comes = next_comes g.length (due_after rs) (event_after g rs) s r past.1 in
-    let count : r.after.count ≡ s.count + counts_of r.kind =
-    ap (λ (q : Record). q.after.count) comes.0 ∙ ap (λ (n : ℕ). n + counts_of r.kind) (acted-count s (action_by_kind r.kind s)) in
+    let count : r.after.count ≡ s.count + counts_of r.kind = ap (λ (q : Record). q.after.count) comes.0 ∙ counts_after r.kind s in
     let now : InOrder r.after.count (drop place g.plan) = elim counts [
       | inl none ↦ sooner r.after.count s.count (drop place g.plan) (omega (arith, count, none)) order
       | inr one ↦
           sooner r.after.count (s.count + 1) (drop place g.plan) (omega (arith, count, one.0)) (later s.count place g.plan counted one.1 order)
     ] in
-    subst (λ (n : ℕ). InOrder r.after.count (drop n g.plan)) (sym (length-append (reached_after rs) (reached_by r.kind r.before)))
-    (further r.after.count place (length (reached_by r.kind r.before)) g.plan now)
+    rw (length-append, ← drop-drop) (dropped r.after.count (length (reached_by r.kind r.before)) (drop place g.plan) now)

@@ -48,8 +48,7 @@ bytes_by big w = cond big (to_be_bytes w32 w) (to_le_bytes w32 w)
 by_order : (big : Bool) (w p q r s : ℕ) → IsWord w → p ≡ get_or (bytes_by big w) 0 0 → q ≡ get_or (bytes_by big w) 1 0
     → r ≡ get_or (bytes_by big w) 2 0 → s ≡ get_or (bytes_by big w) 3 0
     → cond big (from_be_bytes w32 (p ∷ q ∷ r ∷ s ∷ [])) (from_le_bytes w32 (p ∷ q ∷ r ∷ s ∷ [])) ≡ w
-by_order true w p q r s small h i j k = omega (arith, small, h, i, j, k)
-by_order false w p q r s small h i j k = omega (arith, small, h, i, j, k)
+by_order big w p q r s small h i j k = grind (arith, small, h, i, j, k)
 
 -- the word whose bytes, in the order of another memory with the same regions, stand at an address
 word_back : (m n : Memory) (x w : ℕ) → n.mcon ≡ m.mcon → x < address_count → IsWord w

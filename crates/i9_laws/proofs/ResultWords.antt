@@ -1,18 +1,16 @@
 -- The results of words are words.
-use Rattle.std.proofs.Common.{◌≡◌, ℕ, zero, suc, ◌+◌, ◌-◌, ◌*◌, ◌/◌, ◌%◌, ◌^◌, ◌<◌, Bool, true, false, cond, List, [], ◌∷◌, Option, Some, None, refl, sym, ap, ◌∙◌, subst, arith, add-zero, bit_and, bit_or, ℤ}
-use Rattle.std.specs.Prelude.{nat_lt, slice_index, ◌==◌, ◌+ℤ◌, ◌-ℤ◌, ◌*ℤ◌, pos, negsuc, bit_xor}
-use Rattle.std.specs.Int.RustNames.{int_div, int_rem}
+use Rattle.std.proofs.Common.{◌≡◌, ℕ, zero, suc, ◌+◌, ◌-◌, ◌*◌, ◌/◌, ◌%◌, ◌^◌, ◌<◌, Bool, true, false, cond, List, [], ◌∷◌, Option, Some, None, refl, sym, ap, ◌∙◌, subst, arith, rules, add-zero, bit_and, bit_or, ℤ}
+use Rattle.std.specs.Prelude.{nat_lt, slice_index, ◌==◌, pos, negsuc}
 use Rattle.std.proofs.lemmas.Bool.{eqb-false}
 use Rattle.std.proofs.lemmas.Nat.{and_le_l, or_of_32, xor_of_32, pow_below, pow_pos, pow-add, mul-lt, mul-add-lt, div_below, shr_le, shr_below, shl-shr, mod_below, mod-pow-add}
 use Rattle.std.proofs.Math.Nat.{mul-div-mul_right, mul-mod_left, mod-le, div-le_self}
 use Rattle.i9_isa.specs.declared.op.Op.{Op}
-use Rattle.i9_isa.specs.declared.op.Op.TheVariants.{And, Or, Xor, Nor, Xnor, Nand, Andnot, Notand, Ornot, Notor, Not, Modify, Mov, Setbit, Clrbit, Notbit, Alterbit, Addo, Subo, Mulo, Addi, Subi, Muli, Addc, Subc, Emul, Divo, Remo, Divi, Remi, Modi, Shro, Shlo, Shri, Shrdi, Shli, Rotate, Extract, Cmpinco, Cmpinci, Cmpdeco, Cmpdeci, Concmpo, Concmpi, Spanbit, Scanbit, Testno, Testg, Teste, Testge, Testl, Testne, Testle, Testo, Movl, Movt, Movq, Ediv}
-use Rattle.i9_isa.specs.Words.{bit, field}
+use Rattle.i9_isa.specs.declared.op.Op.TheVariants.{Emul, Divo, Remo, Rotate, Movl, Movt, Movq, Ediv}
+use Rattle.i9_isa.specs.Words.{bit}
 use Rattle.i9_model.specs.declared.arith.Arith.TheVariants.{Overflow, ZeroDivide}
 use Rattle.i9_model.specs.Writes.{wrapped}
 use Rattle.i9_model.specs.Operands.{reduced}
-use Rattle.i9_model.specs.Numbers.{signed, modulo, shifted_down, complement, bit_word, highest_one}
-use Rattle.i9_model.specs.Conditions.{holds, code_of}
+use Rattle.i9_model.specs.Numbers.{complement, bit_word, highest_one}
 use Rattle.i9_model.specs.Results.{Answer, word, words, code, faulting, checked, found, turned_left, low_bits, shifted_right, long, long_divided, result_of, results_by}
 use Rattle.i9_model.specs.Step.{values_of}
 use Rattle.i9_laws.specs.Kept.{IsWord}
@@ -40,8 +38,7 @@ reduced_word (pos n) = omega arith
 reduced_word (negsuc n) = omega arith
 
 pub either_word : (b : Bool) (x y : ℕ) → IsWord x → IsWord y → IsWord (cond b x y)
-either_word true x y h k = h
-either_word false x y h k = k
+either_word b x y h k = grind (arith, h, k)
 
 shifted_word : (w p : ℕ) → IsWord w → IsWord (w / 2 ^ p)
 shifted_word w p h = let k = shr_le w p in omega (arith, h, k)
@@ -104,74 +101,30 @@ unless_words : (b : Bool) (new ac : ℕ) → AreWords (cond b (words [] ac) (cod
 unless_words true new ac = tt
 unless_words false new ac = tt
 
+ruleset result_rules = (
+  and_word,
+  or_of_32,
+  xor_of_32,
+  complement_word,
+  bit_is_word,
+  reduced_word,
+  either_word,
+  right_word,
+  low_word,
+  checked_words,
+  divided_words,
+  found_words,
+  highest_place,
+  unless_words,
+)
+
 result_words : (op : Op) (a b c ac : ℕ) → IsWord a → IsWord b → IsWord c → AreWords (values_of (result_of op a b c ac))
-result_words And a b c ac h k l = (and_word b a k, tt)
-result_words Or a b c ac h k l = (or_of_32 b a k h, tt)
-result_words Xor a b c ac h k l = (xor_of_32 b a k h, tt)
-result_words Nor a b c ac h k l = (complement_word (bit_or b a), tt)
-result_words Xnor a b c ac h k l = (complement_word (bit_xor b a), tt)
-result_words Nand a b c ac h k l = (complement_word (bit_and b a), tt)
-result_words Andnot a b c ac h k l = (and_word b (complement a) k, tt)
-result_words Notand a b c ac h k l = (and_word (complement b) a (complement_word b), tt)
-result_words Ornot a b c ac h k l = (or_of_32 b (complement a) k (complement_word a), tt)
-result_words Notor a b c ac h k l = (or_of_32 (complement b) a (complement_word b) h, tt)
-result_words Not a b c ac h k l = (complement_word a, tt)
-result_words Modify a b c ac h k l = (or_of_32 (bit_and b a) (bit_and c (complement a)) (and_word b a k) (and_word c (complement a) l), tt)
-result_words Mov a b c ac h k l = (h, tt)
-result_words Setbit a b c ac h k l = (or_of_32 b (bit_word a) k (bit_is_word a), tt)
-result_words Clrbit a b c ac h k l = (and_word b (complement (bit_word a)) k, tt)
-result_words Notbit a b c ac h k l = (xor_of_32 b (bit_word a) k (bit_is_word a), tt)
-result_words Alterbit a b c ac h k l =
-    let one = bit_word a in
-    let set = or_of_32 b one k (bit_is_word a) in
-    (either_word (bit ac 1) (bit_or b one) (bit_and b (complement one)) set (and_word b (complement one) k), tt)
-result_words Addo a b c ac h k l = (wrapped_word (b + a), tt)
-result_words Subo a b c ac h k l = (reduced_word (pos b -ℤ pos a), tt)
-result_words Mulo a b c ac h k l = (wrapped_word (b * a), tt)
-result_words Addi a b c ac h k l = checked_words (signed b +ℤ signed a) ac
-result_words Subi a b c ac h k l = checked_words (signed b -ℤ signed a) ac
-result_words Muli a b c ac h k l = checked_words (signed b *ℤ signed a) ac
-result_words Addc a b c ac h k l = (wrapped_word (b + a + field ac 1 1), tt)
-result_words Subc a b c ac h k l = (wrapped_word (b + complement a + field ac 1 1), tt)
 result_words Emul a b c ac h k l =
     (wrapped_word (a * b), (div_below (a * b) (2 ^ 32) (2 ^ 32) (omega arith) (mul-lt a b (2 ^ 32) (2 ^ 32) h k), tt))
 result_words Divo a b c ac h k l = divided_words (a == 0) (word (b / a) ac) ac (λ e. (let m = div-le_self b a in omega (arith, m, k), tt))
 result_words Remo a b c ac h k l = divided_words (a == 0) (word (b % a) ac) ac (λ e. (let m = mod-le b a in omega (arith, m, k), tt))
-result_words Divi a b c ac h k l =
-    let z = int_div (signed b) (signed a) in
-    divided_words (a == 0) (checked z ac) ac (λ e. checked_words z ac)
-result_words Remi a b c ac h k l =
-    let z = int_rem (signed b) (signed a) in
-    divided_words (a == 0) (word (reduced z) ac) ac (λ e. (reduced_word z, tt))
-result_words Modi a b c ac h k l =
-    let z = modulo (signed b) (signed a) in
-    divided_words (a == 0) (word (reduced z) ac) ac (λ e. (reduced_word z, tt))
-result_words Shro a b c ac h k l = (right_word b a k, tt)
-result_words Shlo a b c ac h k l = (either_word (nat_lt a 32) (wrapped (b * 2 ^ a)) 0 (wrapped_word (b * 2 ^ a)) (omega arith), tt)
-result_words Shri a b c ac h k l = (reduced_word (shifted_down (signed b) (cond (nat_lt a 32) a 31)), tt)
-result_words Shrdi a b c ac h k l =
-    let z = int_div (signed b) (pos (2 ^ a)) in
-    (either_word (nat_lt a 32) (reduced z) 0 (reduced_word z) (omega arith), tt)
-result_words Shli a b c ac h k l = checked_words (signed b *ℤ pos (2 ^ a)) ac
 result_words Rotate a b c ac h k l = (turned_word b (a % 32) k (omega arith), tt)
-result_words Extract a b c ac h k l = (low_word b (shifted_right c a) (right_word c a l), tt)
-result_words Cmpinco a b c ac h k l = (wrapped_word (b + 1), tt)
-result_words Cmpinci a b c ac h k l = (wrapped_word (b + 1), tt)
-result_words Cmpdeco a b c ac h k l = (reduced_word (pos b -ℤ pos 1), tt)
-result_words Cmpdeci a b c ac h k l = (reduced_word (pos b -ℤ pos 1), tt)
-result_words Concmpo a b c ac h k l = unless_words (bit ac 2) _ ac
-result_words Concmpi a b c ac h k l = unless_words (bit ac 2) _ ac
-result_words Spanbit a b c ac h k l = found_words (highest_one 32 (complement a)) ac (highest_place 32 (complement a))
-result_words Scanbit a b c ac h k l = found_words (highest_one 32 a) ac (highest_place 32 a)
-result_words Testno a b c ac h k l = (either_word (holds 0 (code_of ac)) 1 0 (omega arith) (omega arith), tt)
-result_words Testg a b c ac h k l = (either_word (holds 1 (code_of ac)) 1 0 (omega arith) (omega arith), tt)
-result_words Teste a b c ac h k l = (either_word (holds 2 (code_of ac)) 1 0 (omega arith) (omega arith), tt)
-result_words Testge a b c ac h k l = (either_word (holds 3 (code_of ac)) 1 0 (omega arith) (omega arith), tt)
-result_words Testl a b c ac h k l = (either_word (holds 4 (code_of ac)) 1 0 (omega arith) (omega arith), tt)
-result_words Testne a b c ac h k l = (either_word (holds 5 (code_of ac)) 1 0 (omega arith) (omega arith), tt)
-result_words Testle a b c ac h k l = (either_word (holds 6 (code_of ac)) 1 0 (omega arith) (omega arith), tt)
-result_words Testo a b c ac h k l = (either_word (holds 7 (code_of ac)) 1 0 (omega arith) (omega arith), tt)
-result_words _ a b c ac h k l = tt
+result_words _ a b c ac h k l = search (rules, arith, result_rules)
 
 -- each item of a list of words is a word
 pub item_word : (vs : List ℕ) (k : ℕ) → AreWords vs → IsWord (slice_index vs k)

@@ -113,8 +113,7 @@ name_controls Calls i s u = system_controls (system_call i s).switched s u
 name_controls _ i s u = (either (not (in_supervisor_mode u.pc)) u.pc, refl)
 
 record_pc : (b : Bool) (pc w : ℕ) → cond (not b) pc w ≡ cond b w pc
-record_pc true pc w = refl
-record_pc false pc w = refl
+record_pc b pc w = grind arith
 
 kind_controls : (k : Kind) (s u : State) → IsTrue (is_call k) → Leaves u (type_of k s) (pc_back k s u) (ac_back k u)
 kind_controls (Instruction i) s u h = name_controls i.op i s u
@@ -155,9 +154,8 @@ return_free : (limit : ℕ) (due : Due) (stands : Option Event) (k : Kind) (u : 
 unfolding hazard_of
 return_free limit due stands (Instruction i) u h may =
     let e = is_ret i.op h in
-    sym (ap (λ (o : Op). hazard_in u (access_by_name o i u)) e)
-    ∙ sym (ap (λ (o : Op). hazard_in u (access_by (transfer_of o) i u)) e)
-    ∙ may.2
+    subst (λ (o : Op). hazard_in u (access_by_name o i u) ≡ None) e
+    (subst (λ (o : Op). hazard_in u (access_by (transfer_of o) i u) ≡ None) e may.2)
 return_free limit due stands _ u h may = absurd cc
 
 -- no call returns to an address with low bits

@@ -1,5 +1,5 @@
 -- A run reaches the first events of its plan, prints a schedule of them, and is the run of these alone.
-use Rattle.std.proofs.Common.{◌≡◌, ℕ, List, [], ◌∷◌, ◌++◌, Option, Some, None, refl, sym, ap, ◌∙◌, subst}
+use Rattle.std.proofs.Common.{◌≡◌, ℕ, List, [], ◌∷◌, ◌++◌, Option, Some, None, refl, sym, ap, subst}
 use Rattle.std.proofs.lemmas.List.{append-nil}
 use Rattle.i9_text.specs.Text as texts
 use Rattle.i9_model.specs.declared.event.Event.{Event}
@@ -71,23 +71,11 @@ event_reached _ s = refl
 -- those of a record are what it reached
 record_reached : (r : Record) → events_of (record_lines r) ≡ reached_by r.kind r.before
 record_reached r =
-    let out = out_lines (console_byte (action_done r).writes) in
-    let point = point_lines (point_of r.kind) r.after in
-    let none : events_of (out ++ point) ≡ [] =
-    events_append out point
-    ∙ ap (λ (ts : List Timed). ts ++ events_of point) (out_none (console_byte (action_done r).writes))
-    ∙ point_none (point_of r.kind) r.after in
-    events_append (event_lines r.kind r.before) (out ++ point)
-    ∙ ap (λ (ts : List Timed). ts ++ events_of (out ++ point)) (event_reached r.kind r.before)
-    ∙ ap (λ (ts : List Timed). reached_by r.kind r.before ++ ts) none
-    ∙ append-nil (reached_by r.kind r.before)
+    simp (events_append, out_none (console_byte (action_done r).writes), point_none (point_of r.kind) r.after, event_reached r.kind r.before, append-nil)
 
 records_reached : (rs : List Record) → events_of (lines_of rs) ≡ reached_after rs
 records_reached [] = refl
-records_reached (r ∷ rs) =
-    events_append (lines_of rs) (record_lines r)
-    ∙ ap (λ (ts : List Timed). ts ++ events_of (record_lines r)) (records_reached rs)
-    ∙ ap (λ (ts : List Timed). reached_after rs ++ ts) (record_reached r)
+records_reached (r ∷ rs) = rw (events_append (lines_of rs) (record_lines r), records_reached rs, record_reached r)
 
 last_none : (v : View) (e : End) → events_of (last_lines v e) ≡ []
 last_none v (Exit w) = refl
@@ -99,10 +87,7 @@ journal_last k (Some e) = refl
 
 -- those of an end are what was reached with it
 end_reached : (s : State) (f : Finish) → events_of (end_lines s f) ≡ reached_last s.count f.event
-end_reached s f =
-    events_append (journal_lines s.count f.event) (last_lines (view_of s) f.end)
-    ∙ ap (λ (ts : List Timed). events_of (journal_lines s.count f.event) ++ ts) (last_none (view_of s) f.end)
-    ∙ append-nil (events_of (journal_lines s.count f.event)) ∙ journal_last s.count f.event
+end_reached s f = simp (events_append, last_none (view_of s) f.end, append-nil, journal_last s.count f.event)
 
 -- the text behind the line of a version says it, and the events that were reached
 abbrev pub SaysReached : ℕ → Given → List Record → Finish → Type 0
@@ -114,10 +99,7 @@ pub text_says : (version : ℕ) (g : Given) (rs : List Record) (f : Finish) → 
 text_says version g rs f is plan of =
     let last = end_lines (state_after g rs) f in
     let lines = lines_of rs ++ last in
-    let events : events_of lines ≡ reached_in g rs f =
-    events_append (lines_of rs) last
-    ∙ ap (λ (ts : List Timed). events_of (lines_of rs) ++ ts) (end_reached (state_after g rs) f)
-    ∙ ap (λ (ts : List Timed). ts ++ reached_last (state_after g rs).count f.event) (records_reached rs) in
+    let events : events_of lines ≡ reached_in g rs f = rw (events_append (lines_of rs) last, records_reached rs, end_reached (state_after g rs) f) in
     let says = replay version lines is (subst IsPlan (sym events) plan) (subst (AreOfVersion version) (sym events) of) in
     subst (λ (ts : List Timed). IsSchedule (texts.lines_of (heading_text version ++ text_of lines)) (record { version = version; events = ts })) events says
 

@@ -96,8 +96,7 @@ with_words_below m a (w ∷ ws) h x =
 -- ---- words of bytes
 
 half_by : (b : Bool) (p q : ℕ) → p < 256 → q < 256 → cond b (from_be_bytes w16 (p ∷ q ∷ [])) (from_le_bytes w16 (p ∷ q ∷ [])) < 2 ^ 16
-half_by true p q h k = omega (arith, h, k)
-half_by false p q h k = omega (arith, h, k)
+half_by b p q h k = grind (arith, h, k)
 
 pub half_below : (m : Memory) (a : ℕ) → ((x : ℕ) → m.bytes x < 256) → half_in m a < 2 ^ 16
 unfolding half_in
@@ -105,8 +104,7 @@ half_below m a h = half_by (is_big m (region_of a)) (m.bytes a) (m.bytes (wrappe
 
 word_by : (b : Bool) (p q r s : ℕ) → p < 256 → q < 256 → r < 256 → s < 256
     → cond b (from_be_bytes w32 (p ∷ q ∷ r ∷ s ∷ [])) (from_le_bytes w32 (p ∷ q ∷ r ∷ s ∷ [])) < 2 ^ 32
-word_by true p q r s h i j k = omega (arith, h, i, j, k)
-word_by false p q r s h i j k = omega (arith, h, i, j, k)
+word_by b p q r s h i j k = grind (arith, h, i, j, k)
 
 pub word_below : (m : Memory) (a : ℕ) → ((x : ℕ) → m.bytes x < 256) → word_in m a < 2 ^ 32
 unfolding word_in

@@ -1,17 +1,16 @@
 -- A return right after a system call undoes it.
-use Rattle.std.proofs.Common.{◌≡◌, ℕ, zero, suc, ◌+◌, ◌/◌, ◌%◌, ◌<◌, Bool, true, false, cond, List, ◌∷◌, length, Option, Some, None, Result, Ok, Err, refl, ap, subst, ◌∙◌, arith, bit_and}
+use Rattle.std.proofs.Common.{◌≡◌, ℕ, zero, suc, ◌+◌, ◌/◌, ◌%◌, ◌<◌, Bool, true, false, cond, ◌∷◌, length, Option, Some, None, Ok, Err, refl, ap, subst, ◌∙◌, arith}
 use Rattle.std.specs.Prelude.{nat_le, nat_lt, ◌==◌, not, if◌then◌else◌}
 use Rattle.std.proofs.lemmas.Bool.{and_parts, eqb-false, not-true}
 use Rattle.i9_model.proofs.CallLaws.{second_none}
-use Rattle.i9_model.specs.declared.layout.TheConstants.{FRAME_SIZE, MOST_SYSTEM_CALL, AC_MASK}
+use Rattle.i9_model.specs.declared.layout.TheConstants.{FRAME_SIZE, MOST_SYSTEM_CALL}
 use Rattle.i9_model.specs.declared.calls.Sys.{Sys}
 use Rattle.i9_model.specs.declared.calls.CallsStop.TheVariants.{Length}
-use Rattle.i9_model.specs.declared.calls.Pop.{Pop}
 use Rattle.i9_model.specs.Memory.{Memory, word_in}
 use Rattle.i9_model.specs.State.{Frames}
 use Rattle.i9_model.specs.Frames.{rounded_down, pushed, saved}
-use Rattle.i9_model.specs.Hazards.{or_else, unless, port_hazard, save_hazard, write_hazard, read_hazard, return_hazard}
-use Rattle.i9_model.specs.Calls.{Caller, in_supervisor_mode, with_supervisor, entry_address, stack_address, is_switch, stack_hazard, system_hazard, entered_here, entered_switched, system_entered, call_type, calls_answer, planned_calls, return_type, takes_record, leaves_supervisor, without_supervisor, record_hazard, controls_hazard, returned_pc, returned_ac, saved_ac, ret_hazard, return_marks, popped, planned_ret, Undoes}
+use Rattle.i9_model.specs.Hazards.{or_else, unless, port_hazard, save_hazard, write_hazard, read_hazard}
+use Rattle.i9_model.specs.Calls.{Caller, in_supervisor_mode, with_supervisor, entry_address, stack_address, is_switch, stack_hazard, system_hazard, entered_here, entered_switched, system_entered, call_type, calls_answer, planned_calls, return_type, takes_record, leaves_supervisor, without_supervisor, returned_pc, ret_hazard, return_marks, popped, planned_ret, Undoes}
 
 -- a system call that is planned meets no hazard
 made : (b : Bool) (o : Option ℕ) (p s : Sys) → (if b then calls_answer (unless o p) else Err Length) ≡ Ok s → (o ≡ None) × (p ≡ s)
@@ -29,43 +28,21 @@ saves m f table n pc fp e =
     second_none (write_hazard f (rounded_down fp) FRAME_SIZE) (port_hazard (rounded_down fp) FRAME_SIZE)
     (second_none stack save (second_none (read_hazard f entry 4) (or_else stack save) e))
 
-same : (a : ℕ) → (a == a) ≡ true
-same a = grind arith
-
-one_more : (xs : List ℕ) (a : ℕ) → nat_lt 0 (length (a ∷ xs)) ≡ true
-one_more xs a = grind arith
-
--- the frame that was saved is the first live one, and no record is read
-returned_to : (r k e l : Bool) (h port : Option ℕ) (a x p pc ac m : ℕ) → r ≡ false → k ≡ false → e ≡ true → l ≡ true → port ≡ None → p ≡ pc →
-    ◌≡◌ {A = Result Pop ℕ}
-    (unless (or_else (if r then h else None) (or_else (if e then None else Some a) port)) (record { frame = a; live = l; pc = p; ac = if r then x else ac; check = k; marks = m }))
-    (Ok (record { frame = a; live = true; pc = pc; ac = ac; check = false; marks = m }))
-returned_to r k e l h port a x p pc ac m er ek ee el en ep =
-    λ i. unless (or_else (if er i then h else None) (or_else (if ee i then None else Some a) (en i))) (record { frame = a; live = el i; pc = ep i; ac = if er i then x else ac; check = ek i; marks = m })
-
--- what a return makes of its type and of its frame
-abbrev answered : Memory → Frames → ℕ → ℕ → ℕ → ℕ → ℕ → Result Pop ℕ
-answered m f kind a fp pc ac =
-    unless (or_else (controls_hazard f kind fp) (return_hazard f a))
-    (record { frame = a; live = nat_lt 0 (length f.live); pc = returned_pc m kind fp pc; ac = returned_ac m kind fp ac; check = kind == 7; marks = return_marks f a })
-
-by_type : (m : Memory) (f : Frames) (pfp kind a fp pc ac : ℕ) → return_type pfp ≡ kind → rounded_down pfp ≡ a → planned_ret m f pfp fp pc ac ≡ answered m f kind a fp pc ac
-unfolding ret_hazard popped
-by_type m f pfp kind a fp pc ac p q = λ i. answered m f (p i) (q i) fp pc ac
-
--- the type is in the low bits of the pfp that a push makes
+-- the type is in the low bits of the pfp that a push makes, the frame that was saved is the first live one, and no record is read
 undoes : (m : Memory) (f : Frames) (a kind fp new pc ac : ℕ) → a % 16 ≡ 0 → kind < 8 → takes_record kind ≡ false → (kind == 7) ≡ false → returned_pc m kind fp new ≡ pc → port_hazard a FRAME_SIZE ≡ None →
     planned_ret m (saved f a) (a + kind) fp new ac ≡ Ok (record { frame = a; live = true; pc = pc; ac = ac; check = false; marks = return_marks (saved f a) a })
+unfolding ret_hazard popped
 undoes m f a kind fp new pc ac low small t k e none =
-    by_type m (saved f a) (a + kind) kind a fp new ac (omega arith) (omega arith)
-    ∙ returned_to (takes_record kind) (kind == 7) (a == a) (nat_lt 0 (length (a ∷ f.live))) (record_hazard (saved f a) fp) (port_hazard a FRAME_SIZE) a (bit_and (saved_ac m fp) AC_MASK) (returned_pc m kind fp new) pc ac (return_marks (saved f a) a)
-    t k (same a) (one_more f.live a) none e
+    let type : return_type (a + kind) ≡ kind = omega arith in
+    let frame : rounded_down (a + kind) ≡ a = omega arith in
+    let same : (a == a) ≡ true = grind arith in
+    let live : nat_lt 0 (length (a ∷ f.live)) ≡ true = grind arith in
+    rw (type, frame, e, t, k, same, none, live)
 
 -- ---- the controls
 
 pub either : (b : Bool) (n : ℕ) → cond b n n ≡ n
-either true n = refl
-either false n = refl
+either b n = grind arith
 
 -- type 000 leaves the process controls
 local_pc : (m : Memory) (fp pc : ℕ) → returned_pc m 0 fp pc ≡ pc
@@ -84,9 +61,7 @@ left_controls pc w ac x (suc (suc t)) b h = absurd (omega (arith, h))
 
 -- and their frame has no request to look at
 switched_type : (t : ℕ) → t < 2 → (takes_record (2 + t) ≡ false) × ((2 + t == 7) ≡ false)
-switched_type zero h = (refl, refl)
-switched_type (suc zero) h = (refl, refl)
-switched_type (suc (suc t)) h = absurd (omega arith)
+switched_type t h = (grind (arith, h), grind (arith, h))
 
 user_bit : (pc : ℕ) → in_supervisor_mode pc ≡ false → pc / 2 % 2 ≡ 0
 user_bit pc e = let other : pc / 2 % 2 ≡ 1 → ⊥ = eqb-false _ _ e in omega arith
@@ -129,7 +104,7 @@ entered c later table n ac none =
     by_switch (is_switch entry c.pc) later c.frames entry (word_in c.memory (stack_address table)) c.pc c.fp c.sp ac (λ e. not-true _ (and_parts _ _ e).1) none
 
 -- a return right after a system call undoes it
-pub call-undone : (c : Caller) (later : Memory) (table n ac : ℕ) (s : Sys) → planned_calls c table n ≡ Ok s → Undoes later c.frames c.pc ac s
-call-undone c later table n ac s e =
+pub call_undone : (c : Caller) (later : Memory) (table n ac : ℕ) (s : Sys) → planned_calls c table n ≡ Ok s → Undoes later c.frames c.pc ac s
+call_undone c later table n ac s e =
     let both = made (nat_le n MOST_SYSTEM_CALL) (system_hazard c.memory c.frames table n c.pc c.fp) (system_entered c table n 0 (call_type c.pc)) s e in
     subst (Undoes later c.frames c.pc ac) both.1 (entered c later table n ac (saves c.memory c.frames table n c.pc c.fp both.0))

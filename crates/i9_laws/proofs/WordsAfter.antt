@@ -1,11 +1,11 @@
 -- Along every run registers are below 2^32 and bytes of memory below 256, where the bytes of the image are.
-use Rattle.std.proofs.Common.{◌≡◌, ℕ, zero, suc, ◌+◌, ◌-◌, ◌^◌, ◌<◌, Bool, true, false, cond, List, [], ◌∷◌, Option, Some, None, Ok, length, refl, sym, subst, arith}
-use Rattle.std.specs.Prelude.{◌==◌, ◌||◌, replicate, bit_and}
+use Rattle.std.proofs.Common.{◌≡◌, ℕ, zero, suc, ◌+◌, ◌-◌, ◌^◌, ◌<◌, Bool, true, false, cond, List, [], ◌∷◌, Option, Some, None, Ok, length, refl, sym, subst, arith, rules}
+use Rattle.std.specs.Prelude.{◌==◌, replicate, bit_and}
 use Rattle.std.specs.List.{range_with_len}
 use Rattle.std.proofs.lemmas.Nat.{and_le_r}
 use Rattle.i9_isa.specs.Words.{field}
 use Rattle.i9_isa.specs.declared.op.Op.{Op}
-use Rattle.i9_isa.specs.declared.op.Op.TheVariants.{Lda, Atadd, Atmod, Bx, Balx, Bal, Call, Callx, Calls, Ret, Flushreg, Modac, Modtc, Modpc, Sdma, Sysctl}
+use Rattle.i9_isa.specs.declared.op.Op.TheVariants.{Flushreg, Modac, Modtc, Modpc}
 use Rattle.i9_isa.specs.declared.size.Size.{Size}
 use Rattle.i9_isa.specs.declared.size.Size.TheVariants.{Byte, Half, Words}
 use Rattle.i9_isa.specs.declared.size.Direction.{Direction}
@@ -27,13 +27,13 @@ use Rattle.i9_model.specs.Memory.{Memory, half_in, word_in, words_in}
 use Rattle.i9_model.specs.Boot.{setup_of, configured, with_boot_bytes, boot_setup}
 use Rattle.i9_model.specs.State.{State, Interrupts, image_memory, frame_sets, first_frame, start_sets, started, boot}
 use Rattle.i9_model.specs.Frames.{rounded_down, pushed}
-use Rattle.i9_model.specs.Stale.{legible, left_memory, mark_of}
+use Rattle.i9_model.specs.Stale.{legible, left_memory}
 use Rattle.i9_model.specs.Operands.{value, higher_word, word_of, source_words, assigned, address, target}
-use Rattle.i9_model.specs.Branches.{asks, question_of, is_taken}
+use Rattle.i9_model.specs.Branches.{is_taken}
 use Rattle.i9_model.specs.Calls.{popped}
 use Rattle.i9_model.specs.Controls.{Control, KeepsControls, Restarts, LoadsGroup, controlled}
 use Rattle.i9_model.specs.Tables.{group_words}
-use Rattle.i9_model.specs.Step.{Move, Stays, Saves, Action, saved_local, saved_locals, pushing, call_action, calls_action, ret_action, first_word, next_word, loaded, moving, merged, atomic, atomic_address, following, answer_in, destination, values_of, branching, resulting, Message, AsksRestart, asked_message, message_action, push_sets, system_call, entering, action_by_name, action_by, action_of, moved, acted}
+use Rattle.i9_model.specs.Step.{Move, Stays, Saves, Action, saved_local, saved_locals, pushing, call_action, calls_action, ret_action, first_word, next_word, loaded, moving, atomic, atomic_address, following, answer_in, destination, values_of, branching, resulting, Message, AsksRestart, message_action, push_sets, system_call, entering, action_by_name, action_by, action_of, moved, acted}
 use Rattle.i9_model.specs.declared.run.Due.{Due}
 use Rattle.i9_model.specs.declared.interrupts.TheConstants.{LINE_MASK}
 use Rattle.i9_model.specs.declared.dma.TheConstants.{COMMAND_MASK}
@@ -52,16 +52,19 @@ use Rattle.i9_laws.proofs.Entered.{call_by, entry_by, entry_for, interrupt_made}
 use Rattle.i9_laws.proofs.KeptBits.{IsKept, kept_after}
 use Rattle.i9_laws.proofs.KeptLines.{HasLines, lines_after}
 use Rattle.i9_laws.proofs.BytesAfter.{done_stores, moved_bytes, image_bytes, boot_bytes}
-use Rattle.i9_laws.proofs.Decoded.{IsSmall, HasSmall, decoded_small, runs_decoded, IsTurn, next_turn}
+use Rattle.i9_laws.proofs.Decoded.{IsSmall, HasSmall, decoded_small, IsTurn, next_turn}
 use Rattle.i9_laws.proofs.StoredWords.{ArePut, all_append, put_pairs, all_map, written_below, half_below, word_below, words_below}
 use Rattle.i9_laws.proofs.ResultWords.{AreWords, either_word, results_words}
 
 -- registers and the instruction address are words, and bytes are bytes, soft ones as they are read too
-pub record HasWords (s : State) : Type 0 where
-  pub regs : (r : ℕ) → IsWord (s.regs r)
-  pub ip : IsWord s.ip
-  pub bytes : (x : ℕ) → s.memory.bytes x < 256
-  pub reading : (b : ℕ) → b < 256 → s.reading b < 256
+pub record AreWithinWords (f : ℕ → ℕ) (at : ℕ) (memory soft : ℕ → ℕ) : Type 0 where
+  pub regs : (r : ℕ) → IsWord (f r)
+  pub ip : IsWord at
+  pub bytes : (x : ℕ) → memory x < 256
+  pub reading : (b : ℕ) → b < 256 → soft b < 256
+
+abbrev pub HasWords : State → Type 0
+HasWords s = AreWithinWords s.regs s.ip s.memory.bytes s.reading
 
 -- so bytes are as a load and as a return finds them
 legible_bytes : (s : State) → HasWords s → (x : ℕ) → (legible s).bytes x < 256
@@ -114,9 +117,8 @@ pending_is_word i h =
     omega (arith, kept, within, levels, sum)
 
 special_word : (a b : Bool) (s : State) → HasLines s → IsWord (cond a (pending_word s.interrupts) (cond b s.interrupts.mask s.dma.dmac))
-special_word true b s l = pending_is_word s.interrupts l.pending
-special_word false true s l = within_word LINE_MASK s.interrupts.mask (omega arith) l.mask
-special_word false false s l = within_word COMMAND_MASK s.dma.dmac (omega arith) l.command
+special_word a b s l =
+    grind (arith, pending_is_word s.interrupts l.pending, within_word LINE_MASK s.interrupts.mask (omega arith) l.mask, within_word COMMAND_MASK s.dma.dmac (omega arith) l.command)
 
 value_word : (s : State) (o : Operand) → HasWords s → HasLines s → IsSmall o → IsWord (value s o)
 value_word s (Reg r) h l k = h.regs r
@@ -148,9 +150,7 @@ frame_words locals fp h k =
 -- ---- loads and stores
 
 filled_word : (signed b : Bool) (width v : ℕ) → v < 2 ^ width → IsWord v → IsWord (cond signed (cond b v (v + 2 ^ 32 - 2 ^ width)) v)
-filled_word true true width v h k = k
-filled_word true false width v h k = omega (arith, h, k)
-filled_word false b width v h k = k
+filled_word signed b width v h k = grind (arith, h, k)
 
 loaded_words : (size : Size) (signed : Bool) (m : Memory) (a : ℕ) → ((x : ℕ) → m.bytes x < 256) → AreWords (loaded size signed m a)
 loaded_words Byte signed m a h = let k = h a in (filled_word signed _ 8 (m.bytes a) k (omega (arith, k)), tt)
@@ -260,24 +260,14 @@ ret_words s h =
       next = aligned_word _ (word_below m (wrapped (a + 8)) bytes);
     }
 
+ruleset action_rules = (setting, one_set, behind_word, aligned_word, word_below, legible_bytes, call_words, calls_words, ret_words, message_words, other_words)
+
 name_words : (op : Op) (i : Inst) (s : State) → HasWords s → HasLines s → IsKept s → HasSmall i → DoesWords (action_by_name op i s)
-name_words Lda i s h l k small = setting (one_set i.c (address s i.ea) (omega arith)) (behind_word i s)
-name_words Atadd i s h l k small = atomic_words i s (mark_of s i.b 0) (λ old. wrapped (old + value s i.b)) h
-name_words Atmod i s h l k small = atomic_words i s (mark_of s i.b 0 || mark_of s i.c 0) (λ old. merged old (value s i.b) (value s i.c)) h
-name_words Bx i s h l k small = setting tt (aligned_word (address s i.ea) (omega arith))
-name_words Balx i s h l k small = setting (one_set i.c (following i s) (behind_word i s)) (aligned_word (address s i.ea) (omega arith))
-name_words Bal i s h l k small = setting (behind_word i s, tt) (aligned_word (target i s) (omega arith))
-name_words Call i s h l k small = call_words i s (target i s) h (omega arith)
-name_words Callx i s h l k small = call_words i s (address s i.ea) h (omega arith)
-name_words Calls i s h l k small = calls_words i s h
-name_words Ret i s h l k small = ret_words s h
 name_words Flushreg i s h l k small = record { registers = tt; saves = tt; starts = tt; next = behind_word i s }
 name_words Modac i s h l k small = setting (one_set i.c s.ac (within_word AC_MASK s.ac (omega arith) k.ac)) (behind_word i s)
 name_words Modtc i s h l k small = setting (one_set i.c s.trace.tc (within_word TC_MASK s.trace.tc (omega arith) k.tc)) (behind_word i s)
 name_words Modpc i s h l k small = setting (one_set i.c s.pc (within_word PC_MASK s.pc (omega arith) k.pc)) (behind_word i s)
-name_words Sdma i s h l k small = setting tt (behind_word i s)
-name_words Sysctl i s h l k small = message_words (asked_message i s) i s h l small
-name_words op i s h l k small = other_words (asks (question_of op)) i s h l small
+name_words _ i s h l k small = search (rules, arith, action_rules)
 
 instruction_words : (i : Inst) (s : State) → HasWords s → HasLines s → IsKept s → HasSmall i → DoesWords (action_of i s)
 unfolding action_of
@@ -296,8 +286,7 @@ entering_words s fault e h ok =
     let made = entry_by (λ (x : Sys). IsPushed x.push × IsWord x.target) s fault e
     (record { switched = λ x y. (push (aligned (word_in s.memory y)), target x); here = λ x. (push (s.regs SP), target x) }) ok in
     let both : IsPushed e.push × IsWord e.target = subst (λ (x : Entry). IsPushed x.push × IsWord x.target) made.2 made.1 in
-    let pushes = pushing_words s e.push s.ip e.target h both.0 h.ip both.1 in
-    record { registers = pushes.registers; saves = pushes.saves; starts = tt; next = pushes.next }
+    pushing_words s e.push s.ip e.target h both.0 h.ip both.1
 
 interrupting_words : (s : State) (c : Chosen) (e : Entry) → HasWords s → interrupt_in s c ≡ Ok e → DoesWords (interrupting c e s)
 interrupting_words s c e h ok =
@@ -305,15 +294,14 @@ interrupting_words s c e h ok =
     let push = pushed_words (s.regs FP) base RECORD_SIZE INTERRUPT_RETURN (h.regs FP) (omega arith) in
     let at = vector_place s.tables.interrupt_table c.vector in
     let made = entry_for s c in
-    let pushes = pushing_words s made.push s.ip made.target h push h.ip (aligned_word (word_in s.memory at) (word_below s.memory at h.bytes)) in
-    subst (λ (x : Entry). DoesWords (interrupting c x s)) (interrupt_made s c e ok).0
-    (record { registers = pushes.registers; saves = pushes.saves; starts = tt; next = pushes.next })
+    let pushes : DoesWords (interrupting c made s) = pushing_words s made.push s.ip made.target h push h.ip (aligned_word (word_in s.memory at) (word_below s.memory at h.bytes)) in
+    subst (λ (x : Entry). DoesWords (interrupting c x s)) (interrupt_made s c e ok).0 pushes
 
 kind_words : (limit : ℕ) (due : Due) (stands : Option Event) (k : Kind) (s : State) → MayCome limit due stands s k
     → IsTurn stands s k
     → HasWords s → HasLines s → IsKept s → DoesWords (action_by_kind k s)
 kind_words limit due stands (Instruction i) s may d h l k =
-    instruction_words i s h l k (decoded_small (first_word s) (next_word s) i (runs_decoded s i d.1))
+    instruction_words i s h l k (decoded_small (first_word s) (next_word s) i d.1)
 kind_words limit due stands (Faulted inst fault) s may d h l k = setting tt (omega arith)
 kind_words limit due stands (Entered e) s may d h l k = entering_words s may.0 e h may.2
 kind_words limit due stands (Interrupted c e) s may d h l k = interrupting_words s c e h may.3
@@ -328,10 +316,10 @@ start_words u =
 
 -- a control group changes no register and no instruction address
 group_words_kept : (a b c : Bool) (s : State) (group : ℕ) (ws : List ℕ) → HasWords s → HasWords (by_group a b c s group ws)
-group_words_kept true b c s group ws h = record { regs = h.regs; ip = h.ip; bytes = h.bytes; reading = h.reading }
-group_words_kept false true c s group ws h = record { regs = h.regs; ip = h.ip; bytes = h.bytes; reading = h.reading }
-group_words_kept false false true s group ws h = record { regs = h.regs; ip = h.ip; bytes = h.bytes; reading = h.reading }
-group_words_kept false false false s group ws h = record { regs = h.regs; ip = h.ip; bytes = h.bytes; reading = h.reading }
+group_words_kept true b c s group ws h = h
+group_words_kept false true c s group ws h = h
+group_words_kept false false true s group ws h = h
+group_words_kept false false false s group ws h = h
 
 controlled_words : (s : State) (c : Control) → StartsWord c → HasWords s → HasWords (controlled s c)
 unfolding started configured setup_of
@@ -351,7 +339,7 @@ acted_words s a k stores h =
       bytes = moved_bytes s a h.bytes stores;
       reading = h.reading;
     }) in
-    subst HasWords (sym (flagged-others a.trace (controlled (moved s a) a.control))) (record { regs = after.regs; ip = after.ip; bytes = after.bytes; reading = after.reading })
+    subst HasWords (sym (flagged-others a.trace (controlled (moved s a) a.control))) after
 
 -- ---- a run
 
@@ -383,7 +371,7 @@ words_after g (r ∷ rs) image plan past =
     let stores = done_stores g r rs plan past h.bytes in
     let after = acted_words s (action_by_kind r.kind s) (done_words g r rs plan past h) stores h in
     let comes = next_comes g.length (due_after rs) (event_after g rs) s r past.1 in
-    subst (λ (q : Record). HasWords q.after) (sym comes.0) (record { regs = after.regs; ip = after.ip; bytes = after.bytes; reading = after.reading })
+    subst (λ (q : Record). HasWords q.after) (sym comes.0) after
 
 -- the frames that are saved
 pub saved_after : (g : Given) (r : Record) (rs : List Record) → HasBytes g.image → IsPlan g.plan → IsPast g (r ∷ rs)

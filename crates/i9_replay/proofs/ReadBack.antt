@@ -1,10 +1,10 @@
 -- A journal's line says its event at its count.
-use Rattle.std.proofs.Common.{◌≡◌, ℕ, suc, ◌*◌, ◌^◌, ◌<◌, ◌≤◌, true, false, ltb, eqb, List, [], ◌∷◌, length, Option, None, Some, Ok, refl, arith, lit<, lit≤, get_or, ◌==◌, ◌||◌}
+use Rattle.std.proofs.Common.{◌≡◌, ℕ, suc, ◌*◌, ◌^◌, ◌<◌, ◌≤◌, true, false, List, [], ◌∷◌, length, Option, Some, Ok, refl, arith, lit<, lit≤, get_or, ◌==◌, ◌||◌}
 use Rattle.std.specs.List.{join_with_byte, AllByRecursion}
 use Rattle.std.specs.Fmt.{decimal}
 use Rattle.std.proofs.lemmas.Bool.{le-ltb}
 use Rattle.std.proofs.Math.Dec.{eqb-suc-zero}
-use Rattle.hex.specs.Hex.{encode_upper, upper_digits, IsBytes}
+use Rattle.hex.specs.Hex.{encode_upper, IsBytes}
 use Rattle.hex.proofs.HexLemmas.{decode_of-encode_upper, length-encode_with}
 use Rattle.i9_text.specs.Text.{words_of}
 use Rattle.i9_text.specs.Written.{word_text}
@@ -20,10 +20,7 @@ use Rattle.i9_replay.proofs.EventForms.{timed_is}
 
 number_in-decimal : (most low high n : ℕ) → 0 < most → n < 10 ^ most → n < 2 ^ 64 → low ≤ n → n ≤ high → number_in 10 most low high (decimal n) ≡ Some n
 unfolding number_in
-number_in-decimal most low high n some few small above below =
-    let t1 : ltb n low ≡ false = le-ltb _ _ above in
-    let t2 : ltb high n ≡ false = le-ltb _ _ below in
-    rw (number_of-decimal most n some few small, t1, t2) refl
+number_in-decimal most low high n some few small above below = grind (arith, le-ltb, number_of-decimal)
 
 -- ---- the words
 
@@ -32,8 +29,7 @@ each_byte [] h = tt
 each_byte (b ∷ bs) h = (h 0, each_byte bs (λ i. h (suc i)))
 
 bytes_word : (bs : List ℕ) → 0 < length bs → IsBytes bs → IsWord (encode_upper bs)
-bytes_word bs some h =
-    IsWord-digits (encode_upper bs) 16 (lit≤ tt) (omega (arith, length-encode_with upper_digits bs)) (AllDigits-encode_upper bs (each_byte bs h))
+bytes_word bs some h = grind (arith, IsWord-digits, length-encode_with, AllDigits-encode_upper, each_byte)
 
 some_bytes : (n : ℕ) → IsUnit n → 0 < n
 some_bytes n unit = grind arith
@@ -42,31 +38,20 @@ address_word : (a : ℕ) → IsWord (word_text a)
 address_word a = IsWord-digits (word_text a) 16 (lit≤ tt) (omega (arith, word_length a)) (word_digits a)
 
 event_words-words : (e : Event) → IsInRange e → AllByRecursion IsWord (event_words e)
-event_words-words (Pin x) h = (record { test = refl }, (IsWord-decimal x (omega arith), tt))
-event_words-words (Low x) h = (record { test = refl }, (IsWord-decimal x (omega arith), tt))
-event_words-words (High x) h = (record { test = refl }, (IsWord-decimal x (omega arith), tt))
-event_words-words Nmi h = (record { test = refl }, tt)
-event_words-words (Dma c) h = (record { test = refl }, (IsWord-decimal c (omega arith), tt))
-event_words-words (Feed c v) h = (record { test = refl }, (IsWord-decimal c (omega arith), (bytes_word v.items (some_bytes (length v.items) h.1) h.2, tt)))
-event_words-words (Show a l) h = (record { test = refl }, (address_word a, (IsWord-decimal l (omega arith), tt)))
+event_words-words e h = grind (arith, IsWord-decimal, bytes_word, some_bytes, address_word)
 
 -- ---- the events
 
 address_digits : (a : ℕ) → a ≤ last_address → address_of (word_text a) ≡ Some a
 unfolding number_in
-address_digits a small =
-    let below : ltb a 0 ≡ false = le-ltb _ _ (omega arith) in
-    let above : ltb last_address a ≡ false = le-ltb _ _ small in
-    rw (number_of-word a (omega (arith, small)), below, above) refl
+address_digits a small = grind (arith, le-ltb, number_of-word)
 
 feed_test : (n : ℕ) (m : ℕ) → IsUnit n → m ≡ 2 * n → (m == 2 || m == 4 || m == 8 || m == 32) ≡ true
 feed_test n m unit len = grind arith
 
 bytes_in-encode : (bs : List ℕ) → IsUnit (length bs) → IsBytes bs → bytes_in (encode_upper bs) ≡ Some bs
 unfolding bytes_in
-bytes_in-encode bs len h =
-    let test = feed_test (length bs) (length (encode_upper bs)) len (length-encode_with upper_digits bs) in
-    rw (test, decode_of-encode_upper bs h) refl
+bytes_in-encode bs len h = grind (arith, feed_test, length-encode_with, decode_of-encode_upper)
 
 decimal_back : (low high n : ℕ) → high < 10 ^ 10 → low ≤ n → n ≤ high → decimal_in low high (decimal n) ≡ Some n
 decimal_back low high n small above below = number_in-decimal 10 low high n (lit< tt) (omega (arith, small, below)) (omega (arith, small, below)) above below
@@ -122,10 +107,7 @@ unfolding journal_text
 not_hash k e = refl
 
 pub journal_not_skipped : (k : ℕ) (e : Event) → k ≤ last_count → IsInRange e → is_skipped (journal_text k e) ≡ false
-journal_not_skipped k e few h =
-    let words = journal_words_back k e few h in
-    let some : eqb (length (journal_words k e)) 0 ≡ false = eqb-suc-zero _ in
-    rw (not_hash k e, words, some) refl
+journal_not_skipped k e few h = grind (arith, journal_words_back, eqb-suc-zero, not_hash)
 
 -- its words say the event
 pub journal_says : (version k : ℕ) (e : Event) → IsOfVersion version e → k ≤ last_count → IsInRange e → IsTimed version (words_of (journal_text k e)) (timed_at k e)
@@ -134,8 +116,7 @@ journal_says version k e of few h = rw (journal_words_back k e few h) (event_bac
 -- and the line is read as the event, whether a line before told the version or not
 said_journal : (told : Option ℕ) (k : ℕ) (e : Event) → timed_of (version_in told) (journal_words k e) ≡ Ok (timed_at k e) → said_of told (journal_words k e) ≡ Ok (said.Event (timed_at k e))
 unfolding opening_of
-said_journal None k e is = rw is refl
-said_journal (Some version) k e is = rw is refl
+said_journal told k e h = grind arith
 
 pub line_of-journal : (told : Option ℕ) (k : ℕ) (e : Event) → IsOfVersion (version_in told) e → k ≤ last_count → IsInRange e → line_of told (journal_text k e) ≡ Ok (said.Event (timed_at k e))
 unfolding line_of
