@@ -1,7 +1,6 @@
 use Rattle.std.proofs.Common.{◌≡◌, [], ◌∷◌, sym, ◌∙◌, rules}
 use Rattle.std.proofs.lemmas.List.{nil_from_length}
 use Rattle.std.specs.VecDeque.Iter.{deque_iter_rest}
-use Rattle.i9_model.specs.declared.layout.TheConstants.{FRAME_SIZE}
 use Rattle.i9_watch.specs.declared.page.Mark.TheVariants.{Soft}
 use Rattle.i9_watch.specs.Marks.{is_marked}
 use Rattle.i9_watch.proofs.Watching.{frame_cleared, no_frame_cleared, no_change, first_aligned, by_other}
@@ -13,7 +12,7 @@ loop-frame-preserved c =
     let first : rest ≡ c.in-Some.frame.now ∷ deque_iter_rest c.next.new.self = search rules in
     record {
       aligned = (first_aligned rest (deque_iter_rest c.next.new.self) c.in-Some.frame.now c.loop-frame.invariant.aligned first).1;
-      soft = no_change c.in-Some.frame.now FRAME_SIZE (is_marked Soft c.loop-frame.self) (is_marked Soft c.change.new.self) (c.change.ensures.marks Soft) ∙ c.loop-frame.invariant.soft;
+      soft = no_change _ (c.change.ensures.marks Soft) ∙ c.loop-frame.invariant.soft;
       left = λ m h. frame_cleared (is_marked m c.loop-frame.self) (is_marked m c.change.new.self) c.in-Some.frame.now rest (deque_iter_rest c.next.new.self)
           (by_other m h c.in-Some.frame.now (is_marked m c.loop-frame.self) (is_marked m c.change.new.self) (c.change.ensures.marks m)) first
           ∙ c.loop-frame.invariant.left m h;
