@@ -3,7 +3,7 @@ use Rattle.std.proofs.Common.{◌≡◌, ◌⊎◌, inl, inr, ℕ, zero, suc, �
 use mathlib.Core.Bool.{beq}
 use Rattle.std.specs.List.{list_any, between}
 use Rattle.std.proofs.lemmas.List.Edits.{get_or-between}
-use Rattle.std.specs.Prelude.{IsSome, ◌==◌, ◌||◌, if◌then◌else◌}
+use Rattle.std.specs.Prelude.{◌==◌, ◌||◌, if◌then◌else◌}
 use Rattle.std.proofs.lemmas.Bool.{false≢true, eqb-true, cases_lt, cases_eq, cond_both}
 use Rattle.i9_model.proofs.Readings.{next_place}
 use Rattle.i9_model.specs.Writes.{wrapped}
@@ -49,13 +49,9 @@ unmarked_part xs i j k none low high =
     ∙ sym (get_or-between xs i j (k - i) false (omega arith))
     ∙ any_none (between i j xs) (k - i) none
 
-unmarked_in : (m : Mark) (o : Option Page) (k : ℕ) → (IsSome o → ⊥) → is_marked_in m o k ≡ false
-unmarked_in m None k h = refl
-unmarked_in m (Some p) k h = absurd (h refl)
-
 -- no address of a page that is lacking is marked
 pub unmarked_page : (m : Mark) (s : Marks) (x : ℕ) → (HasPage s (x / 256) → ⊥) → is_marked m s x ≡ false
-unmarked_page m s x h = unmarked_in m _ (x % 256) h
+unmarked_page m s x h = grind arith
 
 -- without the page that was lacking at first the marks are what they were
 pub without_page : (m : Mark) (s : Marks) (f g : ℕ → Bool) (p : ℕ) → (HasPage s p → ⊥) → g ≡ is_marked m s → ((x : ℕ) → f x ≡ (if x / 256 == p then false else g x)) → f ≡ is_marked m s
