@@ -32,14 +32,14 @@ least-first test a zero h = absurd (omega arith)
 least-first test a (suc n) h = let rest : suc n - 1 ≡ n = omega arith in rw rest
 
 -- none of the places before k passes, and this one does
-pub least-passes : (test : ℕ → Bool) (a n k : ℕ) → k < n → test (wrapped (a + k)) ≡ true → least test (a + k) (n - k) ≡ Some (wrapped (a + k))
-least-passes test a n k h t =
+pub least_passes : (test : ℕ → Bool) (a n k : ℕ) → k < n → test (wrapped (a + k)) ≡ true → least test (a + k) (n - k) ≡ Some (wrapped (a + k))
+least_passes test a n k h t =
     least-first test (a + k) (n - k) (omega arith)
     ∙ ap (λ (b : Bool). if b then Some (wrapped (a + k)) else least test (a + k + 1) (n - k - 1)) t
 
 -- this one does not pass either
-pub least-fails : (test : ℕ → Bool) (a n k : ℕ) → k < n → test (wrapped (a + k)) ≡ false → least test (a + (k + 1)) (n - (k + 1)) ≡ least test (a + k) (n - k)
-least-fails test a n k h t =
+pub least_fails : (test : ℕ → Bool) (a n k : ℕ) → k < n → test (wrapped (a + k)) ≡ false → least test (a + (k + 1)) (n - (k + 1)) ≡ least test (a + k) (n - k)
+least_fails test a n k h t =
     let next : a + (k + 1) ≡ a + k + 1 = omega arith in
     let fewer : n - (k + 1) ≡ n - k - 1 = omega arith in
     rw (next, fewer, least-first test (a + k) (n - k) (omega arith), t)
@@ -48,15 +48,15 @@ least-fails test a n k h t =
 pub least-skips : (test : ℕ → Bool) (a n j : ℕ) → j ≤ n → ((k : ℕ) → k < j → test (wrapped (a + k)) ≡ false) → least test (a + j) (n - j) ≡ least test a n
 least-skips test a n zero h fails = let all : n - 0 ≡ n = omega arith in rw (add-zero, all)
 least-skips test a n (suc j) h fails =
-    rw (← add-one j) (least-fails test a n j (omega arith) (fails j (omega arith)))
+    rw (← add-one j) (least_fails test a n j (omega arith) (fails j (omega arith)))
     ∙ least-skips test a n j (omega arith) (λ k less. fails k (omega arith))
 
-pub least-is_none : (test : ℕ → Bool) (a n : ℕ) → ((k : ℕ) → k < n → test (wrapped (a + k)) ≡ false) → None ≡ least test a n
-least-is_none test a n fails = let none : n - n ≡ 0 = omega arith in ap (least test (a + n)) (sym none) ∙ least-skips test a n n (omega arith) fails
+pub least_is_none : (test : ℕ → Bool) (a n : ℕ) → ((k : ℕ) → k < n → test (wrapped (a + k)) ≡ false) → None ≡ least test a n
+least_is_none test a n fails = let none : n - n ≡ 0 = omega arith in ap (least test (a + n)) (sym none) ∙ least-skips test a n n (omega arith) fails
 
 -- the first byte that passes
 pub least-is : (test : ℕ → Bool) (a n j : ℕ) → j < n → ((k : ℕ) → k < j → test (wrapped (a + k)) ≡ false) → test (wrapped (a + j)) ≡ true → Some (wrapped (a + j)) ≡ least test a n
-least-is test a n j h fails passes = sym (least-passes test a n j h passes) ∙ least-skips test a n j (omega arith) fails
+least-is test a n j h fails passes = sym (least_passes test a n j h passes) ∙ least-skips test a n j (omega arith) fails
 
 -- ---- marks after a change
 
@@ -99,7 +99,7 @@ pub port_above : (a n : ℕ) → a < 2 ^ 32 → (in_port_page a ≡ false) ⊎ (
 port_above a n small out = ⊎_elim
     (λ less. rw (lt-ltb (to_port a) n less) (ap Some (sym (port_here a small))
     ∙ least-is in_port_page a n (to_port a) less (λ k h. before_port a n k small out h (omega arith)) (ap in_port_page (port_here a small))))
-    (λ most. rw (le-ltb (to_port a) n most) (least-is_none in_port_page a n (λ k h. before_port a n k small out (omega arith) h)))
+    (λ most. rw (le-ltb (to_port a) n most) (least_is_none in_port_page a n (λ k h. before_port a n k small out (omega arith) h)))
     (cases_lt (to_port a) n)
 
 abbrev frames : (ℕ → Bool) → List ℕ → (ℕ → Bool) → Frames
