@@ -78,9 +78,6 @@ frame_cleared f g a xs ys p q = rw (p, q) (same_marks _ _ (λ x. grind arith))
 pub no_frame_cleared : (f : ℕ → Bool) (xs : List ℕ) → xs ≡ [] → ◌≡◌ {A = ℕ → Bool} (λ x. f x && not (in_frames xs x)) f
 no_frame_cleared f xs q = rw q (same_marks _ _ (λ x. grind arith))
 
-pub first_aligned : (xs ys : List ℕ) (a : ℕ) → AreAligned xs → xs ≡ a ∷ ys → (a % 16 ≡ 0) × AreAligned ys
-first_aligned xs ys a h e = subst AreAligned e h
-
 -- ---- the port page
 
 -- how far the port page is above an address
