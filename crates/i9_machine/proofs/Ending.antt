@@ -1,6 +1,5 @@
 -- An end that is answered, of the run or at an imprecise fault.
-use Rattle.std.proofs.Common.{◌≡◌, ◌≢◌, ℕ, ◌+◌, ◌<◌, ◌≤◌, Bool, true, false, cond, nat_lt, ◌++◌, Option, Some, None, Result, Ok, Err, length, refl, sym, ap, ◌∙◌, subst, arith, length-append}
-use Rattle.std.proofs.lemmas.Bool.{lt-ltb}
+use Rattle.std.proofs.Common.{◌≡◌, ◌≢◌, ℕ, ◌+◌, ◌<◌, ◌≤◌, Option, Some, Result, length, sym, ap, ◌∙◌, subst, arith, length-append}
 use Rattle.i9_model.specs.declared.event.Event.{Event}
 use Rattle.i9_model.specs.declared.faults.Entry.{Entry}
 use Rattle.i9_model.specs.declared.faults.Fault.{Fault}
@@ -9,32 +8,29 @@ use Rattle.i9_model.specs.declared.faults.FaultStop.TheVariants as stops
 use Rattle.i9_model.specs.declared.run.Due.{Due}
 use Rattle.i9_model.specs.declared.run.Due.TheVariants as dues
 use Rattle.i9_model.specs.declared.run.End.{End}
-use Rattle.i9_model.specs.declared.run.End.TheVariants.{Limit, Imprecise}
+use Rattle.i9_model.specs.declared.run.End.TheVariants.{Imprecise}
 use Rattle.i9_model.specs.declared.run.Point.TheVariants as points
 use Rattle.i9_model.specs.declared.view.View.{View}
-use Rattle.i9_model.specs.Memory.{console_byte}
 use Rattle.i9_model.specs.State.{State}
-use Rattle.i9_model.specs.PrintedText.{out_lines, point_lines, record_lines, end_lines, journal_lines, last_lines, view_of}
-use Rattle.i9_model.specs.Run.{Entered, Ends, record_of, action_done, entry_in, next_by_entry, next_in, Finish, finish}
+use Rattle.i9_model.specs.PrintedText.{record_lines, end_lines, journal_lines, last_lines, view_of}
+use Rattle.i9_model.specs.Run.{Entered, Ends, record_of, entry_in, next_by_entry, next_in, Finish, finish}
 use Rattle.i9_processor.specs.declared.processor.Processor.{Processor}
 use Rattle.i9_machine.specs.declared.line.Turn.{Turn}
 use Rattle.i9_machine.specs.declared.line.Turn.TheVariants as turns
 use Rattle.i9_machine.specs.Coming.{Overtakes}
 use Rattle.i9_machine.specs.Contents.{situation_in, Situation}
 use Rattle.i9_machine.specs.NewPages.{AddsNextOnly}
-use Rattle.i9_machine.specs.Overtaking.{late_entry, late_due}
+use Rattle.i9_machine.specs.Overtaking.{late_due}
 use Rattle.i9_machine.specs.Step.{NeedsRoom, HasRoom, event_for, Stage, next_of, Finished, Finishes, Refused, Costs}
 use Rattle.i9_machine.proofs.NewPages.{same_next}
 
 -- ---- an end of the run
 
 journal_long : (k n : ℕ) (o : Option Event) → length (journal_lines k o) ≡ length (journal_lines n o)
-journal_long k n None = refl
-journal_long k n (Some e) = refl
+journal_long k n o = grind arith
 
 last_long : (v : View) (e : End) → length (last_lines v e) ≤ 2
-last_long v Limit = omega arith
-last_long v _ = omega arith
+last_long v e = grind arith
 
 end_long : (s : State) (f : Finish) → length (end_lines s f) ≤ length (journal_lines 0 f.event) + 2
 end_long s f =
@@ -89,35 +85,21 @@ end_fits before f is room =
 
 -- what is due is the entry of a fault
 late_is_due : (at : Situation) (a : ℕ) → late_due at ≡ Some a → (f : Fault) × (at.due ≡ dues.Entry f)
-late_is_due at a late = by_length (nat_lt at.state.count at.length) at.due late
-  where
-    by_length : (b : Bool) (d : Due) → cond b (late_entry d) None ≡ Some a → (f : Fault) × (d ≡ dues.Entry f)
-    by_length b (dues.Entry f) h = (f, refl)
-    by_length true _ h = absurd (cc h)
-    by_length false _ h = absurd (cc h)
+late_is_due at a late = grind arith
 
 pub late_not_nothing : (at : Situation) (a : ℕ) → late_due at ≡ Some a → at.due ≢ dues.Nothing
 late_not_nothing at a late none = let is = late_is_due at a late in cc (sym is.1 ∙ none)
 
 -- an entry has a line at least
 entry_long : (s : State) (x : Entry) → 1 ≤ length (record_lines (record_of (Entered x) s))
-entry_long s x = by_byte (console_byte (action_done (record_of (Entered x) s)).writes)
-  where
-    by_byte : (o : Option ℕ)
-        → 1 ≤ length (out_lines o ++ point_lines (Some points.Fault) (record_of (Entered x) s).after)
-    by_byte None = omega arith
-    by_byte (Some b) = omega arith
+entry_long s x = grind arith
 
 entry_needs : (s : State) (p : Result Entry FaultStop) → NeedsRoom (next_by_entry s p)
-entry_needs s (Ok x) = rw (lt-ltb 0 (length (record_lines (record_of (Entered x) s))) (entry_long s x))
-entry_needs s (Err (stops.Hazard a)) = tt
-entry_needs s (Err (stops.Dead code a)) = tt
+entry_needs s p = grind (arith, entry_long)
 
 entry_room : (p : Processor) (spare : ℕ) (s : State) (e : Result Entry FaultStop) → HasRoom p spare (next_by_entry s e)
     → 1 ≤ spare
-entry_room p spare s (Ok x) room = let long = entry_long s x in let fits = room.lines in omega (arith, long, fits)
-entry_room p spare s (Err (stops.Hazard a)) room = let two : 2 ≤ spare = room in omega (arith, two)
-entry_room p spare s (Err (stops.Dead code a)) room = let two : 2 ≤ spare = room in omega (arith, two)
+entry_room p spare s e room = grind (arith, entry_long, room)
 
 -- what comes next is the entry of the fault
 late_next : (before : Stage) (f : Fault) → before.contents.due ≡ dues.Entry f

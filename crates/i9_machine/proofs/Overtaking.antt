@@ -1,22 +1,18 @@
 -- What comes next for a machine is what comes next in the run that it stands for, and whether that overtakes a fault.
-use Rattle.std.proofs.Common.{◌≡◌, ℕ, ◌<◌, ◌≤◌, Bool, true, false, cond, ◌==◌, List, [], ◌∷◌, Option, Some, None, refl, sym, ap, ◌∙◌, arith, subst}
+use Rattle.std.proofs.Common.{◌≡◌, ℕ, ◌<◌, ◌≤◌, Bool, false, cond, List, [], ◌∷◌, Option, Some, None, refl, sym, ap, ◌∙◌, arith, subst}
 use Rattle.std.specs.Prelude.{nat_lt, ◌&&◌, not}
 use Rattle.std.proofs.lemmas.Bool.{lt-ltb}
 use Rattle.i9_isa.specs.declared.inst.Inst.{Inst}
-use Rattle.i9_model.specs.declared.faults.TheConstants.{ARITHMETIC}
 use Rattle.i9_model.specs.declared.need.Need.{Need}
 use Rattle.i9_model.specs.declared.need.TimedNeed.{TimedNeed}
-use Rattle.i9_model.specs.declared.run.End.{End}
-use Rattle.i9_model.specs.declared.trace.Trace.{Trace}
 use Rattle.i9_model.specs.State.{State}
 use Rattle.i9_model.specs.Alike.{AreAlike, AreNextAlike}
 use Rattle.i9_model.specs.HeldFrames.{Cache, sets_in, cache_after}
 use Rattle.i9_model.specs.Standing.{Standing, Meets, Refused, Faults, Runs, stands_at}
-use Rattle.i9_model.specs.Traced.{traced_action}
 use Rattle.i9_model.specs.Turns.{last_issue, issue_turn, end_turn, waiting_until}
 use Rattle.i9_model.specs.Turns as board
 use Rattle.i9_model.specs.Late.{turns}
-use Rattle.i9_model.specs.Run.{Given, Kind, Instruction, Faulted, Record, fault_at, due_in, due_by, due_after, next_by_standing, state_after, Next, next_in}
+use Rattle.i9_model.specs.Run.{Given, Kind, Instruction, Faulted, Record, fault_at, due_by, due_after, next_by_standing, state_after, Next, next_in}
 use Rattle.i9_agree.proofs.AlikeSteps.{IsBlind, agree-alike, next_alike}
 use Rattle.i9_agree.proofs.AgreeStands.{stands-same}
 use Rattle.i9_agree.proofs.BlindRuns.{blind-after}
@@ -38,19 +34,8 @@ use Rattle.i9_machine.specs.Step.{need_at, turn_at, event_for, next_for}
 
 -- ---- the last fault, by what is due
 
-due_fault : (s : State) (t : Option Trace) (o : Option End) → late_entry (due_in s t o) ≡ None
-due_fault s t (Some f) = refl
-due_fault s None None = refl
-due_fault s (Some t) None = refl
-
 kind_fault : (k : Kind) (s : State) → late_entry (due_by k s) ≡ late_fault k
-kind_fault (Instruction i) s = let a = traced_action i s in due_fault s a.trace _
-kind_fault (Faulted inst fault) s = by_kind (fault.kind == ARITHMETIC)
-  where
-    by_kind : (b : Bool) → cond b (Some fault.address) None ≡ cond (not b) None (Some fault.address)
-    by_kind true = refl
-    by_kind false = refl
-kind_fault _ s = refl
+kind_fault k s = grind arith
 
 -- the entry of an arithmetic fault is due where the last record is one
 entry_fault : (rs : List Record) → late_entry (due_after rs) ≡ last_fault rs
@@ -67,9 +52,7 @@ late_is g h k stands =
     (entry_fault (records_of h))
 
 none_by : (b c : Bool) (o : Option ℕ) → cond b o None ≡ None → cond (b && c) o None ≡ None
-none_by true true o h = h
-none_by true false o h = refl
-none_by false c o h = refl
+none_by b c o h = grind arith
 
 -- where none is due, none is imprecise
 pub calm_precise : (g : Given) (h : List Item) (k : Contents) → Stand g h None k → late_due (situation_in k) ≡ None
@@ -203,10 +186,7 @@ faults_ahead s need i number stands is asked c =
 -- a number of sets that is the one that is asked for, or that the PRCB asks for
 standing_sets : (asked : Option ℕ) (n : ℕ) (c : Cache) (s : State) (x : Standing) → n ≡ sets_in asked s
     → need_ahead (Some n) c (next_by_standing s x) ≡ need_ahead asked c (next_by_standing s x)
-standing_sets asked n c s (Meets a) is = refl
-standing_sets asked n c s (Refused number) is = ap (λ (k : ℕ). need_of k c s (Faulted None (fault_at s number))) is
-standing_sets asked n c s (Faults i number) is = ap (λ (k : ℕ). need_of k c s (Faulted (Some i) (fault_at s number))) is
-standing_sets asked n c s (Runs i) is = ap (λ (k : ℕ). need_of k c s (Instruction i)) is
+standing_sets asked n c s x is = grind arith
 
 -- the instruction ahead needs the same
 same_need_at : (g : Given) (h : List Item) (k : Contents) → Stand g h None k

@@ -1,6 +1,6 @@
 -- A machine settles: all that is open lands, a fence is set where no end was answered, and it shows raw what a drained
 -- point shows.
-use Rattle.std.proofs.Common.{◌≡◌, ℕ, max, refl, Bool, true, false, not, if◌then◌else◌, ◌∷◌, Option, Some, None, is_some, List, sym, ap, ◌∙◌, subst, arith}
+use Rattle.std.proofs.Common.{◌≡◌, ℕ, max, Bool, not, if◌then◌else◌, ◌∷◌, Option, Some, None, is_some, List, sym, ◌∙◌, subst, arith}
 use Rattle.i9_model.specs.declared.run.End.{End}
 use Rattle.i9_model.specs.Late.{turns}
 use Rattle.i9_model.specs.Run.{Given, Finish}
@@ -57,13 +57,11 @@ settled_ended g h f k until end stands =
 
 -- a fence is set where no end was answered, and only there
 fence_set : (b : Bool) (o : Option End) (x y : ℕ) → is_some o ≡ not b → o ≡ None → (if b then x else y) ≡ x
-fence_set true o x y is none = refl
-fence_set false o x y is none = absurd (cc (sym is ∙ ap is_some none))
+fence_set b o x y is none = grind arith
 
 fence_kept : (b : Bool) (o : Option End) (e : End) (x y : ℕ) → is_some o ≡ not b → o ≡ Some e
     → (if b then x else y) ≡ y
-fence_kept true o e x y is some = absurd (cc (sym is ∙ ap is_some some))
-fence_kept false o e x y is some = refl
+fence_kept b o e x y is some = grind arith
 
 -- so it is quiet, and shows what a drained point shows
 module _ (g : Given) (h : List Item) (b : Bool) (k : Contents) (f : Flow) (s : IsSettled b k.pipeline f)

@@ -133,12 +133,11 @@ abbrev needs_by : List Shown → Action → Type 0
 needs_by ls a = (nat_lt 0 (length ls) || (has_writes a || is_restart a.control)) ≡ true
 
 needs_alike : (o p : Next) → AreNextAlike o p → NeedsRoom p → NeedsRoom o
-needs_alike (Ends f) (Ends g) alike needs = tt
-needs_alike (Ends f) (Does q) alike needs = tt
-needs_alike (Does r) (Ends g) alike needs = absurd alike
 needs_alike (Does r) (Does q) alike needs =
     subst (needs_by (record_lines r)) (done_alike r q alike)
     (subst (λ (ls : List Shown). needs_by ls (action_done q)) (lines_alike r q alike) needs)
+needs_alike (Does r) (Ends g) alike needs = absurd alike
+needs_alike _ _ alike needs = tt
 
 -- room for what comes next in the run is room for what comes next for the machine
 room_alike : (p : Processor) (spare : ℕ) (o n : Next) → AreNextAlike o n → HasRoom p spare o → HasRoom p spare n

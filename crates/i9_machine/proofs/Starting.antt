@@ -1,7 +1,6 @@
 -- A run begins far below the largest turn.
 use Rattle.std.proofs.Common.{◌≡◌, ℕ, ◌+◌, ◌*◌, ◌^◌, ◌<◌, ◌≤◌, List, [], ◌∷◌, length, refl, arith}
 use Rattle.i9_model.specs.declared.event.Event.{Event}
-use Rattle.i9_model.specs.declared.event.Event.TheVariants.{Nmi}
 use Rattle.i9_model.specs.declared.event.Timed.{Timed}
 use Rattle.i9_model.specs.declared.layout.TheConstants.{MAX_LENGTH}
 use Rattle.i9_model.specs.Left.{event_work, plan_work, asked, left_in}
@@ -13,15 +12,11 @@ use Rattle.i9_machine.specs.StandsFor.{left_after}
 
 -- an event is little work
 event_few : (e : Event) → event_work e ≤ 2
-event_few Nmi = omega arith
-event_few _ = omega arith
+event_few e = grind arith
 
 plan_few : (ts : List Timed) → plan_work ts ≤ 2 * length ts
 plan_few [] = omega arith
-plan_few (t ∷ ts) =
-    let one : event_work t.event ≤ 2 = event_few t.event in
-    let others : plan_work ts ≤ 2 * length ts = plan_few ts in
-    omega (arith, one, others)
+plan_few (t ∷ ts) = omega (arith, event_few t.event, plan_few ts)
 
 -- nothing is asked for at the start, at the highest priority
 none_asked : (image : List (ℕ × ℕ)) → asked (boot image) ≡ 0

@@ -3,7 +3,6 @@ use Rattle.std.proofs.Common.{Bor, ◌≡◌, ℕ, ◌+◌, ◌^◌, ◌<◌, �
 use Rattle.std.proofs.lemmas.Bool.Decides.{nat_tests}
 use Rattle.std.specs.Prelude.{is_some}
 use Rattle.std.specs.Option.{option_map, option_copied}
-use Rattle.std.specs.List.{slice_get}
 use Rattle.std.proofs.lemmas.Option.{slice_get_within}
 use Rattle.i9_model.specs.declared.event.Event.{Event}
 use Rattle.i9_model.specs.declared.event.Event.TheVariants as events
@@ -20,7 +19,7 @@ use Rattle.i9_model.specs.declared.run.Point.{Point}
 use Rattle.i9_model.specs.declared.run.End.TheVariants.{Limit}
 use Rattle.i9_model.specs.Memory.{console_byte}
 use Rattle.i9_model.specs.Step.{Action, acted, counted}
-use Rattle.i9_model.specs.Run.{Kind, Instruction, Reached, Record, Does, Ends, record_of, counts_of, due_by, reached_by, next_by_event, next_by_choice, next_in, finish}
+use Rattle.i9_model.specs.Run.{Kind, Reached, Record, Does, Ends, record_of, counts_of, due_by, reached_by, next_by_event, next_by_choice, next_in, finish}
 use Rattle.i9_model.specs.PrintedText.{out_lines, point_lines, bytes_lines, event_lines, record_lines}
 use Rattle.i9_processor.specs.declared.processor.Processor.{Processor}
 use Rattle.i9_model.specs.declared.run.Due.{Due}
@@ -31,7 +30,6 @@ use Rattle.i9_processor.proofs.Rooms.{room_space}
 use Rattle.i9_pipeline.specs.Issuing.{state_behind}
 use Rattle.i9_machine.specs.Doing.{lines_of, asks_room, plan_behind_event, point_count, bytes_count, reached_lines, reached_count, event_in, line_count, HasRoomForStep, next_event}
 use Rattle.i9_machine.specs.declared.step.Step.{Step}
-use Rattle.i9_model.specs.declared.run.End.{End}
 use Rattle.i9_machine.specs.declared.line.Turn.{Turn}
 use Rattle.i9_machine.specs.declared.line.Turn.TheVariants as turns
 use Rattle.i9_machine.specs.Contents.{Situation, situation_in, Contents, at_turn}
@@ -39,26 +37,16 @@ use Rattle.i9_machine.specs.Step.{TellsRecord, NeedsRoom, LeavesFewer, IsStep, H
 use Rattle.i9_machine.specs.Opening.{IsFreeToIssue}
 use Rattle.i9_course.specs.Course.{instruction_ahead}
 
-no_end : (k : Kind) (s : State) (e : End) → TellsRecord k s (turns.End e) → ⊥
-no_end (Instruction i) s e t = t
-no_end _ s e t = t
-
 pub no_memory : (k : Kind) (s : State) → TellsRecord k s turns.Memory → ⊥
-no_memory (Instruction i) s t = t
-no_memory _ s t = t
+no_memory k s t = grind (arith, t)
 
 pub did_steps : (before : Stage) (answer : Turn) (after : Stage) (s : State) (k : Kind) → TellsRecord k s answer
     → Did before answer after → Steps before answer after
-did_steps before turns.On after s k t d = d
-did_steps before (turns.Issued i) after s k t d = d
-did_steps before (turns.End e) after s k t d = absurd (no_end k s e t)
-did_steps before turns.Memory after s k t d = absurd (no_memory k s t)
+did_steps before answer after s k t d = grind (arith, t, d)
 
 pub fewer_by : (answer : Turn) (s : State) (k : Kind) (before now : ℕ) → TellsRecord k s answer → now < before
     → LeavesFewer answer before now
-fewer_by turns.On s k before now t h = h
-fewer_by (turns.Issued i) s k before now t h = h
-fewer_by _ s k before now t h = tt
+fewer_by answer s k before now t h = grind (arith, h)
 
 -- ---- what is left
 
@@ -131,34 +119,28 @@ copied_some (Some x) is = (x.now, refl)
 copied_some None is = absurd (cc is)
 
 pub copied_none : (o : Option (Bor Event)) → is_some o ≡ false → option_copied o ≡ None
-copied_none (Some x) is = absurd (cc is)
-copied_none None is = refl
+copied_none o is = grind arith
 
 -- ---- lines
 
 points_long : (p : Option Point) (s : State) → length (point_lines p s) ≡ point_count p
-points_long None s = refl
-points_long (Some kind) s = refl
+points_long p s = grind arith
 
 -- the lines of the event that a record reached
 event_lines_of : (k : Kind) (s : State) → event_lines k s ≡ reached_lines (event_of k) s
-event_lines_of (Instruction i) s = refl
-event_lines_of _ s = refl
+event_lines_of k s = grind arith
 
 bytes_long : (e : Event) (s : State) → length (bytes_lines e s) ≡ bytes_count e
-bytes_long events.Nmi s = refl
-bytes_long _ s = refl
+bytes_long e s = grind arith
 
 reached_long : (o : Option Event) (s : State) → length (reached_lines o s) ≡ reached_count o
-reached_long None s = refl
-reached_long (Some e) s = let long = bytes_long e s in omega (arith, long)
+reached_long o s = grind (arith, bytes_long)
 
 -- ---- the schedule
 
 -- a step that reaches no event
 pub no_event : (plan : Plan) (step : Step) → step.reaches ≡ false → event_in plan step ≡ None
-no_event plan step none =
-    ap (λ (b : Bool). cond b (option_map (λ (t : Timed). t.event) (slice_get plan.events plan.place)) None) none
+no_event plan step none = grind arith
 
 -- a step that reaches the event that stands there
 pub next_stands : (at : Situation) (plan : Plan) (e : Event) → event_for at plan ≡ Some e
@@ -179,8 +161,7 @@ tells_on k s answer is tells = subst (TellsRecord k s) (sym is) tells
 
 -- a record reaches the event that it names, and no other
 pub reached_one : (k : Kind) (s : State) → length (reached_by k s) ≡ cond (is_some (event_of k)) 1 0
-reached_one (Instruction i) s = refl
-reached_one _ s = refl
+reached_one k s = grind arith
 
 stands_within : (at : Situation) (plan : Plan) (e : Event) → event_for at plan ≡ Some e
     → plan.place < length plan.events

@@ -34,9 +34,7 @@ use Rattle.i9_pipeline.specs.Raw.{raw_memory, stood, HaveStood, Hides, standing,
 -- the bytes of a row are those of the memory
 last_byte : (f : ℕ → ℕ) (x b here : ℕ) (after : Option ℕ) (same : Bool) → (after ≡ Some b → b ≡ f x) → (x == here) ≡ same
     → or_earlier after (cond same (Some (f here)) None) ≡ Some b → b ≡ f x
-last_byte f x b here (Some v) same rest h e = rest e
-last_byte f x b here None true rest h e = sym (ap (λ (o : Option ℕ). unwrap_or o 0) e) ∙ ap f (sym (eqb-true x here h))
-last_byte f x b here None false rest h e = absurd (none-some b e)
+last_byte f x b here after same rest h e = grind (arith, rest, eqb-true)
 
 row_byte : (f : ℕ → ℕ) (a n x b : ℕ) → last_put (upwards a (map f (places a n))) x ≡ Some b → b ≡ f x
 unfolding last_put
@@ -158,8 +156,7 @@ run_shows first t (x ∷ xs) k a timed quiet le h =
     ]
   where
     not_true : (b : Bool) → not b ≡ true → b ≡ false
-    not_true true e = absurd (both_ways false refl e)
-    not_true false e = refl
+    not_true b e = grind arith
 
 pub course_shows : (g : Given) (h : List Item) (t : ℕ) (k : Kept) (a : ℕ) → last_issue (turns (course g h).late) ≤ t → IsShaded (boot g.image).memory.bytes (course g h).late k
     → standing k t (acted_memory (boot g.image).memory.bytes t (course g h).late) a ≡ raw_memory (boot g.image).memory.bytes t (course g h).late a
@@ -186,10 +183,7 @@ record_leaves first x xs k beside h = record {
 -- ---- where nothing is open and no frame is live
 
 not_empty : (xs : List ℕ) (x : ℕ) → xs ++ x ∷ [] ≡ [] → ⊥
-not_empty xs x none =
-    let long : length (xs ++ x ∷ []) ≡ length xs + 1 = length-append xs (x ∷ []) in
-    let short = ap (λ (ys : List ℕ). length ys) none in
-    omega (arith, long, short)
+not_empty xs x none = omega (arith, length-append xs (x ∷ []), ap (λ (ys : List ℕ). length ys) none)
 
 no_frame_held : (held : List Frame) (live : List ℕ) → AreYoungest held live → live ≡ [] → held ≡ []
 no_frame_held [] live youngest none = refl

@@ -54,8 +54,8 @@ nothing_put x = refl
 
 -- ---- what is added
 
-pub adds_nothing : (f : ℕ → ℕ) (ps : List Piece) → Adds f [] 0 ps ps
-adds_nothing f ps = record { added = []; is = sym (append-nil ps); few = omega arith; same = tt; covers = λ x h. nothing_put x }
+pub adds_nothing : (f : ℕ → ℕ) (n : ℕ) (ps : List Piece) → Adds f [] n ps ps
+adds_nothing f n ps = record { added = []; is = sym (append-nil ps); few = omega arith; same = tt; covers = λ x h. nothing_put x }
 
 pub adds_row : (f : ℕ → ℕ) (a : ℕ) (bytes : List ℕ) (ps : List Piece) → Adds f (upwards a bytes) 1 ps (ps ++ stood f a (length bytes) ∷ [])
 adds_row f a bytes ps =
@@ -91,11 +91,6 @@ adds_both f v w m n old mid new a b =
       covers = λ x h. none_put v w x (a.covers x (all_front (Lacks x) a.added b.added h)) (b.covers x (all_back (Lacks x) a.added b.added h));
     }
 
-pub adds_fewer : (f : ℕ → ℕ) (w : List (ℕ × ℕ)) (m n : ℕ) (old new : List Piece) → m ≤ n → Adds f w m old new → Adds f w n old new
-adds_fewer f w m n old new le a =
-    let few : length a.added ≤ m = a.few in
-    record { added = a.added; is = a.is; few = omega (arith, few, le); same = a.same; covers = a.covers }
-
 -- ---- the frames that are held
 
 under_same : (f : ℕ → ℕ) (fs : List Frame) → HaveStood f (under f fs)
@@ -119,8 +114,8 @@ none_written m x (frame ∷ fs) d whole h =
     ∙ ap (λ (n : ℕ). in_bytes frame.address n x) (frame_long m frame.address frame.words whole.0) ∙ h 0 (omega arith))
     (none_written m x fs d whole.1 (λ j lt. h (suc j) (omega (arith, lt))))
 
-pub adds_held : (f : ℕ → ℕ) (m : Memory) (fs : List Frame) (d : Frame) → AreWhole fs → Adds f (all_writes m fs) (length fs) [] (under f (reverse fs))
-adds_held f m fs d whole =
+pub adds_held : (f : ℕ → ℕ) (m : Memory) (fs : List Frame) (d : Frame) (n : ℕ) → AreWhole fs → length fs ≤ n → Adds f (all_writes m fs) n [] (under f (reverse fs))
+adds_held f m fs d n whole most =
     let long : length (reverse fs) ≡ length fs = length-reverse fs in
     let pieces : length (under f (reverse fs)) ≡ length (reverse fs) = length-map (reverse fs) (λ frame. stood f frame.address FRAME_SIZE) in
     record {

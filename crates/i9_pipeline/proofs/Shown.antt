@@ -1,6 +1,5 @@
 -- What a pipeline in a run shows raw.
-use Rattle.std.proofs.Common.{◌≡◌, ℕ, zero, suc, ◌+◌, ◌^◌, ◌%◌, ◌<◌, Bool, false, cond, List, ◌∷◌, map, Option, None, refl, sym, ap, ◌∙◌, arith}
-use Rattle.std.specs.List.{range_with_len}
+use Rattle.std.proofs.Common.{◌≡◌, ℕ, zero, suc, ◌%◌, ◌<◌, Bool, false, List, Option, None, refl, sym, ap, ◌∙◌, arith}
 use Rattle.std.specs.Prelude.{◌==◌}
 use Rattle.std.proofs.lemmas.Bool.{cond-false}
 use Rattle.std.proofs.lemmas.Bool.Decides.{nat_tests}
@@ -11,6 +10,7 @@ use Rattle.i9_model.specs.Needs.{set_below}
 use Rattle.i9_model.specs.PrintedText.{register_list}
 use Rattle.i9_model.specs.Run.{Given, state_after}
 use Rattle.i9_model.specs.State.{State, boot}
+use Rattle.i9_model.proofs.Readings.{map_below}
 use Rattle.i9_turns.proofs.LateRegisters.{cell-busy}
 use Rattle.i9_regs.proofs.Shown.{landed_busy}
 use Rattle.i9_course.specs.Course.{Item, records_of, course, IsCourse}
@@ -20,30 +20,19 @@ use Rattle.i9_pipeline.specs.InRun.{IsFlowOf}
 use Rattle.i9_pipeline.specs.Raw.{raw_memory, standing}
 use Rattle.i9_pipeline.proofs.Landed.{course_shows}
 
-same_map : (f k : ℕ → ℕ) (a n : ℕ) → ((r : ℕ) → r < a + n → f r ≡ k r)
-    → map f (range_with_len a n) ≡ map k (range_with_len a n)
-same_map f k a zero same = refl
-same_map f k a (suc n) same =
-    ap (λ (x : ℕ). x ∷ map f (range_with_len (a + 1) n)) (same a (omega arith))
-    ∙ ap (λ (xs : List ℕ). k a ∷ xs) (same_map f k (a + 1) n (λ r lt. same r (omega (arith, lt))))
-
 same_list : (f k : ℕ → ℕ) → ((r : ℕ) → r < 32 → f r ≡ k r) → register_list f ≡ register_list k
 unfolding register_list
-same_list f k same = same_map f k 0 32 same
+same_list f k same = map_below f k 32 same
 
 same_set : (n : ℕ) (p q : ℕ → Bool) → ((r : ℕ) → r < n → p r ≡ q r) → set_below n p ≡ set_below n q
 unfolding set_below
 same_set zero p q same = refl
-same_set (suc n) p q same =
-    ap (λ (b : Bool). set_below n p + cond b (2 ^ n) 0) (same n (omega arith))
-    ∙ ap (λ (x : ℕ). x + cond (q n) (2 ^ n) 0) (same_set n p q (λ r lt. same r (omega (arith, lt))))
+same_set (suc n) p q same = rw (same n (omega arith), same_set n p q (λ r lt. same r (omega (arith, lt))))
 
 none_in : (n : ℕ) (p : ℕ → Bool) → ((r : ℕ) → r < n → p r ≡ false) → set_below n p ≡ 0
 unfolding set_below
 none_in zero p none = refl
-none_in (suc n) p none =
-    ap (λ (b : Bool). set_below n p + cond b (2 ^ n) 0) (none n (omega arith))
-    ∙ ap (λ (x : ℕ). x + 0) (none_in n p (λ r lt. none r (omega (arith, lt))))
+none_in (suc n) p none = rw (none n (omega arith), none_in n p (λ r lt. none r (omega (arith, lt))))
 
 -- a register is not the condition code
 is_register : (s : State) (r : ℕ) → r < 32 → resource s r ≡ s.regs r

@@ -42,7 +42,7 @@ fn land_all(memory: &mut Memory, queue: &mut Queue, turn: u64)
     }
 }
 
-#[tactic(auto, unfolding(crate::specs::Behind::settled), using(crate::proofs::Drained::drained_rules))]
+#[tactic(auto, unfolding(crate::specs::Behind::settled), using(crate::proofs::Drained::drained_rules, crate::proofs::Settled::room_kept))]
 impl Behind {
     ghost use Rattle.i9_queue.specs.Behind.{settled, acted, waiting_of, HasRoomIn, KeepsRoomIn, AddsRoomOnlyIn};
     ghost use Rattle.i9_queue.specs.Lending.{LendsMemory};

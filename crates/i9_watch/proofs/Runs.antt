@@ -15,7 +15,7 @@ use Rattle.i9_watch.specs.declared.page.Mark.{Mark}
 use Rattle.i9_watch.specs.declared.page.Change.{Change}
 use Rattle.i9_watch.specs.Marks.{changed_run, changed_where}
 use Rattle.i9_watch.specs.Bits.{bits_of, in_runs}
-use Rattle.i9_watch.proofs.Marking.{if_either}
+use Rattle.i9_watch.proofs.Marking.{same_marks, or_false, if_either}
 use Rattle.i9_watch.proofs.SetBits.{bit_none}
 
 -- ---- as places that are picked
@@ -23,10 +23,7 @@ use Rattle.i9_watch.proofs.SetBits.{bit_none}
 pub runs-bytes : (a : ℕ) (bs : List Bool) (x : ℕ) → in_runs a 1 bs x ≡ has (picked wrapped a bs) x
 unfolding in_runs in_bytes
 runs-bytes a [] x = refl
-runs-bytes a (true ∷ bs) x = ap (λ (b : Bool). ((x == wrapped a) || false) || b) (runs-bytes (a + 1) bs x) ∙ or_none (x == wrapped a) (has (picked wrapped (a + 1) bs) x)
-  where
-    or_none : (b c : Bool) → ((b || false) || c) ≡ (b || c)
-    or_none b c = grind arith
+runs-bytes a (true ∷ bs) x = rw (runs-bytes (a + 1) bs x) (grind arith)
 runs-bytes a (false ∷ bs) x = runs-bytes (a + 1) bs x
 
 four_on : (a : ℕ) (bs : List Bool) → picked wrapped (a + 1 + 1 + 1 + 1) bs ≡ picked wrapped (a + 4) bs
@@ -35,12 +32,7 @@ four_on a bs = let e : a + 1 + 1 + 1 + 1 ≡ a + 4 = omega arith in ap (λ (n : 
 pub runs-words : (a : ℕ) (bs : List Bool) (x : ℕ) → in_runs a 4 bs x ≡ has (picked wrapped a (byte_marks bs)) x
 unfolding in_runs in_bytes
 runs-words a [] x = refl
-runs-words a (true ∷ bs) x =
-    ap (λ (b : Bool). list_any (λ y. x == y) (places a 4) || b) (runs-words (a + 4) bs x ∙ ap (λ (ps : List ℕ). has ps x) (sym (four_on a (byte_marks bs))))
-    ∙ four_or (x == wrapped a) (x == wrapped (a + 1)) (x == wrapped (a + 1 + 1)) (x == wrapped (a + 1 + 1 + 1)) (has (picked wrapped (a + 1 + 1 + 1 + 1) (byte_marks bs)) x)
-  where
-    four_or : (b c d e r : Bool) → ((b || (c || (d || (e || false)))) || r) ≡ (b || (c || (d || (e || r))))
-    four_or b c d e r = grind arith
+runs-words a (true ∷ bs) x = rw (runs-words (a + 4) bs x, ← four_on a (byte_marks bs)) (grind arith)
 runs-words a (false ∷ bs) x = runs-words (a + 4) bs x ∙ ap (λ (ps : List ℕ). has ps x) (sym (four_on a (byte_marks bs)))
 
 -- ---- one run more
@@ -57,21 +49,10 @@ bytes-wrapped y n x = let e : wrapped y ≡ wrapped (wrapped y) = omega arith in
 
 runs-append : (a w : ℕ) (bs : List Bool) (b : Bool) (x : ℕ) → in_runs a w (bs ++ b ∷ []) x ≡ (in_runs a w bs x || (b && in_bytes (a + w * length bs) w x))
 unfolding in_runs
-runs-append a w [] b x =
-    let here : a ≡ a + w * 0 = omega arith in
-    or_none (b && in_bytes a w x) ∙ ap (λ (n : ℕ). b && in_bytes n w x) here
-  where
-    or_none : (c : Bool) → (c || false) ≡ c
-    or_none c = grind arith
+runs-append a w [] b x = let here : a + w * 0 ≡ a = omega arith in rw here (grind arith)
 runs-append a w (c ∷ bs) b x =
-    let product = mul-suc w (length bs) in
-    let place : a + w + w * length bs ≡ a + w * suc (length bs) = omega (arith, product) in
-    ap (λ (d : Bool). (c && in_bytes a w x) || d) (runs-append (a + w) w bs b x)
-    ∙ assoc (c && in_bytes a w x) (in_runs (a + w) w bs x) (b && in_bytes (a + w + w * length bs) w x)
-    ∙ ap (λ (n : ℕ). ((c && in_bytes a w x) || in_runs (a + w) w bs x) || (b && in_bytes n w x)) place
-  where
-    assoc : (p q r : Bool) → (p || (q || r)) ≡ ((p || q) || r)
-    assoc p q r = grind arith
+    let place : a + w * suc (length bs) ≡ a + w + w * length bs = omega (arith, mul-suc w (length bs)) in
+    rw (place, runs-append (a + w) w bs b x) (grind arith)
 
 bits-more : (w k : ℕ) → bits_of w (k + 1) ≡ bits_of w k ++ bit w k ∷ []
 bits-more w k =
@@ -92,24 +73,7 @@ runs-none a w v x = refl
 -- ---- marks of runs
 
 pub run_none : (c : Change) (m : Mark) (a w v : ℕ) (f : ℕ → Bool) → f ≡ (λ x. changed_where c m (in_runs a w (bits_of v 0) x) (f x))
-run_none c m a w v f = λ i x. sym (ap (λ (b : Bool). changed_where c m b (f x)) (runs-none a w v x)) i
-
-pub run_set : (c : Change) (m : Mark) (a w v k : ℕ) (f g h : ℕ → Bool) → g ≡ (λ x. changed_where c m (in_runs a w (bits_of v k) x) (f x)) → h ≡ changed_run c m (wrapped (a + w * k)) w g → bit v k ≡ true
-    → h ≡ (λ x. changed_where c m (in_runs a w (bits_of v (k + 1)) x) (f x))
-run_set c m a w v k f g h p q t = λ i x. (
-    ap (λ (n : ℕ → Bool). n x) q
-    ∙ ap (λ (n : ℕ → Bool). changed_where c m (in_bytes (wrapped (a + w * k)) w x) (n x)) p
-    ∙ if_either c m (in_runs a w (bits_of v k) x) (in_bytes (wrapped (a + w * k)) w x) (f x)
-    ∙ ap (λ (b : Bool). changed_where c m (in_runs a w (bits_of v k) x || (b && in_bytes (wrapped (a + w * k)) w x)) (f x)) (sym t)
-    ∙ ap (λ (b : Bool). changed_where c m b (f x)) (sym (runs-more a w v k x))) i
-
-pub run_clear : (c : Change) (m : Mark) (a w v k : ℕ) (f g : ℕ → Bool) → g ≡ (λ x. changed_where c m (in_runs a w (bits_of v k) x) (f x)) → bit v k ≡ false → g ≡ (λ x. changed_where c m (in_runs a w (bits_of v (k + 1)) x) (f x))
-run_clear c m a w v k f g p t = λ i x. (
-    ap (λ (n : ℕ → Bool). n x) p
-    ∙ ap (λ (b : Bool). changed_where c m b (f x)) (or_none (in_runs a w (bits_of v k) x) ∙ ap (λ (b : Bool). in_runs a w (bits_of v k) x || (b && in_bytes (wrapped (a + w * k)) w x)) (sym t) ∙ sym (runs-more a w v k x))) i
-  where
-    or_none : (b : Bool) → b ≡ (b || false)
-    or_none b = grind arith
+run_none c m a w v f = same_marks _ _ (λ x. rw runs-none)
 
 -- the words of a frame are in it
 pub words-inside : (a v x : ℕ) → in_runs a 4 (bits_of v 16) x ≡ true → in_bytes a FRAME_SIZE x ≡ true
@@ -117,11 +81,14 @@ words-inside a v x t = among-bytes a FRAME_SIZE x (picked-among a (byte_marks (b
 
 pub run_step : (c : Change) (m : Mark) (a w v k : ℕ) (f g h : ℕ → Bool) → g ≡ (λ x. changed_where c m (in_runs a w (bits_of v k) x) (f x)) → h ≡ (if bit v k then changed_run c m (wrapped (a + w * k)) w g else g)
     → h ≡ (λ x. changed_where c m (in_runs a w (bits_of v (k + 1)) x) (f x))
-run_step c m a w v k f g h p q = by_bit (bit v k) refl q
+run_step c m a w v k f g h p q = rw (q, p) (same_marks _ _ (λ x. rw (runs-more a w v k x) (by_bit x (bit v k))))
   where
-    by_bit : (b : Bool) → bit v k ≡ b → h ≡ (if b then changed_run c m (wrapped (a + w * k)) w g else g) → h ≡ (λ x. changed_where c m (in_runs a w (bits_of v (k + 1)) x) (f x))
-    by_bit true t e = run_set c m a w v k f g h p e t
-    by_bit false t e = e ∙ run_clear c m a w v k f g p t
+    before : ℕ → Bool
+    before x = changed_where c m (in_runs a w (bits_of v k) x) (f x)
+
+    by_bit : (x : ℕ) (b : Bool) → (if b then changed_run c m (wrapped (a + w * k)) w before else before) x ≡ changed_where c m (in_runs a w (bits_of v k) x || (b && in_bytes (wrapped (a + w * k)) w x)) (f x)
+    by_bit x true = if_either c m (in_runs a w (bits_of v k) x) (in_bytes (wrapped (a + w * k)) w x) (f x)
+    by_bit x false = ap (λ (b : Bool). changed_where c m b (f x)) (or_false (in_runs a w (bits_of v k) x))
 
 -- a run is among all of them
 pub run_inside : (w k n j : ℕ) → k < n → j < w → w * k + j < w * n
@@ -143,4 +110,4 @@ pub runs-zero : (a w v n x : ℕ) → v ≡ 0 → in_runs a w (bits_of v n) x �
 runs-zero a w v n x e = ap (λ (u : ℕ). in_runs a w (bits_of u n) x) e ∙ runs-clear a w 0 n x
 
 pub runs_unset : (c : Change) (m : Mark) (a w v n : ℕ) (f : ℕ → Bool) → v ≡ 0 → f ≡ (λ x. changed_where c m (in_runs a w (bits_of v n) x) (f x))
-runs_unset c m a w v n f e = λ i x. sym (ap (λ (b : Bool). changed_where c m b (f x)) (runs-zero a w v n x e)) i
+runs_unset c m a w v n f e = same_marks _ _ (λ x. rw (runs-zero a w v n x e))

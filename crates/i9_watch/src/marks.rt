@@ -47,6 +47,7 @@ impl Marks {
     }
 
     /// The same marks, with room for the same ones.
+    #[tactic(auto, using(crate::proofs::Marking::copied_marks, crate::proofs::Marking::same_values))]
     pub(crate) fn copy(&self) -> Result<Marks, NoMemory>
         ensures marks { IfOk result (λ s. (m : Mark) → is_marked m s ≡ is_marked m self.now) }
         ensures room { IfOk result (λ s. KeepsPages self.now s) }

@@ -62,6 +62,7 @@ impl Page {
     ghost use Rattle.i9_watch.specs.Page.{has_mark, changed, is_blockwise};
 
     /// No address is marked.
+    #[tactic(auto, using(crate::proofs::Marking::new_page))]
     pub(crate) fn new(alloc: Global) -> Result<Page, NoMemory>
         ensures { IfOk result (λ p. (m : Mark) (k : ℕ) → has_mark m p k ≡ false) }
     {

@@ -50,6 +50,7 @@ pub struct Watch {
 /// The first of so many addresses from one on that passes a test.
 // It is called where one of them has a mark, and is no part of the code that calls it.
 #[inline(never)]
+#[tactic(auto, using(crate::proofs::Watching::least_passes, crate::proofs::Watching::least_fails))]
 fn first_place<F: Fn(u32) -> bool>(a: u32, n: u32, test: F) -> Option<u32>
     requires { F.IsAlwaysCallable test }
     ensures { (p : ℕ → Bool) → ((x : ℕ) (r : Bool) → F.post test x r → r ≡ p x) → result ≡ least p a n }
@@ -183,6 +184,7 @@ impl Watch {
     }
 
     /// Which of `n` bytes from `a` on are soft: bit k for the byte that many behind `a`.
+    #[tactic(auto, using(crate::proofs::SetBits::none_below), unfolding(crate::specs::Watch::frames_of))]
     pub fn stale(&self, a: u32, n: u32) -> u16
         requires { n ≤ 16 }
         ensures { (k : ℕ) → bit result k ≡ (nat_lt k n && (frames_of self.now).soft (wrapped (a + k))) }
@@ -207,6 +209,7 @@ impl Watch {
     }
 
     /// Which of the sixteen words of a frame at `a` are marked, as those of a live frame.
+    #[tactic(auto, using(crate::proofs::SetBits::none_below, crate::proofs::Watching::words_clear))]
     fn lost_marks(&self, a: u32) -> u16
         ensures { AreWordMarks result (is_marked Lost self.now.marks) a }
     {
@@ -247,6 +250,11 @@ impl Watch {
 
     /// The least soft byte, counted upwards from `a`, of `n` bytes that are to be read.
     #[inline(always)]
+    #[tactic(
+        auto,
+        using(crate::proofs::Watching::least_is_none),
+        unfolding(crate::specs::Watch::frames_of, i9_model::specs::Hazards::read_hazard)
+    )]
     pub fn check_read(&self, a: u32, n: u32) -> Option<u32>
         ensures { result ≡ read_hazard (frames_of self.now) a n }
     {
@@ -258,6 +266,11 @@ impl Watch {
 
     /// The least byte, counted upwards from `a`, of `n` bytes that are to be read as after a flush:
     /// one that is soft and in no word of a live frame that is not marked.
+    #[tactic(
+        auto,
+        using(crate::proofs::Watching::least_is_none),
+        unfolding(crate::specs::Watch::frames_of, i9_model::specs::Hazards::read_hazard)
+    )]
     pub fn check_flushed_read(&self, a: u32, n: u32) -> Option<u32>
         ensures { result ≡ read_hazard (flushed (frames_of self.now)) a n }
     {

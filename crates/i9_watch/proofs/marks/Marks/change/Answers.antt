@@ -1,6 +1,5 @@
-use Rattle.std.proofs.Common.{◌≡◌, ℕ, ◌+◌, ◌-◌, ◌%◌, refl, subst, arith}
-use Rattle.i9_model.specs.Writes.{wrapped}
-use Rattle.i9_watch.specs.Marks.{is_marked, changed_run}
+use Rattle.std.proofs.Common.{◌≡◌, refl, arith}
+use Rattle.i9_watch.specs.Marks.{is_marked}
 use Rattle.i9_watch.proofs.Marking.{change_none, change_more}
 use Rattle.i9_watch.proofs.marks.Marks.change.Goals as goal
 
@@ -19,17 +18,12 @@ loop-done-preserved c = record {
   blocks = λ e.
       let done = c.loop-done.invariant.blocks e in
       let run = c.requires.blocks e in
-      let first : wrapped (c.args.a + c.loop-done.done) % 16 ≡ 0 = omega (arith, done, run.0) in
-      let left : (c.args.n - c.loop-done.done) % 16 ≡ 0 = omega (arith, done, run.1) in
-      let count = c.count_in_page-count.ensures.blocks first left in
+      let count = c.count_in_page-count.ensures.blocks (omega (arith, done, run.0)) (omega (arith, done, run.1)) in
       omega (arith, done, count);
-  marks = λ m. change_more c.args.change m c.args.a c.loop-done.done c.count_in_page-count.result (is_marked m c.args.self.now) (is_marked m c.loop-done.self) (is_marked m c.change_in_page.new.self)
-      (c.loop-done.invariant.marks m) (c.change_in_page.ensures.marks m);
+  marks = λ m. change_more c.args.change m c.args.a c.loop-done.done _ _ _ _ (c.loop-done.invariant.marks m) (c.change_in_page.ensures.marks m);
   keeps = λ p h. c.change_in_page.ensures.keeps p (c.loop-done.invariant.keeps p h);
   no_more = λ p h. c.loop-done.invariant.no_more p (c.change_in_page.ensures.no_more p h);
 }
 
 pub returns-clause-marks : goal.returns-clause-marks
-returns-clause-marks c = λ m.
-    let all : c.loop-done.done ≡ c.args.n = omega arith in
-    subst (λ (k : ℕ). is_marked m c.loop-done.self ≡ changed_run c.args.change m c.args.a k (is_marked m c.args.self.now)) all (c.loop-done.invariant.marks m)
+returns-clause-marks c = λ m. let all : c.loop-done.done ≡ c.args.n = omega arith in rw all at (c.loop-done.invariant.marks m)

@@ -20,7 +20,7 @@ returns-in-Some-clause-marks c = λ m. same_marks _ _ (λ x.
     let here : x / 256 ≡ n → page_at new.pages (x / 256) ≡ Some after = updated_here old.pages new.pages n (Some after) updates (x / 256) in
     let was : x / 256 ≡ n → page_at old.pages (x / 256) ≡ Some before = λ e. ap (page_at old.pages) e ∙ sym c.in-Some.ensures.value in
     let others : x / 256 ≢ n → page_at new.pages (x / 256) ≡ page_at old.pages (x / 256) = updated_elsewhere old.pages new.pages n (Some after) updates (x / 256) in
-    set_place c.args.a c.args.n x (changed c.args.change m (is_marked m old x)) (is_marked m old x) (is_marked m new x) (omega arith) (omega arith)
+    set_place c.args.a c.args.n x (omega arith) (omega arith) (changed c.args.change m (is_marked m old x)) (is_marked m old x) (is_marked m new x)
     (λ e low high. marked_at m new x after (here e) ∙ c.change.ensures.within m (x % 256) low high ∙ ap (changed c.args.change m) (sym (marked_at m old x before (was e))))
     (λ e out. marked_at m new x after (here e) ∙ c.change.ensures.outside m (x % 256) out ∙ sym (marked_at m old x before (was e)))
     (λ ne. same_page_marks m new old x (others ne)))

@@ -1,25 +1,22 @@
-use Rattle.std.proofs.Common.{◌≡◌, ℕ, ◌+◌, ◌*◌, ◌/◌, sym, subst, arith}
+use Rattle.std.proofs.Common.{◌≡◌, ◌+◌, ◌*◌, ◌/◌, sym, subst, arith}
 use Rattle.i9_model.specs.Writes.{wrapped}
-use Rattle.i9_watch.specs.Bits.{bits_of, in_runs}
-use Rattle.i9_watch.specs.Marks.{HasRoom, is_marked, changed_where}
+use Rattle.i9_watch.specs.Marks.{HasRoom}
 use Rattle.i9_model.proofs.Readings.{next_place}
 use Rattle.i9_watch.proofs.Runs.{run_none, run_step, run_inside, runs_unset}
 use Rattle.i9_watch.proofs.marks.Marks.change_runs.Goals as goal
 
 pub loop-k-init : goal.loop-k-init
-loop-k-init c = record { marks = λ m. run_none c.args.change m c.args.a c.args.width c.args.bits (is_marked m c.args.self.now); keeps = λ p h. h; no_more = λ p h. h }
+loop-k-init c = record { marks = λ m. run_none c.args.change m c.args.a c.args.width c.args.bits _; keeps = λ p h. h; no_more = λ p h. h }
 
 pub loop-k-preserved : goal.loop-k-preserved
 loop-k-preserved c = record {
-  marks = λ m. run_step c.args.change m c.args.a c.args.width c.args.bits c.loop-k.k (is_marked m c.args.self.now) (is_marked m c.loop-k.self) (is_marked m c.change_if.new.self) (c.loop-k.invariant.marks m) (c.change_if.ensures.marks m);
+  marks = λ m. run_step c.args.change m c.args.a c.args.width c.args.bits c.loop-k.k _ _ _ (c.loop-k.invariant.marks m) (c.change_if.ensures.marks m);
   keeps = λ p h. c.change_if.ensures.keeps p (c.loop-k.invariant.keeps p h);
   no_more = λ p h. c.loop-k.invariant.no_more p (c.change_if.ensures.no_more p h);
 }
 
 pub returns-clause-marks : goal.returns-clause-marks
-returns-clause-marks c = λ m.
-    let all : c.loop-k.k ≡ c.args.count = omega arith in
-    subst (λ (n : ℕ). is_marked m c.loop-k.self ≡ (λ x. changed_where c.args.change m (in_runs c.args.a c.args.width (bits_of c.args.bits n) x) (is_marked m c.args.self.now x))) all (c.loop-k.invariant.marks m)
+returns-clause-marks c = λ m. let all : c.loop-k.k ≡ c.args.count = omega arith in rw all at (c.loop-k.invariant.marks m)
 
 pub change_if-requires-clause-room : goal.change_if-requires-clause-room
 change_if-requires-clause-room c = λ j l.
@@ -28,4 +25,4 @@ change_if-requires-clause-room c = λ j l.
     subst (HasRoom c.loop-k.self) (sym (next_place c.args.a at j)) (c.loop-k.invariant.keeps (wrapped (c.args.a + (at + j)) / 256) there)
 
 pub returns-then-bits-eq0-clause-marks : goal.returns-then-bits-eq0-clause-marks
-returns-then-bits-eq0-clause-marks c = λ m. runs_unset c.args.change m c.args.a c.args.width c.args.bits c.args.count (is_marked m c.args.self.now) c.if-bits-eq0.true
+returns-then-bits-eq0-clause-marks c = λ m. runs_unset c.args.change m c.args.a c.args.width c.args.bits c.args.count _ c.if-bits-eq0.true

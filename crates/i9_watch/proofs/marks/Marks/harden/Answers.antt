@@ -1,8 +1,7 @@
-use Rattle.std.proofs.Common.{◌≡◌, ◌≢◌, ℕ, ◌+◌, Bool, subst, ap, ◌∙◌, arith}
-use Rattle.std.specs.Prelude.{◌&&◌, not, if◌then◌else◌}
+use Rattle.std.proofs.Common.{◌≡◌, ℕ, ◌+◌, Bool, ap, ◌∙◌, arith}
+use Rattle.std.specs.Prelude.{if◌then◌else◌}
 use Rattle.i9_model.specs.declared.layout.TheConstants.{FRAME_SIZE}
 use Rattle.i9_model.specs.Writes.{wrapped}
-use Rattle.i9_model.specs.Frames.{in_bytes}
 use Rattle.i9_watch.specs.declared.page.Mark.TheVariants.{Soft, Lost}
 use Rattle.i9_watch.specs.declared.page.Change.TheVariants.{Store}
 use Rattle.i9_watch.specs.Marks.{is_marked, changed_run}
@@ -14,27 +13,22 @@ loop-k-init c = record { soft = harden_none c.args.frame (is_marked Soft c.args.
 
 pub loop-k-preserved : goal.loop-k-preserved
 loop-k-preserved c =
-    let other : Lost ≢ Soft = λ e. cc e in
-    let lost = is_marked Lost c.args.self.now in
     let before = is_marked Soft c.loop-k.self in
     let x = wrapped (c.args.frame + c.loop-k.k) in
-    let byte = c.harden_byte.ensures.soft ∙ ap (λ (f : ℕ → Bool). if f x then before else changed_run Store Soft x 1 before) (c.loop-k.invariant.others Lost other) in
+    let byte = c.harden_byte.ensures.soft ∙ ap (λ (f : ℕ → Bool). if f x then before else changed_run Store Soft x 1 before) (c.loop-k.invariant.others Lost (λ e. cc e)) in
     record {
-      soft = harden_step c.args.frame c.loop-k.k (is_marked Soft c.args.self.now) lost before (is_marked Soft c.harden_byte.new.self) c.loop-k.invariant.soft byte;
+      soft = harden_step c.args.frame c.loop-k.k (is_marked Soft c.args.self.now) (is_marked Lost c.args.self.now) _ _ c.loop-k.invariant.soft byte;
       others = λ m h. c.harden_byte.ensures.others m h ∙ c.loop-k.invariant.others m h;
       keeps = λ p h. c.harden_byte.ensures.keeps p (c.loop-k.invariant.keeps p h);
       no_more = λ p h. c.loop-k.invariant.no_more p (c.harden_byte.ensures.no_more p h);
     }
 
 pub returns-clause-soft : goal.returns-clause-soft
-returns-clause-soft c =
-    let all : c.loop-k.k ≡ FRAME_SIZE = omega arith in
-    subst (λ (n : ℕ). is_marked Soft c.loop-k.self ≡ (λ x. is_marked Soft c.args.self.now x && not (in_bytes c.args.frame n x && not (is_marked Lost c.args.self.now x)))) all c.loop-k.invariant.soft
+returns-clause-soft c = let all : c.loop-k.k ≡ FRAME_SIZE = omega arith in rw all at c.loop-k.invariant.soft
 
 pub returns-then-not-has_any-clause-soft : goal.returns-then-not-has_any-clause-soft
 returns-then-not-has_any-clause-soft c =
-    harden_whole c.args.frame FRAME_SIZE (is_marked Soft c.args.self.now) (is_marked Lost c.args.self.now) (is_marked Soft c.store.new.self)
-    (c.has_any.ensures c.if-not-has_any.true) (c.store.ensures.marks Soft)
+    harden_whole c.args.frame FRAME_SIZE (is_marked Soft c.args.self.now) (is_marked Lost c.args.self.now) _ (c.has_any.ensures c.if-not-has_any.true) (c.store.ensures.marks Soft)
 
 pub returns-then-not-has_any-clause-others : goal.returns-then-not-has_any-clause-others
-returns-then-not-has_any-clause-others c = λ m h. store_other m h c.args.frame FRAME_SIZE (is_marked m c.args.self.now) (is_marked m c.store.new.self) (c.store.ensures.marks m)
+returns-then-not-has_any-clause-others c = λ m h. store_other m h c.args.frame FRAME_SIZE _ _ (c.store.ensures.marks m)

@@ -1,25 +1,14 @@
-use Rattle.std.proofs.Common.{ℕ, Bool, refl, sym, ap, ◌∙◌}
+use Rattle.std.proofs.Common.{refl}
 use Rattle.i9_watch.specs.declared.page.Mark.TheVariants.{Soft, Live, Lost}
-use Rattle.i9_watch.specs.Marks.{is_marked}
 use Rattle.i9_watch.specs.Watch.{frames_of}
-use Rattle.i9_watch.proofs.Watching.{same_frames, no_change, soft-wrote}
+use Rattle.i9_watch.proofs.Watching.{same_frames, no_change, clear_where, same_kept}
 use Rattle.i9_watch.proofs.watch.Watch.wrote.Goals as goal
 
-pub invariant_of-self-clause-aligned : goal.invariant_of-self-clause-aligned
-invariant_of-self-clause-aligned c = c.args.self.now.aligned
-
-pub invariant_of-self-clause-apart : goal.invariant_of-self-clause-apart
-invariant_of-self-clause-apart c = c.args.self.now.apart
-
-pub invariant_of-self-clause-marked : goal.invariant_of-self-clause-marked
-invariant_of-self-clause-marked c = no_change c.args.a c.args.n (is_marked Live c.args.self.now.marks) (is_marked Live c.store.new.self) (c.store.ensures.marks Live) ∙ c.args.self.now.marked
-
-pub invariant_of-self-clause-within : goal.invariant_of-self-clause-within
-invariant_of-self-clause-within c = λ x t. c.args.self.now.within x (ap (λ (f : ℕ → Bool). f x) (sym (no_change c.args.a c.args.n (is_marked Lost c.args.self.now.marks) (is_marked Lost c.store.new.self) (c.store.ensures.marks Lost))) ∙ t)
-
-pub invariant_of-self-clause-none_lost : goal.invariant_of-self-clause-none_lost
-invariant_of-self-clause-none_lost c = λ e x. ap (λ (f : ℕ → Bool). f x) (no_change c.args.a c.args.n (is_marked Lost c.args.self.now.marks) (is_marked Lost c.store.new.self) (c.store.ensures.marks Lost)) ∙ c.args.self.now.none_lost e x
+pub invariant_of-self : goal.invariant_of-self
+invariant_of-self c =
+    let w = c.args.self.now in
+    same_kept w _ _ _ w.room refl (no_change _ (c.store.ensures.marks Live)) (no_change _ (c.store.ensures.marks Lost))
 
 pub returns-clause-frames : goal.returns-clause-frames
 unfolding frames_of
-returns-clause-frames c = same_frames (soft-wrote c.args.a c.args.n (is_marked Soft c.args.self.now.marks) (is_marked Soft c.store.new.self) (c.store.ensures.marks Soft)) refl (no_change c.args.a c.args.n (is_marked Lost c.args.self.now.marks) (is_marked Lost c.store.new.self) (c.store.ensures.marks Lost))
+returns-clause-frames c = same_frames (clear_where _ _ (c.store.ensures.marks Soft)) refl (no_change _ (c.store.ensures.marks Lost))

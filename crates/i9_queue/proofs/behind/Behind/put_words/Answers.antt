@@ -1,9 +1,0 @@
-use Rattle.i9_model.specs.Late.{all_puts}
-use Rattle.i9_queue.proofs.Settled.{room_kept}
-use Rattle.i9_queue.proofs.behind.Behind.put_words.Goals as goal
-
-pub invariant_of-self : goal.invariant_of-self
-invariant_of-self c =
-    let b = c.args.self.now in
-    let room = room_kept b.memory c.put_words.new.self (all_puts b.queue) c.put_words.ensures.keeps b.room in
-    record { room = room; order = b.order }

@@ -1,8 +1,0 @@
-use Rattle.i9_model.specs.Late.{all_puts}
-use Rattle.i9_queue.proofs.Settled.{room_kept}
-use Rattle.i9_queue.proofs.behind.Behind.reserve.Goals as goal
-
-pub invariant_of-self : goal.invariant_of-self
-invariant_of-self c =
-    let b = c.args.self.now in
-    record { room = room_kept b.memory c.reserve.new.self (all_puts b.queue) c.reserve.ensures.keeps b.room; order = b.order }
