@@ -17,7 +17,7 @@ use Rattle.i9_decode.proofs.Forms.{AddressParts, address_parts}
 use Rattle.i9_statement.specs.declared.values.Value.{Value}
 use Rattle.i9_statement.specs.declared.values.Value.TheVariants.{Number}
 use Rattle.i9_statement.specs.declared.parts.Front.{Front}
-use Rattle.i9_statement.specs.declared.parts.Front.TheVariants.{Absent, Valued}
+use Rattle.i9_statement.specs.declared.parts.Front.TheVariants.{Valued}
 use Rattle.i9_statement.specs.declared.parts.Base.{Base}
 use Rattle.i9_statement.specs.declared.parts.Base.TheVariants as base
 use Rattle.i9_statement.specs.declared.parts.Index.{Index}

@@ -1,11 +1,11 @@
 -- What is read as an instruction is always a valid one: what is at fault stands for register 0, address 0 or
 -- distance 0.
-use Rattle.std.proofs.Common.{◌≡◌, ℕ, ◌%◌, ◌^◌, ◌<◌, Bool, true, false, cond, ltb, leb, eqb, ◌&&◌, List, [], ◌∷◌, Option, Some, None, IfSome, refl, sym, arith, inl, inr}
+use Rattle.std.proofs.Common.{◌≡◌, ℕ, ◌%◌, ◌^◌, ◌<◌, Bool, true, false, cond, ltb, eqb, ◌&&◌, List, [], ◌∷◌, Option, Some, None, IfSome, refl, sym, arith}
 use Rattle.std.specs.Prelude.{ℤ, pos}
 use Rattle.std.specs.Option.{option_map, option_and_then}
 use Rattle.std.specs.Str.{bytes_eq}
 use Rattle.i9_text.proofs.Cuts.{position_or_len-found}
-use Rattle.std.proofs.lemmas.Bool.{ltb-true, lt-ltb, cases_Bool}
+use Rattle.std.proofs.lemmas.Bool.{lt-ltb}
 use Rattle.std.proofs.lemmas.Bool.Decides.{nat_tests}
 use Rattle.i9_isa.specs.declared.inst.Operand.{Operand}
 use Rattle.i9_isa.specs.declared.inst.Operand.TheVariants.{Reg, Lit}
@@ -27,7 +27,7 @@ use Rattle.i9_statement.specs.declared.parts.Index.{Index}
 use Rattle.i9_statement.specs.declared.parts.Index.TheVariants as index
 use Rattle.i9_statement.specs.Cut.{before, from, behind, is_byte, closed}
 use Rattle.i9_statement.specs.Registers.{register_of, register_place}
-use Rattle.i9_statement.specs.Values.{Names, is_name, magnitude, in_range, is_sign, number_text, named, tail_number, name_text, has_name_start, value_of, value_noted}
+use Rattle.i9_statement.specs.Values.{Names, magnitude, in_range, is_sign, number_text, named, tail_number, name_text, value_of, value_noted}
 use Rattle.i9_statement.specs.Operands.{small_literal, literal, takes_literals, operand_as, operand_of}
 use Rattle.i9_statement.specs.Addresses.{star, close_square, opens, base_of, scale_names, scale_of, scaled, scaled_register, if_last, index_of, valued, front_of, with_index, with_base, address_behind, address_of, is_short, mode_of, plain_register, address_by}
 use Rattle.i9_statement.specs.Targets.{reach, if_reached, target_by, target_of, distance}
@@ -37,9 +37,7 @@ use Rattle.i9_statement.proofs.ReadInstructions.{is_branching, disp_branching}
 -- ---- operands
 
 zero_group : (a b : Bool) → (ltb 0 32 && cond a true (cond b (eqb (0 % 2) 0) (eqb (0 % 4) 0))) ≡ true
-zero_group true b = refl
-zero_group false true = refl
-zero_group false false = refl
+zero_group a b = grind arith
 
 zero_taken : (u : Use) → takes u (Reg 0) ≡ true
 zero_taken (Source n) = zero_group (eqb n 1) (eqb n 2)
@@ -54,10 +52,7 @@ literal_takes Left n u h = h
 literal_takes _ n u h = absurd cc
 
 small_taken : (u : Use) (n : ℕ) → takes_literals u ≡ true → takes u (small_literal n).value ≡ true
-small_taken u n h = elim (cases_Bool (ltb n 32)) [
-  | inl small ↦ rw small (literal_takes u n h small)
-  | inr large ↦ rw large (zero_taken u)
-]
+small_taken u n h = grind (arith, literal_takes u n h, zero_taken u)
 
 value_taken : (u : Use) (v : Value) → takes_literals u ≡ true → takes u (literal v).value ≡ true
 value_taken u (Number n) h = small_taken u n h
@@ -65,14 +60,8 @@ value_taken u (Named n) h = small_taken u n h
 value_taken u _ h = zero_taken u
 
 as_taken : (u : Use) (o : Option Operand) (v : Option Value) → takes u (operand_as u o v).value ≡ true
-as_taken u (Some o) v = elim (cases_Bool (takes u o)) [
-  | inl good ↦ rw good good
-  | inr bad ↦ rw bad (zero_taken u)
-]
-as_taken u None (Some v) = elim (cases_Bool (takes_literals u)) [
-  | inl good ↦ rw good (value_taken u v good)
-  | inr bad ↦ rw bad (zero_taken u)
-]
+as_taken u (Some o) v = grind (arith, zero_taken u)
+as_taken u None (Some v) = grind (arith, zero_taken u, value_taken u v)
 as_taken u None None = zero_taken u
 
 operand_valid : (u : Use) (names : Names) (s : List ℕ) → takes u (operand_of u names s).value ≡ true
@@ -91,10 +80,7 @@ zero_reached format.Reg = refl
 zero_reached _ = refl
 
 reached : (f : Format) (z : ℤ) → is_within (reach f) (if_reached f z).value ≡ true
-reached f z = elim (cases_Bool (is_within (reach f) z)) [
-  | inl near ↦ rw near near
-  | inr far ↦ rw far (zero_reached f)
-]
+reached f z = grind (arith, zero_reached f)
 
 by_reached : (ip : ℕ) (f : Format) (v : Option Value) → is_within (reach f) (target_by ip f v).value ≡ true
 by_reached ip f (Some (Number n)) = reached f (distance ip n)
@@ -141,15 +127,9 @@ address_valid : (forced : Bool) (f : Front) (b : Base) (i : Index) → FrontSmal
 address_valid false Absent (base.Register r) index.Nothing hf hi = rw (plain_low r) refl
 address_valid true Absent (base.Register r) index.Nothing hf hi = rw (plain_low r) refl
 address_valid false Absent (base.Register r) (index.Scaled j k) hf hi = rw (plain_low r, plain_low j, lt-ltb k 5 hi) refl
-address_valid false (Valued v) base.Nothing index.Nothing hf hi = elim (cases_Bool (is_short v)) [
-  | inl short ↦ rw short (rw (short_small v short) refl)
-  | inr long ↦ rw long (rw (noted_small v hf) refl)
-]
+address_valid false (Valued v) base.Nothing index.Nothing hf hi = grind (arith, short_small v, noted_small v hf)
 address_valid true (Valued v) base.Nothing index.Nothing hf hi = rw (noted_small v hf) refl
-address_valid false (Valued v) (base.Register r) index.Nothing hf hi = elim (cases_Bool (is_short v)) [
-  | inl short ↦ rw short (rw (plain_low r, short_small v short) refl)
-  | inr long ↦ rw long (rw (plain_low r, noted_small v hf) refl)
-]
+address_valid false (Valued v) (base.Register r) index.Nothing hf hi = grind (arith, plain_low r, short_small v, noted_small v hf)
 address_valid true (Valued v) (base.Register r) index.Nothing hf hi = rw (plain_low r, noted_small v hf) refl
 address_valid false (Valued v) base.Ip index.Nothing hf hi = rw (noted_small v hf) refl
 address_valid false (Valued v) base.Nothing (index.Scaled j k) hf hi = rw (plain_low j, lt-ltb k 5 hi, noted_small v hf) refl
@@ -168,21 +148,11 @@ if_some-then P f None h = tt
 if_some-then P f (Some x) h = h x
 
 in_range_small : (q : Bool) (m : ℕ) → IsSmall (in_range q m)
-in_range_small false m = elim (cases_Bool (ltb m (2 ^ 32))) [
-  | inl low ↦ rw low (ltb-true m (2 ^ 32) low)
-  | inr high ↦ rw high tt
-]
-in_range_small true m = elim (cases_Bool (leb m (2 ^ 31))) [
-  | inl low ↦ rw low (omega arith)
-  | inr high ↦ rw high tt
-]
+in_range_small q m = grind (arith, nat_tests)
 
 number_small : (s : List ℕ) → IfSome (number_text s) IsSmall
 number_small [] = tt
-number_small (b ∷ s) = elim (cases_Bool (eqb b 45)) [
-  | inl minus ↦ rw minus (if_some-map IsSmall (in_range true) (magnitude s) (in_range_small true))
-  | inr plain ↦ rw plain (if_some-map IsSmall (in_range false) (magnitude (b ∷ s)) (in_range_small false))
-]
+number_small (b ∷ s) = grind (arith, if_some-map IsSmall (in_range true) (magnitude s) (in_range_small true), if_some-map IsSmall (in_range false) (magnitude (b ∷ s)) (in_range_small false))
 
 named_small : (o : Option ℕ) (v : Value) → IsSmall (named o v)
 named_small (Some m) (Number n) = omega arith
@@ -190,17 +160,11 @@ named_small None (Number n) = tt
 named_small _ _ = tt
 
 name_small : (names : Names) (name rest : List ℕ) → IfSome (name_text names name rest) IsSmall
-name_small names name rest = elim (cases_Bool (is_name name)) [
-  | inl good ↦ rw good (if_some-map IsSmall (named (names name)) (tail_number rest) (named_small (names name)))
-  | inr bad ↦ rw bad tt
-]
+name_small names name rest = grind (arith, if_some-map IsSmall (named (names name)) (tail_number rest) (named_small (names name)))
 
 value_small : (names : Names) (s : List ℕ) → IfSome (value_of names s) IsSmall
 unfolding value_of
-value_small names s = elim (cases_Bool (has_name_start s)) [
-  | inl name ↦ rw name (name_small names (before is_sign s) (from is_sign s))
-  | inr number ↦ rw number (number_small s)
-]
+value_small names s = grind (arith, name_small names (before is_sign s) (from is_sign s), number_small s)
 
 front_small : (names : Names) (s : List ℕ) → FrontSmall (front_of names s)
 front_small names [] = tt
@@ -227,18 +191,12 @@ register_small s =
     if_some-then IndexSmall (λ k. scaled r (scale_of k)) (behind star (from (is_byte star) s)) (scaled_small r)
 
 last_small : (c : List ℕ × List ℕ) → IfSome (if_last c) IndexSmall
-last_small c = elim (cases_Bool (bytes_eq c.1 [])) [
-  | inl done ↦ rw done (register_small c.0)
-  | inr more ↦ rw more tt
-]
+last_small c = grind (arith, register_small c.0)
 
 index_small : (s : List ℕ) → IfSome (index_of s) IndexSmall
 unfolding index_of
 index_small [] = tt
-index_small (b ∷ s) = elim (cases_Bool (eqb b 91)) [
-  | inl opens ↦ rw opens (if_some-then IndexSmall if_last (closed close_square s) last_small)
-  | inr other ↦ rw other tt
-]
+index_small (b ∷ s) = grind (arith, if_some-then IndexSmall if_last (closed close_square s) last_small)
 
 -- ---- whole addresses
 
@@ -257,10 +215,7 @@ behind_valid forced names s = with_valid forced (front_of names (before opens s)
 read_address : (names : Names) (s : List ℕ) → is_address (address_of names s).value ≡ true
 unfolding address_of
 read_address names [] = behind_valid false names []
-read_address names (b ∷ s) = elim (cases_Bool (eqb b 33)) [
-  | inl forced ↦ rw forced (behind_valid true names s)
-  | inr plain ↦ rw plain (behind_valid false names (b ∷ s))
-]
+read_address names (b ∷ s) = grind (arith, behind_valid true names s, behind_valid false names (b ∷ s))
 
 -- ---- whole instructions
 
