@@ -1,16 +1,12 @@
 -- The first word of a line, by the places of its first blank and of its first byte that is none.
-use Rattle.std.proofs.Common.{◌≡◌, ℕ, suc, ◌+◌, ◌<◌, Bool, true, false, List, [], ◌∷◌, length, take, drop, filter, Some, None, refl, sym, ap, ◌∙◌, arith, inl, inr, get_or, add-one, add-zero, drop-cons, not}
+use Rattle.std.proofs.Common.{◌≡◌, ℕ, suc, ◌+◌, ◌<◌, true, false, List, [], ◌∷◌, length, take, drop, filter, Some, None, refl, sym, ap, ◌∙◌, arith, inl, inr, get_or, add-one, add-zero, drop-cons, not}
 use Rattle.std.specs.List.{slice_split, position, position_or_len}
-use Rattle.std.proofs.lemmas.Bool.{lt-ltb, cases_lt, cases_Bool}
+use Rattle.std.proofs.lemmas.Bool.{lt-ltb, cases_lt, cases_Bool, not-true}
 use Rattle.std.proofs.lemmas.List.{length-take, take_all, drop_all, get_or-drop}
 use Rattle.std.proofs.lemmas.List.Sums.{fails_before_first, passes_at_first}
 use Rattle.std.proofs.lemmas.List.Splits.{slice_split_first, slice_split_none, slice_split-cons_yes}
 use Rattle.i9_text.specs.Text.{is_blank, is_in_word, is_some_word, words_of}
 use Rattle.i9_text.proofs.Cuts.{position_or_len-found, position_or_len-missing}
-
-not-false : (b : Bool) → not b ≡ true → b ≡ false
-not-false true e = absurd cc
-not-false false e = refl
 
 -- a blank in front says nothing
 pub words_of-blank : (b : ℕ) (rest : List ℕ) → is_blank b ≡ true → words_of (b ∷ rest) ≡ words_of rest
@@ -64,7 +60,7 @@ pub words_of-from : (line : List ℕ) (i d : ℕ) → Some i ≡ position is_in_
 words_of-from line i d e =
     let f = position_or_len-found is_in_word line i e in
     let passes = passes_at_first is_in_word line d (omega (arith, f)) in
-    (rw f.0 at (words_of-skip line), rw (get_or-drop, add-zero) (not-false _ (rw f.0 at passes)), f.1)
+    (rw f.0 at (words_of-skip line), rw (get_or-drop, add-zero) (not-true _ (rw f.0 at passes)), f.1)
 
 -- a line of blanks
 pub words_of-none : (line : List ℕ) → None ≡ position is_in_word line → words_of line ≡ []

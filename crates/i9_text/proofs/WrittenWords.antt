@@ -4,7 +4,7 @@ use Rattle.std.specs.List.{slice_split, join_with_byte, list_all, AllByRecursion
 use Rattle.std.specs.Char.{digit_value}
 use Rattle.std.specs.Fmt.{decimal}
 use Rattle.std.specs.Str.Parse.{AllDigits}
-use Rattle.std.proofs.lemmas.Bool.{lt-ltb, and_parts, not-true}
+use Rattle.std.proofs.lemmas.Bool.{lt-ltb, and_parts}
 use Rattle.std.proofs.lemmas.Fmt.{decimal_is_IsNumeral, length-decimal-le}
 use Rattle.std.proofs.lemmas.List.Elements.{All-from_recursion}
 use Rattle.std.proofs.lemmas.List.Splits.{slice_split_at, slice_split_none}
@@ -20,9 +20,7 @@ pub record IsWord (w : List ℕ) : Type 0 where
 
 no_blanks : (w : List ℕ) → list_all is_in_word w ≡ true → AllByRecursion (λ b. is_blank b ≡ false) w
 no_blanks [] h = tt
-no_blanks (b ∷ w) h =
-    let p = and_parts (is_in_word b) (list_all is_in_word w) h in
-    (not-true _ p.0, no_blanks w p.1)
+no_blanks (b ∷ w) h = (grind arith, no_blanks w (grind arith))
 
 filter-word : (w : List ℕ) (parts : List (List ℕ)) → ltb 0 (length w) ≡ true → filter is_some_word (w ∷ parts) ≡ w ∷ filter is_some_word parts
 filter-word w parts e = rw e refl
