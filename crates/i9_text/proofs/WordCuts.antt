@@ -38,9 +38,7 @@ words_of-word line n e some long =
 -- where the first byte is no blank, the bytes before the first blank are a word
 pub words_of-first : (line : List ℕ) (d : ℕ) → 0 < length line → is_blank (get_or line 0 d) ≡ false → words_of line ≡ take (position_or_len is_blank line) line ∷ words_of (drop (position_or_len is_blank line) line)
 words_of-first [] d some first = absurd (omega arith)
-words_of-first (b ∷ rest) d some first =
-    let later : position_or_len is_blank (b ∷ rest) ≡ 1 + position_or_len is_blank rest = rw first refl in
-    words_of-word (b ∷ rest) (position_or_len is_blank (b ∷ rest)) refl (omega (arith, later)) some
+words_of-first (b ∷ rest) d some first = grind (arith, words_of-word)
 
 -- nor do all the blanks in front
 pub words_of-skip : (line : List ℕ) → words_of (drop (position_or_len is_in_word line) line) ≡ words_of line
@@ -68,12 +66,8 @@ words_of-none line e = sym (words_of-skip line) ∙ rw (drop_all (position_or_le
 
 -- a line that begins with a word and has a blank
 pub words_of-cut : (line : List ℕ) (i d : ℕ) → Some i ≡ position is_blank line → is_blank (get_or line 0 d) ≡ false → (words_of line ≡ take i line ∷ words_of (drop i line)) × (i < length line)
-words_of-cut line i d e first =
-    let f = position_or_len-found is_blank line i e in
-    (rw f.0 at (words_of-first line d (omega (arith, f)) first), f.1)
+words_of-cut line i d e first = grind (arith, position_or_len-found, words_of-first)
 
 -- a line that is one word
 pub words_of-whole : (line : List ℕ) (d : ℕ) → None ≡ position is_blank line → 0 < length line → is_blank (get_or line 0 d) ≡ false → words_of line ≡ line ∷ []
-words_of-whole line d e some first =
-    let past = position_or_len-missing is_blank line e in
-    rw (take_all (position_or_len is_blank line) line past, drop_all (position_or_len is_blank line) line past) at (words_of-first line d some first)
+words_of-whole line d e some first = grind (arith, position_or_len-missing, take_all, drop_all, words_of-first)

@@ -2,17 +2,14 @@
 use Rattle.std.proofs.Common.{◌≡◌, ℕ, zero, suc, ◌-◌, ◌/◌, ◌%◌, ◌<◌, Bool, true, false, not, ◌&&◌, ltb, eqb, List, [], ◌∷◌, ◌++◌, length, map, get_or, refl, ap, ◌∙◌, append_assoc, arith}
 use Rattle.std.specs.List.{list_all, flat_map, AllByRecursion}
 use Rattle.std.specs.Fmt.{decimal, digits, digits_onto, digit_glyph}
-use Rattle.std.specs.Char.{digit_value}
 use Rattle.std.specs.Int.{w32, to_be_bytes}
 use Rattle.std.specs.Str.Lines.{strip_carriage_return}
-use Rattle.std.proofs.lemmas.List.{get_or_past}
 use Rattle.std.proofs.lemmas.List.Folds.{list_all-append}
 use Rattle.std.proofs.lemmas.List.Elements.{All-from_recursion}
 use Rattle.std.proofs.lemmas.List.Splits.{slice_split_at}
 use Rattle.hex.specs.Hex.{encode_with, encode_upper, upper_digits}
 use Rattle.i9_text.specs.Text.{line_feed, is_line_feed, lines_of}
 use Rattle.i9_text.specs.Written.{word_text, byte_text}
-use Rattle.i9_text.proofs.Digits.{digit_value-upper}
 
 -- an ASCII byte that ends no line and is not dropped at its end
 abbrev pub is_plain_byte : ℕ → Bool
@@ -46,10 +43,7 @@ pub record IsPlain (l : List ℕ) : Type 0 where
 -- after the last line feed stands one line more, which is empty
 pub lines_of-written : (ls : List (List ℕ)) → AllByRecursion IsPlain ls → lines_of (flat_map (λ l. l ++ line_feed ∷ []) ls) ≡ ls ++ [] ∷ []
 lines_of-written [] h = refl
-lines_of-written (l ∷ ls) h =
-    ap lines_of (append_assoc l (line_feed ∷ []) (flat_map (λ x. x ++ line_feed ∷ []) ls))
-    ∙ lines_of-then l (flat_map (λ x. x ++ line_feed ∷ []) ls) h.0.test
-    ∙ ap (λ (x : List (List ℕ)). l ∷ x) (lines_of-written ls h.1)
+lines_of-written (l ∷ ls) h = grind (arith, append_assoc, lines_of-then, lines_of-written ls h.1)
 
 -- a plain line is ASCII
 pub ascii-plain : (l : List ℕ) → is_plain l ≡ true → list_all (λ b. ltb b 128) l ≡ true
@@ -74,12 +68,8 @@ pub plain-decimal : (n : ℕ) → is_plain (decimal n) ≡ true
 unfolding digits
 plain-decimal n = plain_digits 64 n [] refl
 
--- a digit is plain, and so is what stands past the digits
-plain_value : (c : ℕ) → digit_value c < 16 → is_plain_byte c ≡ true
-plain_value c h = grind (arith)
-
 plain_digit : (d : ℕ) → is_plain_byte (get_or upper_digits d 0) ≡ true
-plain_digit d = grind (arith, plain_value (get_or upper_digits d 0), digit_value-upper d, get_or_past upper_digits d 0)
+plain_digit d = grind arith
 
 pub plain-encode_upper : (bs : List ℕ) → is_plain (encode_upper bs) ≡ true
 unfolding encode_with

@@ -58,6 +58,4 @@ pub IsWord-decimal : (n : ℕ) → n < 2 ^ 64 → IsWord (decimal n)
 IsWord-decimal n small = let h = decimal_is_IsNumeral n small in IsWord-digits (decimal n) 10 (lit≤ tt) h.0.0 h.0.1
 
 pub number_of-decimal : (most n : ℕ) → 0 < most → n < 10 ^ most → n < 2 ^ 64 → number_of 10 most (decimal n) ≡ Some n
-number_of-decimal most n some few small =
-    let h = decimal_is_IsNumeral n small in
-    number_of-digits 10 most (decimal n) h.0.0 (length-decimal-le most n some few small) h.0.1 ∙ ap Some h.1
+number_of-decimal most n some few small = grind (arith, decimal_is_IsNumeral, number_of-digits, length-decimal-le)
