@@ -13,9 +13,6 @@ use Rattle.i9_elf.specs.Files.{Header, header_size, header_of, headers_in, heade
 pub and_some : (n : ℕ) (b : Bool) → (ltb 0 n && b) ≡ false → 0 < n → b ≡ false
 and_some n b e some = let t : ltb 0 n ≡ true = grind arith in rw t at e
 
-pub some_and : (n : ℕ) (b : Bool) → (0 < n → b ≡ false) → (ltb 0 n && b) ≡ false
-some_and n b h = grind arith
-
 -- a load without fault
 pub record Fits (file : List ℕ) (size : ℕ) (h : Header) : Type 0 where
   pub loadable : IsLoadable file h
