@@ -8,7 +8,6 @@ use Rattle.i9_isa.specs.declared.inst.Mode.{Mode}
 use Rattle.i9_isa.specs.declared.inst.Mode.TheVariants.{BaseIndex, IndexDisp, BaseIndexDisp}
 use Rattle.i9_isa.specs.declared.inst.Ea.{Ea}
 use Rattle.i9_isa.specs.declared.inst.Inst.{Inst}
-use Rattle.i9_isa.specs.declared.format.Format.TheVariants as format
 use Rattle.i9_isa.specs.Operands.{is_address}
 use Rattle.i9_isa.specs.Valid.{IsValid}
 use Rattle.i9_text.specs.Text.{is_blank}

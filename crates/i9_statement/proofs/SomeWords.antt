@@ -12,7 +12,6 @@ use Rattle.i9_isa.specs.Valid.{IsValid}
 use Rattle.i9_isa.specs.Words.{words_of_mode}
 use Rattle.i9_decode.specs.Ignored.{ignored_bits}
 use Rattle.i9_text.specs.Text.{is_blank}
-use Rattle.i9_text.specs.Text as text
 use Rattle.i9_statement.specs.declared.fault.Noted.{Noted}
 use Rattle.i9_statement.specs.Noted.{fine}
 use Rattle.i9_statement.specs.Cut.{before, from, is_byte}

@@ -19,7 +19,6 @@ use Rattle.i9_statement.specs.declared.values.Value.TheVariants.{Number, Named}
 use Rattle.i9_statement.specs.declared.parts.Front.{Front}
 use Rattle.i9_statement.specs.declared.parts.Front.TheVariants.{Valued}
 use Rattle.i9_statement.specs.declared.parts.Base.{Base}
-use Rattle.i9_statement.specs.declared.parts.Base.TheVariants as base
 use Rattle.i9_statement.specs.declared.parts.Index.{Index}
 use Rattle.i9_statement.specs.declared.parts.Index.TheVariants as index
 use Rattle.i9_statement.specs.Cut.{before, from}
@@ -27,7 +26,7 @@ use Rattle.i9_statement.specs.Registers.{register_of}
 use Rattle.i9_statement.specs.Values.{Names, value_of, value_noted}
 use Rattle.i9_statement.specs.Operands.{operand_as, operand_of}
 use Rattle.i9_statement.specs.Addresses.{opens, base_of, scale_of, index_of, front_of, with_index, with_base, address_behind, address_of, is_short, mode_of, plain_register, address_by}
-use Rattle.i9_statement.specs.Targets.{reach, target_of, distance}
+use Rattle.i9_statement.specs.Targets.{reach, target_of}
 use Rattle.i9_statement.specs.Instructions.{Fields, take_operand, take_address, take_target, chosen, instruction_of}
 use Rattle.i9_statement.proofs.ReadInstructions.{is_branching, disp_branching}
 

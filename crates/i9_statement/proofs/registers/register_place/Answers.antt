@@ -1,6 +1,5 @@
 use Rattle.std.proofs.Common.{None, sym, ◌∙◌, arith}
 use Rattle.std.proofs.lemmas.Option.{same_Some}
-use Rattle.i9_statement.specs.Registers.{likely_place}
 use Rattle.i9_statement.proofs.RegisterSearch.{place_found, place_none}
 use Rattle.i9_statement.proofs.registers.register_place.Goals as goal
 
