@@ -7,7 +7,6 @@ use Rattle.std.specs.Int.{w32, to_le_bytes}
 use Rattle.std.proofs.lemmas.List.{length-take-le}
 use Rattle.i9_isa.specs.Words.{words_of}
 use Rattle.i9_statement.specs.declared.values.Value.{Value}
-use Rattle.i9_statement.specs.Cut.{before}
 use Rattle.i9_statement.specs.Values.{Names, value_of}
 use Rattle.i9_statement.specs.Statements.{statement_of}
 use Rattle.i9_statement.specs.Codes.{Stands}

@@ -8,7 +8,6 @@ use Rattle.i9_isa.specs.declared.inst.Operand.{Operand}
 use Rattle.i9_isa.specs.declared.inst.Ea.{Ea}
 use Rattle.i9_isa.specs.declared.inst.Inst.{Inst}
 use Rattle.i9_isa.specs.declared.format.Format.{Format}
-use Rattle.i9_isa.specs.declared.format.Format.TheVariants as format
 use Rattle.i9_isa.specs.declared.format.Use.{Use}
 use Rattle.i9_isa.specs.Table.{row_of}
 use Rattle.i9_isa.specs.Words.{words_of}
@@ -23,13 +22,10 @@ use Rattle.i9_statement.specs.Values.{Names, is_name, has_name_start, is_sign, n
 use Rattle.i9_statement.specs.declared.parts.Front.{Front}
 use Rattle.i9_statement.specs.declared.parts.Front.TheVariants.{Absent, Valued}
 use Rattle.i9_statement.specs.declared.parts.Base.{Base}
-use Rattle.i9_statement.specs.declared.parts.Base.TheVariants as base
-use Rattle.i9_statement.specs.declared.parts.Index.TheVariants as index
 use Rattle.i9_statement.specs.declared.statements.Statement.{Statement}
 use Rattle.i9_statement.specs.Operands.{operand_as, operand_of}
 use Rattle.i9_statement.specs.Addresses.{opens, base_of, valued, front_of, with_base, address_behind, address_of}
 use Rattle.i9_statement.specs.Targets.{target_by, target_of}
-use Rattle.i9_statement.specs.Fields as operands
 use Rattle.i9_statement.specs.Instructions.{Fields, Taken, take_operand, take_address, take_target, first_use, last_use, left_over, instruction_of}
 use Rattle.i9_statement.specs.Statements.{spare_noted, statement_of}
 use Rattle.i9_asm.specs.Places.{no_names, is_form_fault, statement_size}

@@ -1,6 +1,4 @@
 use Rattle.std.proofs.Common.{length-append, arith}
-use Rattle.i9_asm.specs.declared.lines.Said as code
-use Rattle.i9_asm.specs.declared.lines.Said.TheVariants as said
 use Rattle.i9_asm.proofs.NumberedNames.{place_same, not_some}
 use Rattle.i9_asm.proofs.CountedBytes.{item_counts}
 use Rattle.i9_asm.proofs.FieldLoops.{bytes_of-small}
