@@ -1,5 +1,5 @@
 -- The first word of a line, by the places of its first blank and of its first byte that is none.
-use Rattle.std.proofs.Common.{◌≡◌, ℕ, suc, ◌+◌, ◌<◌, true, false, List, [], ◌∷◌, length, take, drop, filter, Some, None, refl, sym, ap, ◌∙◌, arith, inl, inr, get_or, add-one, add-zero, drop-cons, not}
+use Rattle.std.proofs.Common.{◌≡◌, ℕ, suc, ◌+◌, ◌<◌, true, false, List, [], ◌∷◌, length, take, drop, filter, Some, None, refl, sym, ap, ◌∙◌, arith, inl, inr, get_or, add-one, add-zero, drop-cons}
 use Rattle.std.specs.List.{slice_split, position, position_or_len}
 use Rattle.std.proofs.lemmas.Bool.{lt-ltb, cases_lt, cases_Bool, not-true}
 use Rattle.std.proofs.lemmas.List.{length-take, take_all, drop_all, get_or-drop}
