@@ -73,7 +73,8 @@ stand_begun n a b runs h le small byte begins =
 
 stand_more : (n a b : ℕ) (runs : List Part) → Stand n runs → n ≤ a → a < address_count → b < 256 → Stand (a + 1) (with_pair runs a b)
 unfolding with_pair
-stand_more n a b runs h le small byte = grind (arith, stand_grown n a b runs h le small byte, stand_begun n a b runs h le small byte)
+stand_more n a b runs h le small byte =
+    grind (arith, stand_grown n a b runs h le small byte, stand_begun n a b runs h le small byte)
 
 -- what pairs that rise are joined to
 record Joins (runs : List Part) (ps : List (ℕ × ℕ)) : Type 0 where

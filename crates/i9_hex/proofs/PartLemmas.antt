@@ -36,7 +36,8 @@ ends_before-last _ _ a d last len is = absurd (omega arith)
 pub parts-grown : (items : List Segment) (n b : ℕ) (old new : Segment) → suc n ≡ length items → old ≡ get_or items n old → part_of new ≡ record { address = old.address; bytes = old.bytes.items ++ b ∷ [] }
     → map part_of (set items n new) ≡ with_byte (map part_of items) b
 parts-grown (s ∷ []) zero b old new len is more = cc
-parts-grown (s ∷ t ∷ ss) (suc n) b old new len is more = cc (parts-grown (t ∷ ss) n b old new (omega arith) is more)
+parts-grown (s ∷ t ∷ ss) (suc n) b old new len is more =
+    cc (parts-grown (t ∷ ss) n b old new (omega arith) is more)
 parts-grown _ _ b old new len is more = absurd (omega arith)
 
 -- a byte that was not stored leaves what the segments show

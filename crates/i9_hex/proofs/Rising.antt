@@ -97,7 +97,8 @@ climbs-past a ps other h = grind arith
 
 pub kept_rises : (n : ℕ) (ps : List (ℕ × ℕ)) → Climbs n ps → Rises n (kept ps)
 kept_rises n [] h = tt
-kept_rises n (p ∷ ps) h = grind (arith, kept_rises n ps (climbs-from n p.0 ps h.0 h.1), kept_rises (p.0 + 1) ps, climbs-past p.0 ps)
+kept_rises n (p ∷ ps) h =
+    grind (arith, kept_rises n ps (climbs-from n p.0 ps h.0 h.1), kept_rises (p.0 + 1) ps, climbs-past p.0 ps)
 
 pub kept_placed : (ps : List (ℕ × ℕ)) → ArePlaced ps → ArePlaced (kept ps)
 kept_placed [] h = tt

@@ -153,7 +153,8 @@ pairs-pieces (p ∷ parts) = grind (arith, flat_map-append, pairs-cut, pairs-pie
 -- ---- the whole text
 
 upper_are_lines : (u half : ℕ) → half < 65536 → AllByRecursion IsPlain (upper_lines u half)
-upper_are_lines u half small = grind (arith, line_written upper_type 0 (half / 256 ∷ half % 256 ∷ []) (upper_fits half small))
+upper_are_lines u half small =
+    grind (arith, line_written upper_type 0 (half / 256 ∷ half % 256 ∷ []) (upper_fits half small))
 
 body_are_lines : (u : ℕ) (ps : List Part) → AllByRecursion IsPiece ps → AllByRecursion IsPlain (body_lines u ps)
 unfolding body_lines
