@@ -1,13 +1,13 @@
 -- The segments of a source without fault have as many pairs as its lines count, and so at most 4,194,304.
-use Rattle.std.proofs.Common.{◌≡◌, ℕ, ◌+◌, ◌≤◌, List, [], ◌∷◌, ◌++◌, length, Option, Some, None, refl, sym, subst, ◌∙◌, arith, lit≤, length-append}
+use Rattle.std.proofs.Common.{◌≡◌, ℕ, ◌+◌, ◌≤◌, List, [], ◌∷◌, length, Option, sym, subst, arith, length-append}
 use Rattle.i9_asm.proofs.TakenLines.{begun_total, line_sound}
 use Rattle.i9_model.specs.Image.{Part, pairs_of}
 use Rattle.i9_hex.proofs.PairCounts.{length-with_part}
 use Rattle.i9_text.specs.FirstFault.{SaysAll}
 use Rattle.i9_statement.specs.Values.{Names}
 use Rattle.i9_asm.specs.Lines.{label_of, item_of}
-use Rattle.i9_asm.specs.Places.{Place, past_line, all_names, size_of, moved_to}
-use Rattle.i9_asm.specs.Source.{Source, start_source, segments_of, begun, grown, labelled_source, most_bytes, Assembles}
+use Rattle.i9_asm.specs.Places.{Place, past_line, size_of, moved_to}
+use Rattle.i9_asm.specs.Source.{Source, segments_of, begun, grown, labelled_source, most_bytes, Assembles}
 use Rattle.i9_asm.specs.Laws.{IsAssembly}
 use Rattle.i9_asm.proofs.CountedBytes.{line_counts}
 
@@ -21,15 +21,10 @@ record IsCounted (s : Source) : Type 0 where
   few : s.total ≤ most_bytes
 
 count-begun : (moved : Option ℕ) (s : Source) → pair_count (begun moved s) ≡ pair_count s
-count-begun None s = refl
-count-begun (Some a) s = refl
+count-begun moved s = grind arith
 
 count-grown : (s : Source) (p : Place) (size : ℕ) (bs : List ℕ) → pair_count (grown s p size bs) ≡ pair_count s + length bs
-count-grown s p size bs =
-    let more = length-with_part s.segments s.address (s.bytes ++ bs) in
-    let before = length-with_part s.segments s.address s.bytes in
-    let both = length-append s.bytes bs in
-    more ∙ omega (arith, before, both)
+count-grown s p size bs = grind (arith, length-with_part, length-append)
 
 -- a line leads from one such source to the next
 counted_line : (names : Names) (s t : Source) (line : List ℕ) → IsCounted s → Assembles names s line t → IsCounted t
@@ -54,11 +49,6 @@ counted_lines : (names : Names) (s t : Source) (lines : List (List ℕ)) → IsC
 counted_lines names s t [] h same = subst IsCounted same h
 counted_lines names s t (line ∷ lines) h said = counted_lines names said.0 t lines (counted_line names s said.0 line h said.1) said.2
 
-counted_start : IsCounted start_source
-unfolding pairs_of
-counted_start = record { same = refl; few = lit≤ tt }
-
 pub few_pairs : (lines : List (List ℕ)) (image : List Part) → IsAssembly lines image → length (pairs_of image) ≤ most_bytes
-few_pairs lines image h =
-    let counted = counted_lines (all_names lines) start_source h.end lines counted_start h.assembled in
-    subst (λ (parts : List Part). length (pairs_of parts) ≤ most_bytes) h.kept (omega (arith, counted.same, counted.few))
+unfolding pairs_of
+few_pairs lines image h = grind (arith, counted_lines)

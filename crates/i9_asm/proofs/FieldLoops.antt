@@ -1,5 +1,5 @@
 -- One turn of a loop over the values of a directive.
-use Rattle.std.proofs.Common.{◌≡◌, ℕ, ◌+◌, ◌*◌, Bool, true, false, cond, List, [], ◌∷◌, ◌++◌, length, map, Option, Some, None, Bor, refl, sym, ap, ◌∙◌, append_assoc, arith, ◌≤◌, lit≤, zero-add}
+use Rattle.std.proofs.Common.{◌≡◌, ℕ, ◌+◌, ◌*◌, Bool, true, false, cond, List, ◌∷◌, ◌++◌, length, map, Option, Some, Bor, refl, ap, ◌∙◌, append_assoc, arith, ◌≤◌, zero-add}
 use Rattle.std.specs.Prelude.{is_some}
 use Rattle.std.specs.List.{list_all, slice_split, flat_map}
 use Rattle.std.proofs.lemmas.Bool.Decides.{nat_tests}
@@ -8,7 +8,6 @@ use Rattle.i9_statement.specs.Noted.{least}
 use Rattle.i9_statement.specs.Values.{Names, value_of}
 use Rattle.i9_statement.specs.Fields.{is_comma, field_of, fields_left}
 use Rattle.i9_asm.specs.declared.lines.Width.{Width}
-use Rattle.i9_asm.specs.declared.lines.Width.TheVariants.{Byte, Short, Word}
 use Rattle.i9_asm.specs.Said.{bytes_of}
 use Rattle.i9_asm.specs.Places.{no_names}
 use Rattle.i9_asm.specs.Source.{data_value, data_fault, low_bytes}
@@ -31,42 +30,23 @@ abbrev pub sized : ℕ → ℕ → List (List ℕ) → ℕ
 sized k width fs = cond (list_all has_form fs) (k + width * length fs) 0
 
 pub sized-on : (k width : ℕ) (f : List ℕ) (fs : List (List ℕ)) → has_form f ≡ true → sized k width (f ∷ fs) ≡ sized (k + width) width fs
-sized-on k width f fs h =
-    let more : k + width * length (f ∷ fs) ≡ k + width + width * length fs = omega arith in
-    rw (h, more) refl
+sized-on k width f fs h = grind arith
 
 pub sized-off : (k width : ℕ) (f : List ℕ) (fs : List (List ℕ)) → has_form f ≡ false → sized k width (f ∷ fs) ≡ 0
 sized-off k width f fs h = rw h refl
-
-pub sized-end : (k width : ℕ) → sized k width [] ≡ k
-sized-end k width = omega arith
 
 pub sized-all : (width : ℕ) (fs : List (List ℕ)) → sized 0 width fs ≡ cond (list_all has_form fs) (width * length fs) 0
 sized-all width fs = ap (λ n. cond (list_all has_form fs) n 0) (zero-add (width * length fs))
 
 pub bytes_of-small : (width : Width) → bytes_of width ≤ 4
-bytes_of-small Byte = lit≤ tt
-bytes_of-small Short = lit≤ tt
-bytes_of-small Word = lit≤ tt
+bytes_of-small width = grind arith
 
 -- ---- faults
-
-least_some : (a b c : Fault) → least (least (Some a) (Some b)) (Some c) ≡ least (Some a) (least (Some b) (Some c))
-least_some a b c = grind (arith, nat_tests)
-
-least_last : (a b : Fault) → least (least (Some a) (Some b)) None ≡ least (Some a) (Some b)
-least_last a b = grind (arith, nat_tests)
-
-least_assoc : (a b c : Option Fault) → least (least a b) c ≡ least a (least b c)
-least_assoc None b c = refl
-least_assoc (Some a) None c = refl
-least_assoc (Some a) (Some b) None = least_last a b
-least_assoc (Some a) (Some b) (Some c) = least_some a b c
 
 -- a fault so far, and one value more
 pub data_fault-on : (width : ℕ) (names : Names) (fault : Option Fault) (f : List ℕ) (fs : List (List ℕ))
     → least (least fault (data_value width (value_of names f)).fault) (data_fault width names fs) ≡ least fault (data_fault width names (f ∷ fs))
-data_fault-on width names fault f fs = least_assoc fault (data_value width (value_of names f)).fault (data_fault width names fs)
+data_fault-on width names fault f fs = grind (arith, nat_tests)
 
 -- ---- bytes
 
@@ -76,6 +56,4 @@ bytes_in width names fs = flat_map (λ f. low_bytes width (data_value width (val
 -- one value more
 pub bytes-on : (width : ℕ) (names : Names) (old new more total f : List ℕ) (fs left : List (List ℕ)) → left ≡ f ∷ fs → new ≡ old ++ more → more ≡ low_bytes width (data_value width (value_of names f)).value
     → old ++ bytes_in width names left ≡ total → new ++ bytes_in width names fs ≡ total
-bytes-on width names old new more total f fs left split added is so_far =
-    ap (λ bs. bs ++ bytes_in width names fs) (added ∙ ap (λ bs. old ++ bs) is) ∙ append_assoc old (low_bytes width (data_value width (value_of names f)).value) (bytes_in width names fs)
-    ∙ ap (λ gs. old ++ bytes_in width names gs) (sym split) ∙ so_far
+bytes-on width names old new more total f fs left split added is so_far = grind (arith, append_assoc)

@@ -1,8 +1,7 @@
 -- Bytes of items, as the code appends them.
-use Rattle.std.proofs.Common.{◌≡◌, ℕ, zero, suc, ◌+◌, List, [], ◌∷◌, ◌++◌, Option, Some, None, refl, sym, ap, subst, ◌∙◌, add-one, append_assoc, inl, inr}
+use Rattle.std.proofs.Common.{◌≡◌, ℕ, zero, suc, ◌+◌, List, [], ◌∷◌, ◌++◌, Option, Some, None, refl, sym, ap, subst, ◌∙◌, add-one, append_assoc, arith}
 use Rattle.std.specs.Prelude.{is_some, IsSome, if◌then◌else◌}
 use Rattle.i9_isa.specs.declared.inst.Inst.{Inst}
-use Rattle.i9_statement.proofs.StatementWords.{one_or_two}
 use Rattle.std.specs.List.{flat_map}
 use Rattle.std.specs.Int.{w32, to_le_bytes}
 use Rattle.std.proofs.lemmas.List.{append-nil}
@@ -33,10 +32,7 @@ zeros-more n = rw add-one (zeros-suc n)
 -- ---- words
 
 pub is_one_word : (i : Inst) (o : Option ℕ) → o ≡ None → (words_of i ≡ 2 → IsSome o) → words_of i ≡ 1
-is_one_word i o is h = elim (one_or_two i.ea.mode) [
-  | inl one ↦ one
-  | inr two ↦ let e = rw is at (h two) in absurd cc
-]
+is_one_word i o is h = grind arith
 
 noted_fine : (n : Noted Statement) → n.fault ≡ None → n ≡ fine n.value
 noted_fine n e = rw e refl

@@ -1,8 +1,7 @@
 -- The table of all names has those that are known before each line, and behind its label.
-use Rattle.std.proofs.Common.{◌≡◌, ℕ, ◌+◌, ◌*◌, ◌<◌, ◌≤◌, Bool, true, false, cond, ◌&&◌, List, [], ◌∷◌, Option, Some, None, refl, sym, ap, ◌∙◌, inl, inr, arith}
+use Rattle.std.proofs.Common.{◌≡◌, ℕ, ◌+◌, ◌*◌, ◌<◌, ◌≤◌, Bool, true, false, cond, ◌&&◌, List, [], ◌∷◌, Option, Some, None, refl, ap, ◌∙◌, inl, inr, arith}
 use Rattle.std.specs.Prelude.{is_some}
 use Rattle.std.specs.Option.{option_map, option_and_then}
-use Rattle.std.specs.Map.{update}
 use Rattle.std.specs.Str.{bytes_eq}
 use Rattle.std.proofs.Math.Path.{fun_ext}
 use Rattle.std.proofs.lemmas.Bool.{cases_Bool, lt-ltb, le-ltb}
@@ -12,26 +11,10 @@ use Rattle.i9_statement.specs.declared.known.Definition.{Definition}
 use Rattle.i9_statement.specs.Known.{enter, values_of, value_before, values_before}
 use Rattle.i9_statement.specs.Values.{is_name, value_of, settled}
 use Rattle.i9_asm.specs.Lines.{Item, Set, label_of}
-use Rattle.i9_asm.specs.Places.{Place, define, address_at, past_label, past_line, past_lines, effect_of, assigned}
+use Rattle.i9_asm.specs.Places.{Place, address_at, past_label, past_line, past_lines, effect_of}
 use Rattle.i9_asm.specs.Numbered.{Definitions, no_definitions, label_entered, item_entered, line_entered, lines_entered}
 
-same_some : (o : Option Definition) → is_some o ≡ is_some (option_map (λ d. d.value) o)
-same_some None = refl
-same_some (Some d) = refl
-
 -- ---- values
-
-updated : (table : Definitions) (name q : List ℕ) (d : Definition) → values_of (update bytes_eq table name (Some d)) q ≡ update bytes_eq (values_of table) name (Some d.value) q
-updated table name q d = elim (cases_Bool (bytes_eq name q)) [
-  | inl same ↦ rw same refl
-  | inr other ↦ rw other refl
-]
-
-entered_values : (name : List ℕ) (d : Definition) (table : Definitions) → values_of (enter name d table) ≡ define name d.value (values_of table)
-entered_values name d table = elim (cases_Bool (is_some (table name))) [
-  | inl old ↦ let known : is_some (values_of table name) ≡ true = sym (same_some (table name)) ∙ old in rw (old, known) refl
-  | inr new ↦ let unknown : is_some (values_of table name) ≡ false = sym (same_some (table name)) ∙ new in rw (new, unknown) (fun_ext (λ q. updated table name q d))
-]
 
 -- ---- definitions at later steps
 
@@ -65,20 +48,12 @@ entered_early step table _ (entered_one name d at) early = λ q e is. elim (case
 ]
 
 pub not_some : {A : Type 0} (o : Option A) → is_some o ≡ false → o ≡ None
-not_some None h = refl
-not_some (Some x) h = absurd (cc h)
+not_some o h = grind arith
 
 entered_stable : (step j : ℕ) (table more : Definitions) → j ≤ step → IsEntered step table more → values_before j more ≡ values_before j table
 entered_stable step j table _ h entered_none = refl
-entered_stable step j table _ h (entered_one name d at) = elim (cases_Bool (is_some (table name))) [
-  | inl old ↦ rw old refl
-  | inr new ↦ rw new (fun_ext (λ q. elim (cases_Bool (bytes_eq name q)) [
-    | inl same ↦
-        let not : table q ≡ None = ap table (sym ((bytes_eq-Decides name q).0 same)) ∙ not_some (table name) new in
-        rw (same, not) (rw (le-ltb d.step j (omega (arith, h, at))) refl)
-    | inr other ↦ rw other refl
-  ]))
-]
+entered_stable step j table _ h (entered_one name d at) =
+    grind (arith, cases_Bool, fun_ext, bytes_eq-Decides, not_some, le-ltb)
 
 -- ---- a line
 
@@ -97,22 +72,10 @@ item_is p step (Set name f) table =
 item_is p step _ table = entered_none
 
 label_values : (label : Option (List ℕ)) (p : Place) (step : ℕ) (table : Definitions) → values_of table ≡ p.known → values_of (label_entered label (address_at p) step table) ≡ (past_label label p).known
-label_values None p step table known = known
-label_values (Some name) p step table known = elim (cases_Bool (is_name name)) [
-  | inl good ↦ rw good (entered_values name (record { value = address_at p; step = step }) table ∙ ap (define name (address_at p)) known)
-  | inr bad ↦ rw bad known
-]
-
-item_values : (p : Place) (step : ℕ) (item : Item) (table : Definitions) → values_of table ≡ p.known → values_of (item_entered p step item table) ≡ assigned p item
-item_values p step (Set name f) table known = elim (cases_Bool (is_name name && is_some (value_of p.known f))) [
-  | inl good ↦ rw good (entered_values name (record { value = (settled (value_of p.known f)).value; step = step }) table ∙ ap (define name (settled (value_of p.known f)).value) known)
-  | inr bad ↦ rw bad known
-]
-item_values p step _ table known = known
+label_values label p step table known = grind arith
 
 pub line_values : (p : Place) (step : ℕ) (line : List ℕ) (table : Definitions) → values_of table ≡ p.known → values_of (line_entered p step line table) ≡ (past_line p line).known
-line_values p step line table known =
-    item_values (past_label (label_of line) p) (step + 1) (effect_of line) (label_entered (label_of line) (address_at p) step table) (label_values (label_of line) p step table known)
+line_values p step line table known = grind arith
 
 -- ---- all lines
 
@@ -157,22 +120,15 @@ pub place_same : (p q : Place) → p.location ≡ q.location → p.known ≡ q.k
 place_same p q a b = rw (a, b) refl
 
 pub label_stays : (label : Option (List ℕ)) (p : Place) → (past_label label p).location ≡ p.location
-label_stays None p = refl
-label_stays (Some name) p = elim (cases_Bool (is_name name)) [
-  | inl good ↦ rw good refl
-  | inr bad ↦ rw bad refl
-]
+label_stays label p = grind arith
 
 pub labelled_place : (p q : Place) (label : Option (List ℕ)) (step : ℕ) (table more : Definitions) → q.location ≡ p.location → q.known ≡ values_of more → values_of table ≡ p.known
     → more ≡ label_entered label (address_at p) step table → q ≡ past_label label p
-labelled_place p q label step table more location named known is =
-    place_same q (past_label label p) (location ∙ sym (label_stays label p)) (named ∙ ap values_of is ∙ label_values label p step table known)
+labelled_place p q label step table more location named known is = grind arith
 
 pub line_is : (p q : Place) (step : ℕ) (line : List ℕ) (item : Item) (table more : Definitions) → q ≡ past_label (label_of line) p → item ≡ effect_of line
     → more ≡ label_entered (label_of line) (address_at p) step table → item_entered q (step + 1) item more ≡ line_entered p step line table
-line_is p q step line item table more place said is =
-    ap (λ (x : Place). item_entered x (step + 1) item more) place ∙ ap (λ (x : Item). item_entered (past_label (label_of line) p) (step + 1) x more) said
-    ∙ ap (item_entered (past_label (label_of line) p) (step + 1) (effect_of line)) is
+line_is p q step line item table more place said is = grind arith
 
 pub set_entered : (p : Place) (step : ℕ) (name f : List ℕ) (table : Definitions) → is_name name ≡ true → is_some (value_of p.known f) ≡ true
     → item_entered p step (Set name f) table ≡ enter name (record { value = (settled (value_of p.known f)).value; step = step }) table
@@ -185,11 +141,7 @@ set_kept p step name f table h = rw h refl
 pub entered_on : (p q : Place) (number : ℕ) (line : List ℕ) (lines : List (List ℕ)) (table more : Definitions) → q.location ≡ (past_line p line).location → q.known ≡ values_of more → values_of table ≡ p.known
     → more ≡ line_entered p (2 * number) line table → lines_entered q (2 * (number + 1)) lines more ≡ lines_entered p (2 * number) (line ∷ lines) table
 unfolding lines_entered
-entered_on p q number line lines table more location named known is =
-    let place = place_same q (past_line p line) location (named ∙ ap values_of is ∙ line_values p (2 * number) line table known) in
-    let step : 2 * (number + 1) ≡ 2 * number + 2 = omega arith in
-    ap (λ (k : ℕ). lines_entered q k lines more) step ∙ ap (λ (x : Place). lines_entered x (2 * number + 2) lines more) place
-    ∙ ap (lines_entered (past_line p line) (2 * number + 2) lines) is
+entered_on p q number line lines table more location named known is = grind (arith, place_same, line_values)
 
 pub nothing_early : (step : ℕ) → IsEarly step no_definitions
 nothing_early step = λ q d e. absurd (cc e)

@@ -1,17 +1,15 @@
 -- A line without fault leads to one source.
-use Rattle.std.proofs.Common.{◌≡◌, ℕ, List, None, Result, Ok, Err, IfOk, IfErr, refl, sym, ap, ◌∙◌}
-use Rattle.std.specs.List.{flat_map}
+use Rattle.std.proofs.Common.{◌≡◌, ℕ, List, None, Result, Ok, Err, IfOk, IfErr, refl, sym, ap, ◌∙◌, arith}
 use Rattle.std.specs.Option.{option_map}
-use Rattle.std.specs.Int.{w32, to_le_bytes}
 use Rattle.i9_model.specs.Image.{Part}
 use Rattle.i9_text.specs.FirstFault.{SaysAll, IsRefused}
 use Rattle.i9_text.proofs.FirstFaultOnce.{all_once, refused_once, never_both}
 use Rattle.i9_statement.specs.Noted.{kind_of}
 use Rattle.i9_statement.specs.Values.{Names}
 use Rattle.i9_statement.proofs.StatementWords.{stands_once}
-use Rattle.i9_asm.specs.Lines.{Item, item_of, label_of}
-use Rattle.i9_asm.specs.Places.{Place, address_at, past_label, past_line, all_names}
-use Rattle.i9_asm.specs.Source.{Gives, gives_nothing, gives_instruction, gives_data, gives_characters, gives_zeros, gives_move, gives_alignment, gives_assignment, Source, fault_of, labelled_source, past_source, Assembles, start_source, segments_of}
+use Rattle.i9_asm.specs.Lines.{Item}
+use Rattle.i9_asm.specs.Places.{Place, all_names}
+use Rattle.i9_asm.specs.Source.{Gives, gives_nothing, gives_instruction, gives_data, gives_characters, gives_zeros, gives_move, gives_alignment, gives_assignment, Source, fault_of, Assembles, start_source, segments_of}
 use Rattle.i9_asm.specs.Laws.{IsAssembly, IsRefusedSource}
 use Rattle.i9_asm.specs.declared.error.AsmError.{AsmError}
 use Rattle.i9_asm.specs.declared.error.AsmError.TheVariants.{Bad, Memory}
@@ -20,8 +18,7 @@ use Rattle.i9_asm.specs.Reading.{fault_place, Answers, IfBad}
 -- an item gives one list of bytes
 pub gives_once : (names : Names) (p : Place) (item : Item) (bs cs : List ℕ) → Gives names p item bs → Gives names p item cs → bs ≡ cs
 gives_once names p _ _ _ gives_nothing gives_nothing = refl
-gives_once names p _ _ _ (gives_instruction s ws x) (gives_instruction _ vs y) =
-    ap (flat_map (to_le_bytes w32)) (stands_once names (address_at p) s ws vs x y)
+gives_once names p _ _ _ (gives_instruction s ws x) (gives_instruction _ vs y) = grind (arith, stands_once)
 gives_once names p _ _ _ (gives_data width fs) (gives_data _ _) = refl
 gives_once names p _ _ _ (gives_characters s bs x) (gives_characters _ cs y) = cc
 gives_once names p _ _ _ (gives_zeros f) (gives_zeros _) = refl
@@ -30,10 +27,7 @@ gives_once names p _ _ _ (gives_alignment f) (gives_alignment _) = refl
 gives_once names p _ _ _ (gives_assignment name f) (gives_assignment _ _) = refl
 
 pub assembles_once : (names : Names) (s : Source) (line : List ℕ) (t u : Source) → Assembles names s line t → Assembles names s line u → t ≡ u
-assembles_once names s line t u x y =
-    let p = past_label (label_of line) s.place in
-    let same = gives_once names p (item_of line) x.bytes y.bytes x.gives y.gives in
-    x.after ∙ ap (past_source (labelled_source (label_of line) s) (past_line s.place line) (item_of line)) same ∙ sym y.after
+assembles_once names s line t u x y = grind (arith, gives_once)
 
 -- ---- whole sources
 

@@ -1,12 +1,11 @@
 -- A printed statement, alone or with a comment behind it, is the instruction of its line.
-use Rattle.std.proofs.Common.{◌≡◌, ℕ, ◌+◌, ◌^◌, ◌<◌, Bool, true, false, not, cond, eqb, ◌||◌, List, [], ◌∷◌, ◌++◌, length, take, None, refl, sym, ap, ◌∙◌, arith, append_assoc}
+use Rattle.std.proofs.Common.{◌≡◌, ℕ, ◌+◌, ◌^◌, ◌<◌, Bool, true, false, not, cond, eqb, ◌||◌, List, [], ◌∷◌, ◌++◌, length, None, refl, sym, ap, ◌∙◌, arith, append_assoc}
 use Rattle.std.specs.Prelude.{codes}
 use Rattle.std.specs.List.{list_all}
 use Rattle.std.specs.Fmt.{digits}
 use Rattle.std.proofs.Math.Seq.{take-append-add}
 use Rattle.std.proofs.lemmas.Bool.{and_parts, eqb-true, or_parts, not-true}
 use Rattle.i9_isa.specs.declared.op.Op.{Op}
-use Rattle.i9_isa.specs.declared.op.Op.TheVariants.{Notbit}
 use Rattle.i9_isa.specs.declared.inst.Inst.{Inst}
 use Rattle.i9_isa.specs.Valid.{IsValid}
 use Rattle.i9_text.specs.Text.{space, is_blank, is_in_word}
@@ -17,7 +16,7 @@ use Rattle.i9_statement.specs.Mnemonics.{mnemonic, mnemonic_text}
 use Rattle.i9_statement.specs.Fields.{fields_of, join_fields}
 use Rattle.i9_statement.specs.Instructions.{Fields, operand_fields}
 use Rattle.i9_statement.specs.Statements.{open_brace, close_brace, fields_text, spare_text, statement_text}
-use Rattle.i9_asm.specs.Lines.{code_len, without_comment, ends_head, labelled_by, labelled, Org, Data, Instruction, one_value, some_values, directive_of, item_by, item_of, Says, code_of, Item}
+use Rattle.i9_asm.specs.Lines.{code_len, without_comment, ends_head, labelled, Org, Data, Instruction, one_value, some_values, directive_of, item_by, item_of, Says, code_of, Item}
 use Rattle.i9_statement.proofs.Cutting.{is_free, stops, before-cut, from-cut, free_by, all_append}
 use Rattle.i9_statement.proofs.ReadInstructions.{mnemonic_bytes}
 use Rattle.i9_statement.proofs.Classes.{apart_by, IsField}
@@ -57,29 +56,16 @@ leaves (Comment t) = true
 
 pub without_comment-tail : (w : List ℕ) (t : Tail) → list_all is_statement_byte w ≡ true → without_comment (w ++ tail_text t) ≡ w ++ pad (leaves t)
 unfolding code_len
-without_comment-tail w NoTail h =
-    ap (λ n. take n (w ++ [])) (code_len-clean w [] (statement_clean w h)) ∙ take-append-add w [] 0
-without_comment-tail w (Comment t) h =
-    ap (λ n. take n (w ++ 32 ∷ 35 ∷ t)) (code_len-clean w (32 ∷ 35 ∷ t) (statement_clean w h)) ∙ take-append-add w (32 ∷ 35 ∷ t) 1
+without_comment-tail w t h = grind (arith, code_len-clean, statement_clean, take-append-add)
 
 -- ---- labels
 
 abbrev pub is_space : ℕ → Bool
 is_space b = eqb b 32
 
-head_stops : (t : List ℕ) → stops is_space t ≡ true → stops ends_head t ≡ true
-head_stops [] h = refl
-head_stops (b ∷ t) h = rw h refl
-
-no_label : (s head t : List ℕ) → stops is_space t ≡ true → labelled_by s head t ≡ record { label = None; rest = s }
-no_label s head [] h = refl
-no_label s head (b ∷ t) h = let e : b ≡ 32 = eqb-true b 32 h in rw e refl
-
 pub labelled-none : (w t : List ℕ) → is_free ends_head w ≡ true → stops is_space t ≡ true → labelled (w ++ t) ≡ record { label = None; rest = w ++ t }
 unfolding labelled
-labelled-none w t free stop =
-    ap (labelled_by (w ++ t) (before ends_head (w ++ t))) (from-cut ends_head w t free (head_stops t stop))
-    ∙ no_label (w ++ t) (before ends_head (w ++ t)) t stop
+labelled-none w t free stop = grind (arith, from-cut, eqb-true)
 
 -- a line from its first word on, where it begins with one
 pub from_word : (c : ℕ) (w : List ℕ) → is_blank c ≡ false → from is_in_word (c ∷ w) ≡ c ∷ w
@@ -92,17 +78,11 @@ starts_item p [] = false
 starts_item p (b ∷ s) = p b
 
 starts_append : (p : ℕ → Bool) (s t : List ℕ) → starts_item p s ≡ true → starts_item p (s ++ t) ≡ true
-starts_append p [] t h = absurd cc
-starts_append p (b ∷ s) t h = h
-
-from_start : (p : ℕ → Bool) → p 32 ≡ false → p 9 ≡ false → (s : List ℕ) → starts_item p s ≡ true → from is_in_word s ≡ s
-from_start p sp tb [] h = absurd cc
-from_start p sp tb (b ∷ s) h = from_word b s (rw (apart_by p 32 b sp h, apart_by p 9 b tb h) refl)
+starts_append p s t h = grind arith
 
 letter_first : (op : Op) → starts_item begins_name (mnemonic op) ≡ true
 unfolding mnemonic
-letter_first Notbit = refl
-letter_first _ = refl
+letter_first op = grind arith
 
 item_by-letter : (s : List ℕ) → starts_item begins_name s ≡ true → item_by s ≡ Instruction s
 item_by-letter [] h = absurd cc
@@ -112,23 +92,16 @@ head_free : (w : List ℕ) → list_all is_name_byte w ≡ true → is_free ends
 head_free w h = free_by is_name_byte ends_head (λ b in_q. rw (apart_by is_name_byte 32 b refl in_q, apart_by is_name_byte 9 b refl in_q, apart_by is_name_byte 58 b refl in_q) refl) w h
 
 suffix_head : (hint : Bool) → is_free ends_head (cond hint (codes ".f") []) ≡ true
-suffix_head true = refl
-suffix_head false = refl
+suffix_head hint = grind arith
 
 spaced_rest : (fs : Fields) (x q : Bool) (t : List ℕ) → stops is_space ((fields_text fs ++ cond x [] (space ∷ t)) ++ pad q) ≡ true
-spaced_rest [] true true t = refl
-spaced_rest [] true false t = refl
-spaced_rest [] false q t = refl
-spaced_rest (f ∷ fs) x q t = refl
+spaced_rest fs x q t = grind arith
 
 -- where its code begins with a word of the item, a line has no label, and the tail is cut off
 code_of-parts : (p : ℕ → Bool) (w t : List ℕ) (tail : Tail) → p 32 ≡ false → p 9 ≡ false → starts_item p w ≡ true → is_free ends_head w ≡ true → stops is_space (t ++ pad (leaves tail)) ≡ true
     → list_all is_statement_byte (w ++ t) ≡ true → code_of ((w ++ t) ++ tail_text tail) ≡ record { label = None; rest = w ++ (t ++ pad (leaves tail)) }
 code_of-parts p w t tail sp tb first head stop bytes =
-    let q = pad (leaves tail) in
-    ap (λ s. labelled (from is_in_word s)) (without_comment-tail (w ++ t) tail bytes ∙ append_assoc w t q)
-    ∙ ap labelled (from_start p sp tb (w ++ (t ++ q)) (starts_append p w (t ++ q) first))
-    ∙ labelled-none w (t ++ q) head stop
+    grind (arith, without_comment-tail, append_assoc, from_word, apart_by, labelled-none)
 
 -- the statement of a valid instruction
 pub says_statement : (ip : ℕ) (i : Inst) (bits : ℕ) (tail : Tail) → bits < 2 ^ 32 → IsValid i → Says (statement_text ip i bits ++ tail_text tail) (Instruction (statement_text ip i bits ++ pad (leaves tail)))
@@ -158,8 +131,7 @@ pub record IsDirective (d : List ℕ) : Type 0 where
   pub bytes : list_all is_statement_byte d ≡ true
 
 item_by-dot : (s : List ℕ) → starts_item is_dot s ≡ true → item_by s ≡ directive_of (before is_blank s) (from is_blank s)
-item_by-dot [] h = absurd cc
-item_by-dot (b ∷ s) h = rw h refl
+item_by-dot s h = grind arith
 
 blank_head : (w : List ℕ) → is_free ends_head w ≡ true → is_free is_blank w ≡ true
 blank_head [] h = refl

@@ -1,11 +1,10 @@
 -- The lines of a listing assemble to the bytes that they were made of.
-use Rattle.std.proofs.Common.{◌≡◌, ℕ, zero, suc, ◌+◌, ◌*◌, ◌%◌, ◌^◌, ◌<◌, ◌≤◌, Bool, true, false, cond, eqb, ltb, List, [], ◌∷◌, ◌++◌, length, take, drop, get_or, Some, None, Result, Ok, Err, refl, sym, ap, subst, ◌∙◌, arith, append_assoc, add-zero, inl, inr}
+use Rattle.std.proofs.Common.{◌≡◌, ℕ, zero, suc, ◌+◌, ◌*◌, ◌%◌, ◌^◌, ◌<◌, ◌≤◌, true, false, ltb, List, [], ◌∷◌, ◌++◌, length, take, drop, get_or, Some, None, Result, Ok, Err, refl, sym, ap, subst, ◌∙◌, arith, append_assoc, add-zero, inl, inr}
 use Rattle.std.specs.Prelude.{codes}
 use Rattle.std.specs.List.{list_all, flat_map, AllByRecursion}
-use Rattle.std.specs.Int.{w32, to_le_bytes, from_le_bytes}
+use Rattle.std.specs.Int.{w32, to_le_bytes}
 use Rattle.std.specs.Int.Bits.{bit_and}
 use Rattle.std.proofs.lemmas.Bool.{lt-ltb, le-ltb, ltb-false, cases_Bool, or_parts}
-use Rattle.std.proofs.Math.Seq.{take-add}
 use Rattle.std.proofs.lemmas.List.{append-nil, length-take-le, length-drop, length-append, take-append-drop}
 use Rattle.i9_text.specs.FirstFault.{SaysAll}
 use Rattle.i9_text.proofs.FirstFaultOnce.{SaysAll-append}
@@ -18,7 +17,7 @@ use Rattle.i9_isa.proofs.Decoding.{decoded_encodes}
 use Rattle.i9_decode.specs.Ignored.{ignored_bits}
 use Rattle.i9_decode.proofs.ValidWords.{encodes_valid}
 use Rattle.i9_text.specs.Text.{space, lines_of}
-use Rattle.i9_text.specs.Written.{word_text, byte_text}
+use Rattle.i9_text.specs.Written.{word_text}
 use Rattle.i9_statement.specs.declared.values.Value.TheVariants.{Number}
 use Rattle.i9_statement.specs.Values.{Names, value_of, settled}
 use Rattle.i9_statement.specs.NumberText.{hex_text, hex_byte_text}
@@ -30,26 +29,24 @@ use Rattle.i9_statement.specs.Codes.{Stands, taken}
 use Rattle.i9_asm.specs.Places.{is_ascii, all_names, no_names, if_fine, Place, address_at, location_count, statement_size, size_of, moved_to, assigned}
 use Rattle.i9_asm.specs.Source.{start_source, segments_of, Gives, gives_nothing, gives_instruction, gives_data, gives_move, item_fault, Source, most_bytes, line_fault, Assembles, fits_width, low_bytes, past_bytes, HasRoom, AddsBytes}
 use Rattle.i9_asm.specs.Listing.{text_by, text_of, printed_words, printed_bytes, word_at, whole_size, is_single, line_size, whole_text, said_text, noted_words, first_line, Lists, lists_none, lists_line, org_line, ListsAll, lists_all, lists_run}
+use Rattle.i9_hex.proofs.Each.{all_append as all_lists, all_take, all_drop}
 use Rattle.i9_hex.specs.Runs.{IsLow, IsRun, bytes_in}
 use Rattle.i9_asm.specs.Laws.{IsAssembly}
 use Rattle.i9_statement.proofs.Cutting.{all_by, all_append}
-use Rattle.i9_text.proofs.WrittenLines.{is_plain_byte, is_plain, ascii-plain, plain-append, plain-word_text, plain-byte_text, IsPlain, lines_of-written}
+use Rattle.i9_text.proofs.WrittenLines.{is_plain, ascii-plain, plain-append, plain-word_text, plain-byte_text, IsPlain, lines_of-written}
 use Rattle.i9_hex.specs.Writing.{with_line_feed}
 use Rattle.i9_statement.proofs.ReadValues.{value_of-hex, value_of-hex_byte}
 use Rattle.i9_statement.proofs.Classes.{IsField, hex_field, hex_byte_field}
 use Rattle.i9_statement.proofs.ReadFields.{pad}
 use Rattle.i9_statement.proofs.ReadStatements.{statement_of-text}
 use Rattle.i9_statement.proofs.StatementBytes.{is_statement_byte, statement_bytes, operand_statement}
-use Rattle.i9_statement.proofs.StatementWords.{and_again, one_or_two, statement_stands}
+use Rattle.i9_statement.proofs.StatementWords.{and_again, statement_stands}
 use Rattle.i9_asm.proofs.ReadLines.{Tail, NoTail, Comment, tail_text, leaves, says_statement, says_word, says_byte, says_org}
 
 -- ---- one line
 
-plain_statement_byte : (b : ℕ) → is_statement_byte b ≡ true → is_plain_byte b ≡ true
-plain_statement_byte b h = grind (arith, nat_tests)
-
 statement_plain : (w : List ℕ) → list_all is_statement_byte w ≡ true → is_plain w ≡ true
-statement_plain w h = all_by is_statement_byte is_plain_byte plain_statement_byte w h
+statement_plain w h = grind (arith, all_by, nat_tests)
 
 -- a line that says an item which gives bytes and no more
 record LineSays (names : Names) (p : Place) (line bs : List ℕ) : Type 0 where
@@ -94,15 +91,11 @@ data_line names p line width n f bs says clean read fits is size = record {
 
 -- a line with a directive is plain, where its tail is
 directive_plain : (d f : List ℕ) (t : Tail) → list_all is_statement_byte d ≡ true → IsField f → is_plain (tail_text t) ≡ true → is_plain ((d ++ f) ++ tail_text t) ≡ true
-directive_plain d f t bytes field clean =
-    plain-append (d ++ f) (tail_text t) (statement_plain (d ++ f) (all_append is_statement_byte d f bytes (operand_statement f field.bytes))) clean
+directive_plain d f t bytes field clean = grind (arith, plain-append, statement_plain, all_append, operand_statement)
 
 -- so many bytes have the words of an instruction
 taken_length : (i : Inst) (w0 w1 : ℕ) → 4 * words_of i ≡ length (flat_map (to_le_bytes w32) (taken w0 w1 i))
-taken_length i w0 w1 = elim (one_or_two i.ea.mode) [
-  | inl one ↦ rw one refl
-  | inr two ↦ rw two refl
-]
+taken_length i w0 w1 = grind arith
 
 -- ---- bytes of a run
 
@@ -112,25 +105,18 @@ low_at (b ∷ bs) h zero = h.0
 low_at (b ∷ bs) h (suc i) = low_at bs h.1 i
 
 pub low_take : (n : ℕ) (bs : List ℕ) → IsLow bs → IsLow (take n bs)
-low_take zero bs h = tt
-low_take (suc n) [] h = tt
-low_take (suc n) (b ∷ bs) h = (h.0, low_take n bs h.1)
+low_take n bs h = all_take (λ b. b < 256) n bs h
 
 pub low_drop : (n : ℕ) (bs : List ℕ) → IsLow bs → IsLow (drop n bs)
-low_drop zero bs h = h
-low_drop (suc n) [] h = tt
-low_drop (suc n) (b ∷ bs) h = low_drop n bs h.1
+low_drop n bs h = all_drop (λ b. b < 256) n bs h
 
 -- the word at a place that is there
 word_at-bytes : (k : ℕ) (bs : List ℕ) → k + 4 ≤ length bs → IsLow bs → to_le_bytes w32 (word_at k bs) ≡ take 4 (drop k bs)
 word_at-bytes k bs room low =
     le_bytes_4 (take 4 (drop k bs)) (word_at k bs) (length-take-le 4 (drop k bs) (omega (arith, length-drop k bs))) (low_at (take 4 (drop k bs)) (low_take 4 (drop k bs) (low_drop k bs low))) refl
 
-word_small : (xs : List ℕ) → ((i : ℕ) → get_or xs i 0 < 256) → from_le_bytes w32 xs < 2 ^ 32
-word_small xs h = omega (arith, h 0, h 1, h 2, h 3)
-
 word_at-small : (k : ℕ) (bs : List ℕ) → IsLow bs → word_at k bs < 2 ^ 32
-word_at-small k bs low = word_small (take 4 (drop k bs)) (low_at (take 4 (drop k bs)) (low_take 4 (drop k bs) (low_drop k bs low)))
+word_at-small k bs low = grind (arith, low_at, low_take, low_drop)
 
 -- a byte
 byte_line : (names : Names) (p : Place) (b : ℕ) (t : Tail) → b < 256 → is_plain (tail_text t) ≡ true → LineSays names p ((codes ".byte " ++ hex_byte_text b) ++ tail_text t) (b ∷ [])
@@ -171,38 +157,16 @@ instruction_line names p i w0 w1 t low h0 h1 is clean =
       known = refl;
     }
 
--- two words that are there
-eight : (bs : List ℕ) → 8 ≤ length bs → IsLow bs → to_le_bytes w32 (word_at 0 bs) ++ to_le_bytes w32 (word_at 4 bs) ≡ take 8 bs
-eight bs room low =
-    ap (λ x. x ++ to_le_bytes w32 (word_at 4 bs)) (word_at-bytes 0 bs (omega arith) low)
-    ∙ ap (λ x. take 4 bs ++ x) (word_at-bytes 4 bs room low)
-    ∙ sym (take-add 4 4 bs)
-
 -- where the instruction is whole, its words are the bytes of the line
 whole_bytes : (i : Inst) (bs : List ℕ) → IsLow bs → 4 ≤ length bs → ltb (length bs) (4 * words_of i) ≡ false → flat_map (to_le_bytes w32) (taken (word_at 0 bs) (word_at 4 bs) i) ≡ take (4 * words_of i) bs
-whole_bytes i bs low four whole =
-    let room = ltb-false _ _ whole in
-    elim (one_or_two i.ea.mode) [
-      | inl one ↦ rw one (word_at-bytes 0 bs (omega arith) low)
-      | inr two ↦ rw two (eight bs (omega (arith, two)) low)
-    ]
+whole_bytes i bs low four whole = grind arith
 
 -- the comment of a line
 abbrev comment_of : ℕ → List ℕ → Tail
 comment_of a bs = Comment (space ∷ (word_text a ++ noted_words (line_size a bs) bs))
 
-chosen_plain : (q : Bool) (v w : List ℕ) → is_plain v ≡ true → is_plain w ≡ true → is_plain (cond q v w) ≡ true
-chosen_plain true v w hv hw = hv
-chosen_plain false v w hv hw = hw
-
-noted_plain : (n : ℕ) (bs : List ℕ) → is_plain (noted_words n bs) ≡ true
-noted_plain n bs =
-    let one = plain-word_text (word_at 0 bs) in
-    chosen_plain (eqb n 1) (space ∷ byte_text (get_or bs 0 0)) _ (plain-byte_text (get_or bs 0 0))
-    (chosen_plain (eqb n 4) (space ∷ word_text (word_at 0 bs)) _ one (plain-append (space ∷ word_text (word_at 0 bs)) (space ∷ word_text (word_at 4 bs)) one (plain-word_text (word_at 4 bs))))
-
 comment_plain : (a : ℕ) (bs : List ℕ) → is_plain (tail_text (comment_of a bs)) ≡ true
-comment_plain a bs = plain-append (word_text a) (noted_words (line_size a bs) bs) (plain-word_text a) (noted_plain (line_size a bs) bs)
+comment_plain a bs = grind (arith, plain-append, plain-word_text, plain-byte_text)
 
 single_small : (a : ℕ) (xs : List ℕ) → is_single a xs ≡ false → 4 ≤ length xs
 single_small a xs h = ltb-false _ _ (or_parts (ltb (length xs) 4) (ltb 0 (a % 4)) h).0
@@ -243,26 +207,13 @@ line_assembles names s b bs low room few =
     said_assembles names s (first_line a xs) (take n xs) said (record { inside = omega (arith, room.inside); few = omega (arith, room.few) })
 
 pub line_size-le : (a : ℕ) (b : ℕ) (bs : List ℕ) → line_size a (b ∷ bs) ≤ length (b ∷ bs)
-line_size-le a b bs = elim (cases_Bool (is_single a (b ∷ bs))) [
-  | inl single ↦ rw single (omega arith)
-  | inr many ↦ rw many (whole_size-le (decoded (word_at 0 (b ∷ bs)) (word_at 4 (b ∷ bs))) (length (b ∷ bs)) (single_small a (b ∷ bs) many))
-]
-  where
-    whole_size-le : (r : Result Inst BadWord) (n : ℕ) → 4 ≤ n → whole_size r n ≤ n
-    whole_size-le (Err e) n four = four
-    whole_size-le (Ok i) n four = elim (cases_Bool (ltb n (4 * words_of i))) [
-      | inl cut ↦ rw cut four
-      | inr whole ↦ rw whole (ltb-false _ _ whole)
-    ]
+line_size-le a b bs = grind arith
 
 past_nothing : (s : Source) → past_bytes s [] ≡ s
 past_nothing s = rw (add-zero, add-zero, append-nil s.bytes) refl
 
 past_both : (s : Source) (u v : List ℕ) → past_bytes (past_bytes s u) v ≡ past_bytes s (u ++ v)
-past_both s u v =
-    let l : s.place.location + length u + length v ≡ s.place.location + length (u ++ v) = omega (arith, length-append u v) in
-    let t : s.total + length u + length v ≡ s.total + length (u ++ v) = omega (arith, length-append u v) in
-    rw (l, t, append_assoc s.bytes u v) refl
+past_both s u v = grind (arith, length-append, append_assoc)
 
 -- the lines of a run
 run_assembles : (names : Names) (a : ℕ) (bs : List ℕ) (lines : List (List ℕ)) → Lists a bs lines → (s : Source) → s.place.location ≡ a → IsLow bs → HasRoom s (length bs) → SaysAll (Assembles names) s lines (past_bytes s bs)
@@ -318,8 +269,7 @@ org_assembles names s a low here few =
 
 -- a segment with bytes is kept
 kept_segment : (ps : List Part) (a : ℕ) (bs : List ℕ) → 0 < length bs → with_part ps a bs ≡ ps ++ record { address = a; bytes = bs } ∷ []
-kept_segment ps a [] h = absurd (omega arith)
-kept_segment ps a (b ∷ bs) h = refl
+kept_segment ps a bs h = grind arith
 
 listing_assembles : (names : Names) (runs : List Part) (lines : List (List ℕ)) → ListsAll runs lines → (s : Source) → AllByRecursion IsRun runs → s.place.location ≤ 2 ^ 32 → s.total + bytes_in runs ≤ most_bytes
     → Relists names s lines runs
@@ -358,14 +308,10 @@ run_plain _ _ _ (lists_line a b bs lines rest) low room =
       run_plain (a + n) (drop n xs) lines rest (low_drop n xs low) (omega (arith, length-drop n xs)),
     )
 
-all_lines : (xs ys : List (List ℕ)) → AllByRecursion IsPlain xs → AllByRecursion IsPlain ys → AllByRecursion IsPlain (xs ++ ys)
-all_lines [] ys h g = g
-all_lines (x ∷ xs) ys h g = (h.0, all_lines xs ys h.1 g)
-
 listing_plain : (runs : List Part) (lines : List (List ℕ)) → ListsAll runs lines → AllByRecursion IsRun runs → AllByRecursion IsPlain lines
 listing_plain _ _ lists_all h = tt
 listing_plain _ _ (lists_run a bs runs lines more run rest) h =
-    (record { test = org_plain a }, all_lines lines more (run_plain a bs lines run h.0.low h.0.inside) (listing_plain runs more rest h.1))
+    (record { test = org_plain a }, all_lists IsPlain lines more (run_plain a bs lines run h.0.low h.0.inside) (listing_plain runs more rest h.1))
 
 -- the empty line behind the last line feed
 blank_assembles : (names : Names) (s : Source) → HasRoom s 0 → Assembles names s [] s

@@ -11,15 +11,13 @@ use Rattle.i9_asm.specs.Source.{Source, start_source, labelled_source, fault_of,
 use Rattle.i9_asm.specs.Numbered.{Definitions, no_definitions, lines_entered}
 use Rattle.i9_asm.specs.Reading.{source_at}
 use Rattle.i9_asm.proofs.RelationLoop.{ReadSoFar, turn}
-use Rattle.i9_asm.proofs.NumberedNames.{Tells, tells, told_all, nothing_early, place_same, label_stays}
+use Rattle.i9_asm.proofs.NumberedNames.{Tells, tells, told_all, nothing_early, place_same}
 
 -- ---- a line
 
 -- the source behind a label, by the names that are known there
 pub labelled_here : (known behind : Names) (label : Option (List ℕ)) (s : code.Source) → behind ≡ (past_label label (source_at known s).place).known → source_at behind s ≡ labelled_source label (source_at known s)
-labelled_here known behind label s is =
-    let p = (source_at known s).place in
-    ap (λ (x : Place). record (source_at known s) { place = x }) (place_same (source_at behind s).place (past_label label p) (sym (label_stays label p)) is)
+labelled_here known behind label s is = grind arith
 
 -- ---- all lines
 

@@ -1,20 +1,17 @@
 -- What a line does, from what its parts do.
-use Rattle.std.proofs.Common.{◌≡◌, ℕ, ◌+◌, ◌^◌, Bool, true, false, not, ltb, List, Option, Some, None, Result, Ok, Err, refl, sym, ap, subst, ◌∙◌}
-use Rattle.std.specs.Prelude.{is_some, if◌then◌else◌}
+use Rattle.std.proofs.Common.{◌≡◌, ℕ, ◌+◌, List, Option, Some, None, Result, refl, sym, ap, ◌∙◌, arith}
 use Rattle.std.specs.Option.{option_map}
-use Rattle.std.specs.List.{list_all}
-use Rattle.std.proofs.lemmas.Bool.{ltb-false, not-false, true_from_ne_false}
+use Rattle.std.proofs.lemmas.Bool.{ltb-false}
 use Rattle.i9_statement.specs.declared.fault.Fault.{Fault}
-use Rattle.i9_statement.specs.declared.fault.Fault.TheVariants.{Form, NameTwice, Range, TooMany}
 use Rattle.i9_statement.specs.Noted.{kind_of, least}
-use Rattle.i9_statement.specs.Values.{Names, is_name}
+use Rattle.i9_statement.specs.Values.{Names}
 use Rattle.i9_asm.specs.declared.source.Source as code
 use Rattle.i9_asm.specs.declared.source.Grown as grown
 use Rattle.i9_asm.specs.declared.source.LineError.{LineError}
 use Rattle.i9_asm.specs.declared.source.LineError.TheVariants as lines
 use Rattle.i9_asm.specs.Lines.{Item, item_of, label_of}
-use Rattle.i9_asm.specs.Places.{Place, no_names, is_ascii, is_label, moved_to, size_of, past_item, effect_of}
-use Rattle.i9_asm.specs.Source.{Source, item_fault, fault_if, label_fault, front_fault, room_fault, rest_fault, line_fault, labelled_source, begun, past_source, most_bytes, HasRoom}
+use Rattle.i9_asm.specs.Places.{Place, no_names, moved_to, size_of, past_item, effect_of}
+use Rattle.i9_asm.specs.Source.{Source, item_fault, front_fault, room_fault, rest_fault, line_fault, labelled_source, begun, past_source, HasRoom}
 use Rattle.i9_asm.specs.Reading.{source_at, GrowsBy, Grows, Continues, Takes, Faults, error_at, fault_place, IfBad}
 use Rattle.i9_asm.specs.Laws.{IsRefusedSource, item_place}
 
@@ -23,21 +20,12 @@ use Rattle.i9_asm.specs.Laws.{IsRefusedSource, item_place}
 source_same : (t u : Source) → t.place ≡ u.place → t.segments ≡ u.segments → t.address ≡ u.address → t.bytes ≡ u.bytes → t.total ≡ u.total → t ≡ u
 source_same t u a b c d e = rw (a, b, c, d, e) refl
 
-begun_place : (moved : Option ℕ) (s : Source) → (begun moved s).place ≡ s.place
-begun_place None s = refl
-begun_place (Some a) s = refl
-
 pub begun_total : (moved : Option ℕ) (s : Source) → (begun moved s).total ≡ s.total
-begun_total None s = refl
-begun_total (Some a) s = refl
+begun_total moved s = grind arith
 
 -- the fault for want of room, where the bytes of an item were added
 pub grown_room : (names : Names) (s : Source) (item : Item) (g : grown.Grown) → GrowsBy names s item g → room_fault (source_at no_names g.source) g.size ≡ room_fault s (size_of s.place item)
-grown_room names s item g by =
-    let moved = moved_to s.place item in
-    let location : g.source.location ≡ s.place.location = ap (λ (x : Source). x.place.location) by.same ∙ ap (λ (p : Place). p.location) (begun_place moved s) in
-    let total : g.source.total ≡ s.total = ap (λ (x : Source). x.total) by.same ∙ begun_total moved s in
-    rw (location, total, by.size) refl
+grown_room names s item g by = grind arith
 
 -- where the bytes of an item were added, and the location and the bytes are counted
 pub grows : (names : Names) (s : Source) (item : Item) (g : grown.Grown) (t : code.Source) (location : ℕ) → GrowsBy names s item g → g.fault ≡ None → location ≡ (past_item s.place item).location
@@ -63,32 +51,14 @@ grows names s item g t location by sound moved counted =
 -- ---- a line
 
 pub least_left : (a b : Option Fault) → least a b ≡ None → a ≡ None
-least_left None b h = refl
-least_left (Some a) None h = absurd cc
-least_left (Some a) (Some b) h = by_first _ h
-  where
-    by_first : (q : Bool) → ◌≡◌ {A = Option Fault} (if q then Some b else Some a) None → ◌≡◌ {A = Option Fault} (Some a) None
-    by_first true h = absurd cc
-    by_first false h = absurd cc
+least_left a b h = grind arith
 
 pub least_right : (a b : Option Fault) → a ≡ None → least a b ≡ None → b ≡ None
 least_right a b e h = rw e at h
 
-no_fault_if : (q : Bool) (f : Fault) → fault_if q f ≡ None → q ≡ false
-no_fault_if true f h = absurd cc
-no_fault_if false f h = refl
-
-label_by : (o : Option (List ℕ)) (known : Names) → label_fault o known ≡ None → is_label o ≡ true
-label_by None known h = refl
-label_by (Some name) known h = true_from_ne_false (is_name name) (λ e. cc (rw e at h))
-
 -- a line without fault up to its label does what it says
 pub effect_is_item : (p : Place) (line : List ℕ) → front_fault p line ≡ None → effect_of line ≡ item_of line
-effect_is_item p line h =
-    let form = least_left (fault_if (not (list_all is_ascii line)) Form) (label_fault (label_of line) p.known) h in
-    let ascii = not-false (list_all is_ascii line) (no_fault_if (not (list_all is_ascii line)) Form form) in
-    let label = label_by (label_of line) p.known (least_right (fault_if (not (list_all is_ascii line)) Form) (label_fault (label_of line) p.known) form h) in
-    rw (ascii, label) refl
+effect_is_item p line h = grind arith
 
 -- a line without fault has none in its parts, and has room for its bytes
 pub record IsSound (names : Names) (s : Source) (line : List ℕ) : Type 0 where
@@ -98,42 +68,12 @@ pub record IsSound (names : Names) (s : Source) (line : List ℕ) : Type 0 where
 
 pub line_sound : (names : Names) (s : Source) (line : List ℕ) → line_fault names s line ≡ None → IsSound names s line
 unfolding line_fault
-line_sound names s line h =
-    let u = labelled_source (label_of line) s in
-    let size = size_of u.place (item_of line) in
-    let front = least_left (front_fault s.place line) (rest_fault names u (item_of line)) h in
-    let rest = least_right (front_fault s.place line) (rest_fault names u (item_of line)) front h in
-    let item = least_left (item_fault names u.place (item_of line)) (room_fault u size) rest in
-    let room = least_right (item_fault names u.place (item_of line)) (room_fault u size) item rest in
-    let past = ltb (2 ^ 32) (u.place.location + size) in
-    let many = ltb most_bytes (u.total + size) in
-    let range = least_left (fault_if past Range) (fault_if many TooMany) room in
-    let total = least_right (fault_if past Range) (fault_if many TooMany) range room in
-    record {
-      front = front;
-      item = item;
-      room = record { inside = ltb-false _ _ (no_fault_if past Range range); few = ltb-false _ _ (no_fault_if many TooMany total) };
-    }
+line_sound names s line h = grind (arith, least_left, least_right, ltb-false)
 
 pub takes_line : (names : Names) (s u : Source) (line : List ℕ) (front : Option Fault) (item : Item) (r : Result code.Source LineError) → u ≡ labelled_source (label_of line) s → item ≡ item_of line → front ≡ front_fault s.place line
     → Continues names u item (least front (rest_fault names u item)) r → Takes names s line r
 unfolding line_fault
-takes_line names s u line front item r source said label h =
-    takes r (subst (λ (v : Source). Continues names v (item_of line) (least (front_fault s.place line) (rest_fault names v (item_of line))) r) source
-    (subst (λ (i : Item). Continues names u i (least (front_fault s.place line) (rest_fault names u i)) r) said
-    (subst (λ (f : Option Fault). Continues names u item (least f (rest_fault names u item)) r) label h)))
-  where
-    takes : (r : Result code.Source LineError) → Continues names (labelled_source (label_of line) s) (item_of line) (line_fault names s line) r → Takes names s line r
-    takes (Err e) h = h
-    takes (Ok t) h =
-        let l = labelled_source (label_of line) s in
-        let front = (line_sound names s line h.0).front in
-        record {
-          bytes = h.1.bytes;
-          sound = h.0;
-          gives = h.1.gives;
-          after = ap (λ i. source_at (past_item l.place i).known t) (effect_is_item s.place line front) ∙ h.1.after ∙ ap (λ i. past_source l (past_item l.place i) (item_of line) h.1.bytes) (sym (effect_is_item s.place line front));
-        }
+takes_line names s u line front item r source said label h = grind (arith, line_sound, effect_is_item)
 
 -- ---- a source
 

@@ -1,17 +1,12 @@
 -- Each image has one listing, which assembles to its bytes.
-use Rattle.std.proofs.Common.{◌≡◌, ℕ, zero, suc, ◌+◌, ◌*◌, ◌<◌, ◌≤◌, ltb, List, [], ◌∷◌, ◌++◌, length, drop, Result, Ok, Err, refl, sym, ap, subst, ◌∙◌, arith, inl, inr, length-drop}
+use Rattle.std.proofs.Common.{◌≡◌, ℕ, zero, suc, ◌+◌, ◌<◌, ◌≤◌, List, [], ◌∷◌, ◌++◌, length, drop, refl, sym, ap, subst, ◌∙◌, arith, length-drop}
 use Rattle.std.specs.List.{flat_map, AllByRecursion}
-use Rattle.std.proofs.lemmas.Bool.{cases_Bool}
-use Rattle.i9_isa.specs.declared.inst.Inst.{Inst}
-use Rattle.i9_isa.specs.declared.inst.BadWord.{BadWord}
-use Rattle.i9_isa.specs.Words.{words_of, decoded}
-use Rattle.i9_statement.proofs.StatementWords.{one_or_two}
 use Rattle.i9_model.specs.Image.{Part, pairs_of}
 use Rattle.i9_hex.specs.Writing.{with_line_feed}
 use Rattle.i9_asm.specs.Source.{most_bytes}
 use Rattle.i9_asm.specs.Laws.{Reassembles}
-use Rattle.i9_asm.specs.Listing.{word_at, whole_size, is_single, line_size, first_line, Lists, lists_none, lists_line, org_line, ListsAll, lists_all, lists_run, IsListing}
-use Rattle.i9_asm.proofs.ReadListing.{line_size-le, text_is_assembly}
+use Rattle.i9_asm.specs.Listing.{line_size, first_line, Lists, lists_none, lists_line, org_line, ListsAll, lists_all, lists_run, IsListing}
+use Rattle.i9_asm.proofs.ReadListing.{text_is_assembly}
 use Rattle.i9_dis.specs.Printed.{AddsRuns}
 use Rattle.i9_hex.specs.Runs.{bytes_in, AreRunsOf, AreRuns}
 use Rattle.i9_hex.proofs.Rising.{in_order, in_order_rises, in_order_placed, in_order_says}
@@ -20,27 +15,13 @@ use Rattle.i9_hex.proofs.Placed.{image_placed}
 
 -- ---- the lines of a run
 
-whole_some : (r : Result Inst BadWord) (n : ℕ) → 0 < whole_size r n
-whole_some (Err e) n = omega arith
-whole_some (Ok i) n = elim (cases_Bool (ltb n (4 * words_of i))) [
-  | inl cut ↦ rw cut (omega arith)
-  | inr whole ↦ elim (one_or_two i.ea.mode) [
-    | inl one ↦ rw (whole, one) (omega arith)
-    | inr two ↦ rw (whole, two) (omega arith)
-  ]
-]
-
 -- a line says something
 pub line_some : (a : ℕ) (bs : List ℕ) → 0 < line_size a bs
-line_some a bs = elim (cases_Bool (is_single a bs)) [
-  | inl single ↦ rw single (omega arith)
-  | inr many ↦ rw many (whole_some (decoded (word_at 0 bs) (word_at 4 bs)) (length bs))
-]
+line_some a bs = grind arith
 
 -- and no more than there is
 pub line_fits : (a : ℕ) (bs : List ℕ) → 0 < length bs → line_size a bs ≤ length bs
-line_fits a [] some = absurd (omega arith)
-line_fits a (b ∷ bs) some = line_size-le a b bs
+line_fits a bs some = grind arith
 
 -- the lines of bytes, by the bytes
 ListsBy : ℕ → List ℕ → List (List ℕ) → Type 0

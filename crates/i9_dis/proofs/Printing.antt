@@ -1,5 +1,5 @@
 -- Lines that are put behind a text.
-use Rattle.std.proofs.Common.{◌≡◌, ℕ, zero, suc, ◌+◌, ◌<◌, List, [], ◌∷◌, ◌++◌, length, get_or, take, drop, map, refl, sym, ap, subst, ◌∙◌, arith, append_assoc}
+use Rattle.std.proofs.Common.{◌≡◌, ℕ, zero, suc, ◌+◌, ◌<◌, List, [], ◌∷◌, ◌++◌, length, get_or, take, drop, map, sym, ap, subst, ◌∙◌, arith, append_assoc}
 use Rattle.std.specs.List.{flat_map, AllByRecursion}
 use Rattle.std.proofs.lemmas.List.{append-nil, take_more, map_push}
 use Rattle.std.proofs.lemmas.Grind.{flat_map-append}
@@ -20,9 +20,6 @@ flat lines = flat_map with_line_feed lines
 -- what is listed of the rest goes behind the text
 abbrev pub Goes : ℕ → List ℕ → List ℕ → ℕ → List ℕ → List ℕ → Type 0
 Goes start bytes old place rest text = (tail : List (List ℕ)) → Lists place rest tail → AddsLines start bytes old (text ++ flat tail)
-
-pub goes_start : (start : ℕ) (bytes old : List ℕ) → Goes start bytes old start bytes old
-goes_start start bytes old tail lists = record { lines = tail; listed = lists; text = refl }
 
 pub goes_turn : (start : ℕ) (bytes old : List ℕ) (place next n : ℕ) (rest left text more : List ℕ) → 0 < length rest → Goes start bytes old place rest text
     → more ≡ text ++ with_line_feed (first_line place rest) → n ≡ line_size place rest → next ≡ place + n → left ≡ drop n rest → Goes start bytes old next left more

@@ -1,24 +1,14 @@
 -- What reading a file answers: the image that it says, or its first fault.
-use Rattle.std.proofs.Common.{◌≡◌, ℕ, ◌+◌, ◌*◌, ◌<◌, ◌≤◌, ◌⊎◌, inl, inr, false, not, ltb, eqb, ◌&&◌, List, [], length, take, Option, Some, None, Result, Ok, Err, refl, ap, subst, ◌∙◌, arith, IfOk, IfErr}
+use Rattle.std.proofs.Common.{◌≡◌, ℕ, ◌+◌, ◌*◌, ◌<◌, ◌≤◌, ◌⊎◌, inl, inr, List, [], length, take, Option, Some, None, Result, Ok, Err, refl, ap, subst, ◌∙◌, arith, IfOk, IfErr}
 use Rattle.i9_model.proofs.FrameLaws.{if_none}
-use Rattle.std.proofs.lemmas.Bool.{cases_Bool, eqb-true, ltb-false, le-ltb}
+use Rattle.std.proofs.lemmas.Bool.{ltb-false}
 use Rattle.i9_model.specs.Image.{Part, pairs_of}
-use Rattle.i9_elf.specs.Files.{magic, file_header_size, class_of, bits_32, order_of, low_first, type_of, executable, machine_of, i960, header_count, header_size_of, header_size, headers_place, has_headers, loads_of, IsImage, fault_of_file, fault_of_load, IsRefused, at_file, at_load}
+use Rattle.i9_elf.specs.Files.{magic, file_header_size, class_of, bits_32, order_of, low_first, type_of, executable, machine_of, i960, header_count, header_size_of, header_size, headers_place, loads_of, IsImage, fault_of_file, fault_of_load, IsRefused, at_file, at_load}
 use Rattle.i9_elf.specs.declared.error.ElfError.{ElfError}
-use Rattle.i9_elf.specs.declared.error.ElfError.TheVariants.{Bad, Memory}
 use Rattle.i9_elf.specs.Reading.{or_refused, load_all, answer_of, Reads, IfBad}
-use Rattle.i9_elf.proofs.Loads.{refused_ok, and_some, some_and, FitAll, load_all-ok, ok-load_all, load_all-err, err-load_all}
+use Rattle.i9_elf.proofs.Loads.{refused_ok, and_some, FitAll, load_all-ok, ok-load_all, load_all-err, err-load_all}
 
 -- ---- the file before its program headers are looked at
-
-is_same : (a b : ℕ) → not (eqb a b) ≡ false → a ≡ b
-is_same a b e = elim (cases_Bool (eqb a b)) [
-  | inl same ↦ eqb-true a b same
-  | inr other ↦ absurd (cc (rw other at e))
-]
-
-same_not : (a b : ℕ) → a ≡ b → not (eqb a b) ≡ false
-same_not a b e = grind arith
 
 -- a file without fault
 pub record Fine (file : List ℕ) : Type 0 where
@@ -32,35 +22,11 @@ pub record Fine (file : List ℕ) : Type 0 where
 
 pub fine_file : (file : List ℕ) → fault_of_file file ≡ None → Fine file
 unfolding fault_of_file
-fine_file file none =
-    let a = if_none (ltb (length file) file_header_size) _ _ none in
-    let b = if_none (not (eqb (class_of file) bits_32)) _ _ a.1 in
-    let c = if_none (not (eqb (order_of file) low_first)) _ _ b.1 in
-    let d = if_none (not (eqb (type_of file) executable)) _ _ c.1 in
-    let e = if_none (not (eqb (machine_of file) i960)) _ _ d.1 in
-    let f = if_none (has_headers file && not (eqb (header_size_of file) header_size)) _ _ e.1 in
-    let g = if_none (has_headers file && ltb (length file) (headers_place file + header_size * header_count file)) _ _ f.1 in
-    record {
-      long = ltb-false _ _ a.0;
-      class = is_same _ _ b.0;
-      order = is_same _ _ c.0;
-      program = is_same _ _ d.0;
-      machine = is_same _ _ e.0;
-      size = λ some. is_same _ _ (and_some (header_count file) _ f.0 some);
-      inside = λ some. ltb-false _ _ (and_some (header_count file) _ g.0 some);
-    }
+fine_file file none = grind (arith, if_none, ltb-false, and_some)
 
 no_fault : (file : List ℕ) → Fine file → fault_of_file file ≡ None
 unfolding fault_of_file
-no_fault file fine =
-    let a : ltb (length file) file_header_size ≡ false = le-ltb _ _ fine.long in
-    let b = same_not _ _ fine.class in
-    let c = same_not _ _ fine.order in
-    let d = same_not _ _ fine.program in
-    let e = same_not _ _ fine.machine in
-    let f : (has_headers file && not (eqb (header_size_of file) header_size)) ≡ false = some_and (header_count file) _ (λ some. same_not _ _ (fine.size some)) in
-    let g : (has_headers file && ltb (length file) (headers_place file + header_size * header_count file)) ≡ false = some_and (header_count file) _ (λ some. le-ltb _ _ (fine.inside some)) in
-    rw (a, b, c, d, e, f, g) refl
+no_fault file fine = grind arith
 
 -- each header stands in the file
 pub header_inside : (file : List ℕ) (place count index : ℕ) → fault_of_file file ≡ None → place ≡ headers_place file → count ≡ header_count file → index < count → place + header_size * index + header_size ≤ length file
@@ -69,8 +35,7 @@ header_inside file place count index none at many lt = let inside = (fine_file f
 -- ---- the answer is what the definitions say
 
 refused_err : {X : Type 0} (o : Option ℕ) (rest : Result X ℕ) (kind : ℕ) → or_refused o rest ≡ Err kind → (o ≡ Some kind) ⊎ ((o ≡ None) × (rest ≡ Err kind))
-refused_err None rest kind e = inr (refl, e)
-refused_err (Some k) rest kind e = inl cc
+refused_err o rest kind e = grind arith
 
 answer-image : (file : List ℕ) (pairs : List (ℕ × ℕ)) → take 4 file ≡ magic → answer_of file ≡ Ok pairs → IsImage file pairs
 answer-image file pairs begins e =
@@ -138,16 +103,13 @@ one_fault file f g p q = let a = refused-answer file f p in let b = refused-answ
 -- ---- the clauses of the reader
 
 pub found : (file : List ℕ) (r : Result (List Part) ElfError) → take 4 file ≡ magic → Reads r (answer_of file) → IfOk r (λ image. IsImage file (pairs_of image))
-found file (Ok x) begins h = answer-image file (pairs_of x) begins h
-found file (Err e) begins h = tt
+found file r begins h = grind (arith, answer-image)
 
 pub only : (file : List ℕ) (r : Result (List Part) ElfError) → Reads r (answer_of file) → (pairs : List (ℕ × ℕ)) → IsImage file pairs → Reads r (Ok pairs)
 only file r h pairs image = subst (λ (a : Result (List (ℕ × ℕ)) ℕ). Reads r a) (image-answer file pairs image) h
 
 pub refused : (file : List ℕ) (r : Result (List Part) ElfError) → Reads r (answer_of file) → IfErr r (λ e. IfBad e (λ kind. IsRefused file kind))
-refused file (Ok x) h = tt
-refused file (Err Memory) h = tt
-refused file (Err (Bad kind)) h = answer-refused file kind h
+refused file r h = grind (arith, answer-refused)
 
 pub first : (file : List ℕ) (r : Result (List Part) ElfError) → Reads r (answer_of file) → (kind : ℕ) → IsRefused file kind → Reads r (Err kind)
 first file r h kind bad = subst (λ (a : Result (List (ℕ × ℕ)) ℕ). Reads r a) (refused-answer file kind bad) h

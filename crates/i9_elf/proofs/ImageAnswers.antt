@@ -1,5 +1,5 @@
 -- What the reader answers by how a file begins, and that each file has one answer.
-use Rattle.std.proofs.Common.{◌≡◌, ℕ, ◌⊎◌, inl, inr, Bool, true, false, List, take, Result, Ok, Err, sym, ap, ◌∙◌, IfOk, IfErr}
+use Rattle.std.proofs.Common.{◌≡◌, ℕ, ◌⊎◌, inl, inr, List, take, Result, Ok, Err, ap, IfOk, IfErr, arith}
 use Rattle.std.specs.Str.{bytes_eq}
 use Rattle.std.proofs.lemmas.Bool.{cases_Bool}
 use Rattle.std.proofs.lemmas.Slice.Eq.{bytes_eq-Decides}
@@ -28,34 +28,18 @@ pub record Answers (file : List ℕ) (r : Result (List Part) ImageError) : Type 
 
 -- ---- an ELF file
 
-same_pairs : {X Y Z : Type 0} (x y : X) → ◌≡◌ {A = Result X Y} (Ok x) (Ok y) → ◌≡◌ {A = Result X Z} (Ok x) (Ok y)
-same_pairs x y e = let s : x ≡ y = cc in ap Ok s
-
-never : {X Y Z : Type 0} (x : X) (y : Y) → ◌≡◌ {A = Result X Y} (Ok x) (Err y) → Z
-never x y e = absurd cc
-
-never_err : {X Y Z : Type 0} (x : X) (y : Y) → ◌≡◌ {A = Result X Y} (Err y) (Ok x) → Z
-never_err x y e = absurd cc
-
 elf_only : (file : List ℕ) (r : Result (List Part) ElfError) (pairs : List (ℕ × ℕ)) → elf_reading.Reads r (Ok pairs) → Reads (from_elf r) (Ok pairs)
-elf_only file (Ok image) pairs h = same_pairs pairs (pairs_of image) h
-elf_only file (Err elfs.Memory) pairs h = tt
-elf_only file (Err (elfs.Bad kind)) pairs h = never pairs kind h
+elf_only file r pairs h = grind arith
 
 elf_first : (file : List ℕ) (r : Result (List Part) ElfError) (kind : ℕ) → elf_reading.Reads r (Err kind) → Reads (from_elf r) (Err (OfElf kind))
-elf_first file (Ok image) kind h = never_err (pairs_of image) kind h
-elf_first file (Err elfs.Memory) kind h = tt
-elf_first file (Err (elfs.Bad k)) kind h = let s : kind ≡ k = cc in ap (λ (n : ℕ). Err (OfElf n)) s
+elf_first file r kind h = grind arith
 
 elf_found : (file : List ℕ) (r : Result (List Part) ElfError) → IfOk r (λ image. elf.IsImage file (pairs_of image)) → IfOk (from_elf r) (λ image. IsImage file (pairs_of image))
-elf_found file (Ok image) h = says_elf h
-elf_found file (Err elfs.Memory) h = tt
-elf_found file (Err (elfs.Bad kind)) h = tt
+elf_found file r h = grind arith
 
 elf_refused : (file : List ℕ) (r : Result (List Part) ElfError) → HasMagic file → IfErr r (λ e. elf_reading.IfBad e (λ kind. elf.IsRefused file kind)) → IfErr (from_elf r) (λ e. IfBad e (λ f. IsRefused file (fault_in f)))
-elf_refused file (Ok image) begins h = tt
-elf_refused file (Err elfs.Memory) begins h = tt
 elf_refused file (Err (elfs.Bad kind)) begins h = refused_elf kind begins h
+elf_refused file _ begins h = tt
 
 pub by_elf : (file : List ℕ) (r : Result (List Part) ElfError) → HasMagic file → IfOk r (λ image. elf.IsImage file (pairs_of image))
     → ((pairs : List (ℕ × ℕ)) → elf.IsImage file pairs → elf_reading.Reads r (Ok pairs))
@@ -78,43 +62,23 @@ by_elf file r begins found only refused first = record {
 -- ---- Intel HEX text
 
 hex_only : (file : List ℕ) (r : Result (List Part) HexError) (pairs : List (ℕ × ℕ)) → hex_reading.Reads r (Ok pairs) → Reads (from_hex r) (Ok pairs)
-hex_only file (Ok image) pairs h = same_pairs pairs (pairs_of image) h
-hex_only file (Err hexes.Memory) pairs h = tt
-hex_only file (Err (hexes.Bad f)) pairs h = never pairs (hex_reading.place_of f) h
+hex_only file r pairs h = grind arith
 
 hex_first : (file : List ℕ) (r : Result (List Part) HexError) (fault : ℕ × ℕ) → hex_reading.Reads r (Err fault) → Reads (from_hex r) (Err (AtLine fault))
-hex_first file (Ok image) fault h = never_err (pairs_of image) fault h
-hex_first file (Err hexes.Memory) fault h = tt
-hex_first file (Err (hexes.Bad f)) fault h = let s : fault ≡ hex_reading.place_of f = cc in ap (λ (n : ℕ × ℕ). Err (AtLine n)) s
+hex_first file r fault h = grind arith
 
 hex_found : (file : List ℕ) (r : Result (List Part) HexError) → ¬ HasMagic file → IfOk r (λ image. hex.IsImage (lines_of file) (pairs_of image)) → IfOk (from_hex r) (λ image. IsImage file (pairs_of image))
-hex_found file (Ok image) other h = says_hex other h
-hex_found file (Err hexes.Memory) other h = tt
-hex_found file (Err (hexes.Bad f)) other h = tt
+hex_found file r other h = grind arith
 
 hex_refused : (file : List ℕ) (r : Result (List Part) HexError) → ¬ HasMagic file → IfErr r (λ e. hex_reading.IfBad e (λ f. hex.IsRefused (lines_of file) (hex_reading.place_of f))) → IfErr (from_hex r) (λ e. IfBad e (λ f. IsRefused file (fault_in f)))
-hex_refused file (Ok image) other h = tt
-hex_refused file (Err hexes.Memory) other h = tt
 hex_refused file (Err (hexes.Bad f)) other h = refused_hex (hex_reading.place_of f) other h
+hex_refused file _ other h = tt
 
 pub by_hex : (file : List ℕ) (r : Result (List Part) HexError) → ¬ HasMagic file → IfOk r (λ image. hex.IsImage (lines_of file) (pairs_of image))
     → ((pairs : List (ℕ × ℕ)) → hex.IsImage (lines_of file) pairs → hex_reading.Reads r (Ok pairs))
     → IfErr r (λ e. hex_reading.IfBad e (λ f. hex.IsRefused (lines_of file) (hex_reading.place_of f)))
     → ((fault : ℕ × ℕ) → hex.IsRefused (lines_of file) fault → hex_reading.Reads r (Err fault)) → Answers file (from_hex r)
-by_hex file r other found only refused first = record {
-  found = hex_found file r other found;
-  only = only_case;
-  refused = hex_refused file r other refused;
-  first = first_case;
-}
-  where
-    only_case : (pairs : List (ℕ × ℕ)) → IsImage file pairs → Reads (from_hex r) (Ok pairs)
-    only_case pairs (says_elf image) = absurd (other image.begins)
-    only_case pairs (says_hex o image) = hex_only file r pairs (only pairs image)
-
-    first_case : (fault : Fault) → IsRefused file fault → Reads (from_hex r) (Err fault)
-    first_case _ (refused_elf kind begins bad) = absurd (other begins)
-    first_case _ (refused_hex fault o bad) = hex_first file r fault (first fault bad)
+by_hex file r other found only refused first = grind (arith, hex_found, hex_refused, hex_only, hex_first)
 
 -- ---- each file has one answer
 
@@ -146,14 +110,11 @@ some_by file (inr other) = elim (hex_answers.some_answer file) [
   | inr bad ↦ inr (AtLine bad.0, refused_hex bad.0 other bad.1)
 ]
 
-both : ◌≡◌ {A = Bool} true false → ⊥
-both e = absurd cc
-
 -- whether a file begins so is known
 begins_or_not : (xs ys : List ℕ) → (xs ≡ ys) ⊎ (¬ (xs ≡ ys))
 begins_or_not xs ys = elim (cases_Bool (bytes_eq xs ys)) [
   | inl same ↦ inl ((bytes_eq-Decides xs ys).0 same)
-  | inr other ↦ inr (λ same. both (sym ((bytes_eq-Decides xs ys).1 same) ∙ other))
+  | inr other ↦ inr (λ same. absurd (cc ((bytes_eq-Decides xs ys).1 same, other)))
 ]
 
 pub some_answer : (file : List ℕ) → ((pairs : List (ℕ × ℕ)) × IsImage file pairs) ⊎ ((fault : Fault) × IsRefused file fault)

@@ -1,8 +1,6 @@
 -- Headers that load, one after the other.
-use Rattle.std.proofs.Common.{◌≡◌, ℕ, suc, ◌+◌, ◌-◌, ◌*◌, ◌<◌, ◌≤◌, Bool, true, false, ltb, ◌||◌, ◌&&◌, List, [], ◌∷◌, ◌++◌, length, drop, Option, Some, None, Result, Ok, Err, refl, sym, ap, ◌∙◌, arith, inl, inr, append_assoc}
-use Rattle.i9_model.proofs.FrameLaws.{if_none}
+use Rattle.std.proofs.Common.{◌≡◌, ℕ, suc, ◌+◌, ◌-◌, ◌*◌, ◌<◌, ◌≤◌, Bool, true, false, ltb, ◌&&◌, List, [], ◌∷◌, ◌++◌, drop, Option, Some, None, Result, Ok, Err, refl, sym, ap, ◌∙◌, arith, append_assoc}
 use Rattle.std.specs.List.{filter, flat_map, AllByRecursion}
-use Rattle.std.proofs.lemmas.Bool.{cases_Bool, ltb-false, le-ltb, or_parts}
 use Rattle.std.proofs.lemmas.List.{append-nil, drop-drop}
 use Rattle.i9_model.specs.Image.{Part, pairs_of}
 use Rattle.i9_model.specs.HexText.{most_bytes}
@@ -15,15 +13,6 @@ use Rattle.i9_elf.specs.Files.{Header, header_size, header_of, headers_in, heade
 pub and_some : (n : ℕ) (b : Bool) → (ltb 0 n && b) ≡ false → 0 < n → b ≡ false
 and_some n b e some = let t : ltb 0 n ≡ true = grind arith in rw t at e
 
-pub some_and : (n : ℕ) (b : Bool) → (0 < n → b ≡ false) → (ltb 0 n && b) ≡ false
-some_and n b h = elim (cases_Bool (ltb 0 n)) [
-  | inl some ↦ rw some (h (below 0 n some))
-  | inr none ↦ rw none refl
-]
-  where
-    below : (x y : ℕ) → ltb x y ≡ true → x < y
-    below x y lt = grind arith
-
 -- a load without fault
 pub record Fits (file : List ℕ) (size : ℕ) (h : Header) : Type 0 where
   pub loadable : IsLoadable file h
@@ -31,22 +20,11 @@ pub record Fits (file : List ℕ) (size : ℕ) (h : Header) : Type 0 where
 
 pub fits : (file : List ℕ) (size : ℕ) (h : Header) → fault_of_load file size h ≡ None → Fits file size h
 unfolding fault_of_load
-fits file size h fine =
-    let first = if_none (ltb h.in_memory h.in_file || (ltb 0 h.in_file && ltb (length file) (h.offset + h.in_file))) _ _ fine in
-    let both = or_parts (ltb h.in_memory h.in_file) _ first.0 in
-    let second = if_none (ltb most_bytes (size + h.in_memory)) _ _ first.1 in
-    record {
-      loadable = record { sizes = ltb-false _ _ both.0; inside = λ some. ltb-false _ _ (and_some h.in_file (ltb (length file) (h.offset + h.in_file)) both.1 some) };
-      room = ltb-false _ _ second.0;
-    }
+fits file size h fine = grind arith
 
 pub is_fine : (file : List ℕ) (size : ℕ) (h : Header) → IsLoadable file h → size + h.in_memory ≤ most_bytes → fault_of_load file size h ≡ None
 unfolding fault_of_load
-is_fine file size h loads room =
-    let a : ltb h.in_memory h.in_file ≡ false = le-ltb h.in_memory h.in_file loads.sizes in
-    let b : (ltb 0 h.in_file && ltb (length file) (h.offset + h.in_file)) ≡ false = some_and h.in_file _ (λ some. le-ltb _ _ (loads.inside some)) in
-    let c : ltb most_bytes (size + h.in_memory) ≡ false = le-ltb most_bytes (size + h.in_memory) room in
-    rw (a, b, c) refl
+is_fine file size h loads room = grind arith
 
 -- ---- all headers
 
@@ -66,19 +44,12 @@ pub record Stops (file : List ℕ) (size : ℕ) (hs : List Header) (kind : ℕ) 
   pub room : size + memory_size front ≤ most_bytes
   pub fault : fault_of_load file (size + memory_size front) at ≡ Some kind
 
-ok_value : {X : Type 0} (x y : X) → ◌≡◌ {A = Result X ℕ} (Ok x) (Ok y) → x ≡ y
-ok_value x y e = cc
-
-err_value : {X : Type 0} (x y : ℕ) → ◌≡◌ {A = Result X ℕ} (Err x) (Err y) → x ≡ y
-err_value x y e = cc
-
 -- where what comes first refuses nothing
 pub refused_ok : {X : Type 0} (o : Option ℕ) (rest : Result X ℕ) (x : X) → or_refused o rest ≡ Ok x → (o ≡ None) × (rest ≡ Ok x)
-refused_ok None rest x e = (refl, e)
-refused_ok (Some kind) rest x e = absurd cc
+refused_ok o rest x e = grind arith
 
 pub load_all-ok : (file : List ℕ) (size : ℕ) (ps : List (ℕ × ℕ)) (hs : List Header) (qs : List (ℕ × ℕ)) → size ≤ most_bytes → load_all file size ps hs ≡ Ok qs → FitAll file size ps hs qs
-load_all-ok file size ps [] qs small e = record { loads = tt; room = omega (arith, small); same = append-nil ps ∙ ok_value ps qs e }
+load_all-ok file size ps [] qs small e = record { loads = tt; room = omega (arith, small); same = cc (append-nil ps) }
 load_all-ok file size ps (h ∷ hs) qs small e =
     let both = refused_ok (fault_of_load file size h) _ qs e in
     let fit = fits file size h both.0 in
@@ -104,7 +75,7 @@ ok-load_all file size ps (h ∷ hs) qs fit =
 stops_at : (file : List ℕ) (size : ℕ) (h : Header) (hs : List Header) (o : Option ℕ) (kind : ℕ) (rest : Result (List (ℕ × ℕ)) ℕ) → size ≤ most_bytes → fault_of_load file size h ≡ o → or_refused o rest ≡ Err kind
     → (fault_of_load file size h ≡ None → rest ≡ Err kind → Stops file (size + h.in_memory) hs kind) → Stops file size (h ∷ hs) kind
 stops_at file size h hs (Some k) kind rest small is e later =
-    let one : k ≡ kind = err_value {X = List (ℕ × ℕ)} k kind e in
+    let one : k ≡ kind = cc in
     record {
       front = [];
       at = h;
@@ -135,9 +106,7 @@ load_all-err file size ps (h ∷ hs) kind small e =
 
 pub err-load_all : (file : List ℕ) (size : ℕ) (ps : List (ℕ × ℕ)) (front : List Header) (h : Header) (back : List Header) (kind : ℕ) → AllByRecursion (IsLoadable file) front → size + memory_size front ≤ most_bytes → fault_of_load file (size + memory_size front) h ≡ Some kind
     → load_all file size ps (front ++ h ∷ back) ≡ Err kind
-err-load_all file size ps [] h back kind loads room fault =
-    let here : fault_of_load file size h ≡ Some kind = ap (λ (n : ℕ). fault_of_load file n h) (omega arith) ∙ fault in
-    rw here refl
+err-load_all file size ps [] h back kind loads room fault = grind arith
 err-load_all file size ps (g ∷ front) h back kind loads room fault =
     let fine = is_fine file size g loads.0 (omega (arith, room)) in
     let more = err-load_all file (size + g.in_memory) (ps ++ loaded_pairs file g) front h back kind loads.1 (omega (arith, room)) (ap (λ (n : ℕ). fault_of_load file n h) (omega arith) ∙ fault) in
@@ -158,10 +127,7 @@ headers-turn n index place file lt =
 pub begins_all : (file : List ℕ) (place count : ℕ) (parts : List Part) → place ≡ headers_place file → count ≡ header_count file → parts ≡ []
     → load_all file 0 (pairs_of parts) (filter is_load (headers_in (count - 0) (drop (place + 0) file))) ≡ load_all file 0 [] (loads_of file)
 unfolding pairs_of
-begins_all file place count parts at many none =
-    let a : place + 0 ≡ headers_place file = omega (arith, at) in
-    let b : count - 0 ≡ header_count file = omega (arith, many) in
-    rw (a, b, none) refl
+begins_all file place count parts at many none = grind arith
 
 -- the headers that are left, from one on
 abbrev left : List ℕ → ℕ → ℕ → ℕ → List Header
@@ -170,24 +136,15 @@ left file place count index = headers_in (count - index) (drop (place + header_s
 -- the next header loads nothing,
 pub next-other : (file : List ℕ) (size place count index : ℕ) (ps : List (ℕ × ℕ)) (h : Header) (total : Result (List (ℕ × ℕ)) ℕ) → index < count → h ≡ header_of (drop (place + header_size * index) file) → is_load h ≡ false
     → load_all file size ps (filter is_load (left file place count index)) ≡ total → load_all file size ps (filter is_load (left file place count (index + 1))) ≡ total
-next-other file size place count index ps h total lt is other before =
-    let hs = left file place count (index + 1) in
-    let shown : load_all file size ps (filter is_load (h ∷ hs)) ≡ total = ap (λ (x : Header). load_all file size ps (filter is_load (x ∷ hs))) is ∙ ap (λ (xs : List Header). load_all file size ps (filter is_load xs)) (sym (headers-turn count index place file lt)) ∙ before in
-    rw other at shown
+next-other file size place count index ps h total lt is other before = grind (arith, headers-turn)
 
 -- loads,
 pub next-load : (file : List ℕ) (size place count index : ℕ) (ps qs : List (ℕ × ℕ)) (h : Header) (total : Result (List (ℕ × ℕ)) ℕ) → index < count → h ≡ header_of (drop (place + header_size * index) file) → is_load h ≡ true
     → fault_of_load file size h ≡ None → qs ≡ ps ++ loaded_pairs file h
     → load_all file size ps (filter is_load (left file place count index)) ≡ total → load_all file (size + h.in_memory) qs (filter is_load (left file place count (index + 1))) ≡ total
-next-load file size place count index ps qs h total lt is loads fine more before =
-    let hs = left file place count (index + 1) in
-    let shown : load_all file size ps (filter is_load (h ∷ hs)) ≡ total = ap (λ (x : Header). load_all file size ps (filter is_load (x ∷ hs))) is ∙ ap (λ (xs : List Header). load_all file size ps (filter is_load xs)) (sym (headers-turn count index place file lt)) ∙ before in
-    rw more (rw (loads, fine) at shown)
+next-load file size place count index ps qs h total lt is loads fine more before = grind (arith, headers-turn)
 
 -- or has a fault
 pub next-fault : (file : List ℕ) (size place count index : ℕ) (ps : List (ℕ × ℕ)) (h : Header) (kind : ℕ) (total : Result (List (ℕ × ℕ)) ℕ) → index < count → h ≡ header_of (drop (place + header_size * index) file) → is_load h ≡ true
     → fault_of_load file size h ≡ Some kind → load_all file size ps (filter is_load (left file place count index)) ≡ total → total ≡ Err kind
-next-fault file size place count index ps h kind total lt is loads fault before =
-    let hs = left file place count (index + 1) in
-    let shown : load_all file size ps (filter is_load (h ∷ hs)) ≡ total = ap (λ (x : Header). load_all file size ps (filter is_load (x ∷ hs))) is ∙ ap (λ (xs : List Header). load_all file size ps (filter is_load xs)) (sym (headers-turn count index place file lt)) ∙ before in
-    sym (rw (loads, fault) at shown)
+next-fault file size place count index ps h kind total lt is loads fault before = grind arith

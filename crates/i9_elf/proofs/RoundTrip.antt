@@ -1,8 +1,7 @@
 -- What is written for runs is read back.
-use Rattle.std.proofs.Common.{◌≡◌, ℕ, suc, ◌+◌, ◌-◌, ◌*◌, ◌^◌, ◌<◌, ◌≤◌, List, [], ◌∷◌, ◌++◌, length, take, drop, map, get_or, refl, sym, ap, subst, ◌∙◌, arith, append_assoc, length-append}
+use Rattle.std.proofs.Common.{◌≡◌, ℕ, suc, ◌+◌, ◌*◌, ◌^◌, ◌<◌, ◌≤◌, List, [], ◌∷◌, ◌++◌, length, drop, map, get_or, refl, sym, ap, subst, ◌∙◌, arith, append_assoc, length-append}
 use Rattle.std.specs.List.{filter, flat_map, AllByRecursion}
 use Rattle.std.proofs.lemmas.List.{append-nil, drop_at, take_all, take-append-le, drop_more}
-use Rattle.byteorder.specs.Endian.{little_bytes}
 use Rattle.i9_model.specs.Image.{Part, upwards, pairs_of}
 use Rattle.i9_model.specs.HexText.{most_bytes}
 use Rattle.i9_hex.specs.Shown.{part_of}
@@ -10,16 +9,10 @@ use Rattle.i9_hex.specs.declared.segments.Segment.{Segment}
 use Rattle.i9_hex.specs.Runs.{IsRun, bytes_in, AreRuns}
 use Rattle.i9_hex.proofs.Placed.{runs_few}
 use Rattle.i9_hex.proofs.PairCounts.{length-pairs_of}
-use Rattle.i9_elf.specs.Files.{half_at, word_at, header_count, header_size, Header, header_of, headers_in, is_load, load_kind, loads_of, memory_size, loaded_bytes, loaded_pairs, IsLoadable, IsImage}
+use Rattle.i9_elf.specs.Files.{header_count, header_size, Header, header_of, headers_in, is_load, load_kind, loads_of, memory_size, loaded_bytes, loaded_pairs, IsLoadable, IsImage}
 use Rattle.i9_elf.specs.Written.{most_headers, words, file_header, program_header, program_headers, bytes_place, file_of, ReadsBack}
 
 -- ---- numbers
-
-half-back : (n : ℕ) (rest : List ℕ) → n < 2 ^ 16 → half_at 0 (little_bytes 2 n ++ rest) ≡ n
-half-back n rest small = omega arith
-
-word-back : (n : ℕ) (rest : List ℕ) → n < 2 ^ 32 → word_at 0 (little_bytes 4 n ++ rest) ≡ n
-word-back n rest small = omega arith
 
 -- ---- program headers
 
@@ -32,22 +25,13 @@ abbrev headers_for : ℕ → List Part → List Header
 headers_for place [] = []
 headers_for place (run ∷ runs) = header_for place run ∷ headers_for (place + length run.bytes) runs
 
-same_header : (o p a b m n : ℕ) → o ≡ p → a ≡ b → m ≡ n
-    → ◌≡◌ {A = Header} (record { kind = 1; offset = o; address = a; in_file = m; in_memory = m }) (record { kind = 1; offset = p; address = b; in_file = n; in_memory = n })
-same_header o p a b m n e f g = cc
-
 header-back : (place : ℕ) (run : Part) (rest : List ℕ) → place < 2 ^ 32 → run.address < 2 ^ 32 → length run.bytes < 2 ^ 32 → header_of (program_header place run ++ rest) ≡ header_for place run
-header-back place run rest low address size =
-    same_header _ place _ run.address _ (length run.bytes) (word-back place rest low) (word-back run.address rest address) (word-back (length run.bytes) rest size)
+header-back place run rest low address size = grind arith
 
 headers-back : (place : ℕ) (runs : List Part) (rest : List ℕ) → AllByRecursion IsRun runs → place + bytes_in runs < 2 ^ 32 → headers_in (length runs) (program_headers place runs ++ rest) ≡ headers_for place runs
 headers-back place [] rest each low = refl
 headers-back place (run ∷ runs) rest each low =
-    let inside = each.0.inside in
-    let some = each.0.some in
-    let first = header-back place run (program_headers (place + length run.bytes) runs ++ rest) (omega arith) (omega arith) (omega arith) in
-    let more = headers-back (place + length run.bytes) runs rest each.1 (omega arith) in
-    ap (λ (h : Header). h ∷ headers_in (length runs) (program_headers (place + length run.bytes) runs ++ rest)) first ∙ ap (λ (hs : List Header). header_for place run ∷ hs) more
+    grind (arith, header-back, headers-back (place + length run.bytes) runs rest each.1 (omega arith))
 
 all_load : (place : ℕ) (runs : List Part) → filter is_load (headers_for place runs) ≡ headers_for place runs
 all_load place [] = refl
@@ -55,10 +39,8 @@ all_load place (run ∷ runs) = ap (λ (hs : List Header). header_for place run 
 
 all_inside : (file : List ℕ) (place : ℕ) (runs : List Part) → place + bytes_in runs ≤ length file → AllByRecursion (IsLoadable file) (headers_for place runs)
 all_inside file place [] inside = tt
-all_inside file place (run ∷ runs) inside = (
-  record { sizes = omega arith; inside = λ some. omega (arith, inside) },
-  all_inside file (place + length run.bytes) runs (omega (arith, inside)),
-)
+all_inside file place (run ∷ runs) inside =
+    grind (arith, all_inside file (place + length run.bytes) runs (omega (arith, inside)))
 
 all_bytes : (place : ℕ) (runs : List Part) → memory_size (headers_for place runs) ≡ bytes_in runs
 all_bytes place [] = refl
@@ -66,9 +48,7 @@ all_bytes place (run ∷ runs) = ap (λ (n : ℕ). length run.bytes + n) (all_by
 
 length-headers : (place : ℕ) (runs : List Part) → length (program_headers place runs) ≡ header_size * length runs
 length-headers place [] = refl
-length-headers place (run ∷ runs) =
-    let more = length-headers (place + length run.bytes) runs in
-    length-append (program_header place run) (program_headers (place + length run.bytes) runs) ∙ omega (arith, more)
+length-headers place (run ∷ runs) = grind (arith, length-append, length-headers (place + length run.bytes) runs)
 
 -- ---- the bytes
 
@@ -81,11 +61,7 @@ length-bytes (run ∷ runs) = length-append run.bytes (bytes_of runs) ∙ ap (λ
 
 -- a header loads the bytes of its run
 loads_run : (file front : List ℕ) (run : Part) (rest : List ℕ) → file ≡ front ++ (run.bytes ++ rest) → loaded_bytes file (header_for (length front) run) ≡ run.bytes
-loads_run file front run rest is =
-    let at : drop (length front) file ≡ run.bytes ++ rest = ap (drop (length front)) is ∙ drop_at front (run.bytes ++ rest) (length front) refl in
-    let own : take (length run.bytes) (run.bytes ++ rest) ≡ run.bytes = take-append-le (length run.bytes) run.bytes rest (omega arith) ∙ take_all (length run.bytes) run.bytes (omega arith) in
-    let none : length run.bytes - length run.bytes ≡ 0 = omega arith in
-    rw (at, own, none) (append-nil run.bytes)
+loads_run file front run rest is = grind (arith, drop_at, take-append-le, take_all, append-nil)
 
 loads-back : (file front : List ℕ) (runs : List Part) → file ≡ front ++ bytes_of runs → flat_map (loaded_pairs file) (headers_for (length front) runs) ≡ pairs_of runs
 unfolding pairs_of
@@ -98,16 +74,10 @@ loads-back file front (run ∷ runs) is =
 
 -- ---- while headers are written
 
--- the headers that are left, from a run on
-headers_turn : (runs : List Segment) (i place : ℕ) (run : Segment) → i < length runs → run ≡ get_or runs i run
-    → program_headers place (map part_of (drop i runs)) ≡ program_header place (part_of run) ++ program_headers (place + length run.bytes.items) (map part_of (drop (i + 1) runs))
-headers_turn runs i place run lt is = ap (λ (rs : List Segment). program_headers place (map part_of rs)) (drop_more runs i run lt ∙ ap (λ (r : Segment). r ∷ drop (i + 1) runs) (sym is))
-
 pub add_turn : (runs : List Segment) (i place size : ℕ) (run : Segment) (old new total : List ℕ) → i < length runs → run ≡ get_or runs i run → size ≡ length run.bytes.items
     → new ≡ old ++ words (1 ∷ place ∷ run.address ∷ run.address ∷ size ∷ size ∷ 7 ∷ 1 ∷ []) → old ++ program_headers place (map part_of (drop i runs)) ≡ total
     → new ++ program_headers (place + size) (map part_of (drop (i + 1) runs)) ≡ total
-add_turn runs i place size run old new total lt is len more before =
-    rw (more, len) (append_assoc old (program_header place (part_of run)) (program_headers (place + length run.bytes.items) (map part_of (drop (i + 1) runs))) ∙ ap (λ (bs : List ℕ). old ++ bs) (sym (headers_turn runs i place run lt is)) ∙ before)
+add_turn runs i place size run old new total lt is len more before = grind (arith, append_assoc, drop_more)
 
 pub room_turn : (runs : List Segment) (i : ℕ) (run : Segment) → i < length runs → run ≡ get_or runs i run
     → bytes_in (map part_of (drop i runs)) ≡ length run.bytes.items + bytes_in (map part_of (drop (i + 1) runs))
@@ -124,22 +94,15 @@ few_bytes image runs are few = let less = runs_few image runs are in let same = 
 
 count-back : (runs : List Part) → length runs ≤ most_headers → header_count (file_of runs) ≡ length runs
 unfolding file_of
-count-back runs few = half-back (length runs) [] (omega (arith, few))
+count-back runs few = grind arith
 
 length-file : (runs : List Part) → length (file_of runs) ≡ bytes_place (length runs) + bytes_in runs
 unfolding file_of
-length-file runs =
-    let heads = length-headers (bytes_place (length runs)) runs in
-    let bytes = length-bytes runs in
-    let two = length-append (program_headers (bytes_place (length runs)) runs) (bytes_of runs) in
-    length-append (file_header (length runs)) (program_headers (bytes_place (length runs)) runs ++ bytes_of runs) ∙ omega (arith, heads, bytes, two)
+length-file runs = grind (arith, length-headers, length-bytes, length-append)
 
 loads-file : (runs : List Part) → AllByRecursion IsRun runs → length runs ≤ most_headers → bytes_in runs ≤ most_bytes → loads_of (file_of runs) ≡ headers_for (bytes_place (length runs)) runs
 unfolding file_of
-loads-file runs each count bytes =
-    let n = count-back runs count in
-    let heads = headers-back (bytes_place (length runs)) runs (bytes_of runs) each (omega (arith, count, bytes)) in
-    ap (λ (k : ℕ). filter is_load (headers_in k (program_headers (bytes_place (length runs)) runs ++ bytes_of runs))) n ∙ ap (filter is_load) heads ∙ all_load (bytes_place (length runs)) runs
+loads-file runs each count bytes = grind (arith, count-back, headers-back, all_load)
 
 -- the bytes stand behind the headers
 split_file : (runs : List Part) → file_of runs ≡ (file_header (length runs) ++ program_headers (bytes_place (length runs)) runs) ++ bytes_of runs
@@ -156,27 +119,7 @@ same-file runs =
 -- the file of runs is read back
 pub file-image : (runs : List Part) → AllByRecursion IsRun runs → length runs ≤ most_headers → bytes_in runs ≤ most_bytes → IsImage (file_of runs) (pairs_of runs)
 unfolding file_of
-file-image runs each count bytes =
-    let n = count-back runs count in
-    let len = length-file runs in
-    let loads = loads-file runs each count bytes in
-    record {
-      begins = refl;
-      long = omega (arith, len);
-      class = refl;
-      order = refl;
-      program = refl;
-      machine = refl;
-      size = λ some. refl;
-      inside = λ some. omega (arith, len, n);
-      loads = subst (AllByRecursion (IsLoadable (file_of runs))) (sym loads) (all_inside (file_of runs) (bytes_place (length runs)) runs (omega (arith, len)));
-      room = subst (λ (hs : List Header). memory_size hs ≤ most_bytes) (sym loads) (let all = all_bytes (bytes_place (length runs)) runs in omega (arith, all, bytes));
-      same = ap (flat_map (loaded_pairs (file_of runs))) loads ∙ same-file runs;
-    }
+file-image runs each count bytes = grind (arith, count-back, length-file, loads-file, all_inside, all_bytes, same-file)
 
 pub file-again : (image runs : List Part) (file : List ℕ) → AreRuns image runs → length runs ≤ most_headers → bytes_in runs ≤ most_bytes → file ≡ file_of runs → ReadsBack file image
-file-again image runs file are count bytes is = record {
-  pairs = pairs_of runs;
-  read = subst (λ (f : List ℕ). IsImage f (pairs_of runs)) (sym is) (file-image runs are.each count bytes);
-  same = are.same;
-}
+file-again image runs file are count bytes is = grind (arith, file-image)

@@ -1,8 +1,8 @@
 -- Pairs that rise, joined into runs.
 use Rattle.std.specs.Prelude.{⊤}
-use Rattle.std.proofs.Common.{◌≡◌, ℕ, ◌+◌, ◌%◌, ◌^◌, ◌<◌, ◌≤◌, true, false, eqb, List, [], ◌∷◌, ◌++◌, length, get_or, take, map, refl, sym, ap, subst, ◌∙◌, arith, inl, inr, append_assoc, length-append}
+use Rattle.std.proofs.Common.{◌≡◌, ℕ, ◌+◌, ◌%◌, ◌^◌, ◌<◌, ◌≤◌, true, false, eqb, List, [], ◌∷◌, ◌++◌, length, get_or, take, map, refl, sym, ap, subst, ◌∙◌, arith, append_assoc, length-append}
 use Rattle.std.specs.List.{All, AllByRecursion}
-use Rattle.std.proofs.lemmas.Bool.{cases_Bool, eqb-true, ne_eqb}
+use Rattle.std.proofs.lemmas.Bool.{eqb-true, ne_eqb}
 use Rattle.std.proofs.lemmas.List.{append-nil, take_more, map_push}
 use Rattle.std.proofs.lemmas.Grind.{flat_map-append}
 use Rattle.i9_model.specs.Image.{Part, address_count, upwards, pairs_of_part, pairs_of}
@@ -42,17 +42,7 @@ later_grown end b (p ∷ q ∷ runs) h = (h.0, later_grown end b (q ∷ runs) h.
 
 stand_grown : (n a b : ℕ) (runs : List Part) → Stand n runs → n ≤ a → a < address_count → b < 256 → ends_before runs a ≡ true → Stand (a + 1) (with_byte runs b)
 stand_grown n a b [] h le small byte ends = absurd cc
-stand_grown n a b (p ∷ []) h le small byte ends =
-    let run = h.each.0 in
-    let by = h.ends.0 in
-    let next : next_address p ≡ a = eqb-true (next_address p) a ends in
-    let len = length-append p.bytes (b ∷ []) in
-    let end : p.address + length p.bytes ≡ a = omega arith in
-    record {
-      each = (record { inside = omega arith; some = omega arith; low = all_push (λ x. x < 256) p.bytes b run.low byte }, tt);
-      apart = (tt, tt);
-      ends = (omega arith, tt);
-    }
+stand_grown n a b (p ∷ []) h le small byte ends = grind (arith, eqb-true, length-append, all_push)
 stand_grown n a b (p ∷ q ∷ runs) h le small byte ends =
     let rest = stand_grown n a b (q ∷ runs) (stand-rest n p (q ∷ runs) h) le small byte ends in
     record {
@@ -64,17 +54,9 @@ stand_grown n a b (p ∷ q ∷ runs) h le small byte ends =
 -- a run begins
 ends_apart : (n a : ℕ) (runs : List Part) → Stand n runs → n ≤ a → a < address_count → ends_before runs a ≡ false → AllByRecursion (λ run. run.address + length run.bytes < a) runs
 ends_apart n a [] h le small begins = tt
-ends_apart n a (p ∷ []) h le small begins =
-    let by = h.ends.0 in
-    (past (p.address + length p.bytes) (omega arith) begins, tt)
-  where
-    past : (e : ℕ) → e ≤ a → eqb (e % address_count) a ≡ false → e < a
-    past e by apart = grind arith
+ends_apart n a (p ∷ []) h le small begins = grind arith
 ends_apart n a (p ∷ q ∷ runs) h le small begins =
-    let before = h.apart.0.0 in
-    let some = h.each.1.0.some in
-    let by = h.ends.1.0 in
-    (omega arith, ends_apart n a (q ∷ runs) (stand-rest n p (q ∷ runs) h) le small begins)
+    grind (arith, stand-rest, ends_apart n a (q ∷ runs) (stand-rest n p (q ∷ runs) h) le small begins)
 
 apart_push : (runs : List Part) (run : Part) → AreApart runs → AllByRecursion (λ r. r.address + length r.bytes < run.address) runs → AreApart (runs ++ run ∷ [])
 apart_push [] run h ends = (tt, tt)
@@ -91,10 +73,8 @@ stand_begun n a b runs h le small byte begins =
 
 stand_more : (n a b : ℕ) (runs : List Part) → Stand n runs → n ≤ a → a < address_count → b < 256 → Stand (a + 1) (with_pair runs a b)
 unfolding with_pair
-stand_more n a b runs h le small byte = elim (cases_Bool (ends_before runs a)) [
-  | inl joins ↦ rw joins (stand_grown n a b runs h le small byte joins)
-  | inr begins ↦ rw begins (stand_begun n a b runs h le small byte begins)
-]
+stand_more n a b runs h le small byte =
+    grind (arith, stand_grown n a b runs h le small byte, stand_begun n a b runs h le small byte)
 
 -- what pairs that rise are joined to
 record Joins (runs : List Part) (ps : List (ℕ × ℕ)) : Type 0 where
@@ -122,8 +102,7 @@ joined_runs pairs ps same rise placed =
 -- where no pairs are left
 pub joined_end : (pairs rest : List (ℕ × ℕ)) (runs : List Part) → All IsPlaced pairs → AreInOrder pairs → length rest < 1 → joined runs (kept rest) ≡ joined [] (kept pairs) → AreRunsOf pairs runs
 joined_end pairs [] runs placed order none is =
-    subst (λ rs. AreRunsOf pairs rs) (sym is)
-    (joined_runs pairs (kept pairs) (kept_says pairs) (kept_rises 0 pairs (climbs_sorted 0 pairs (λ k d lt. omega arith) order)) (kept_placed pairs (are_placed pairs placed)))
+    grind (arith, joined_runs, kept_says, kept_rises, climbs_sorted, kept_placed, are_placed)
 joined_end pairs (p ∷ rest) runs placed order none is = absurd (omega arith)
 
 -- ---- runs are those that their pairs are joined to
@@ -161,18 +140,7 @@ joined_bytes : (front : List Part) (a : ℕ) (xs bs : List ℕ) (ps : List (ℕ 
 unfolding with_pair
 joined_bytes front a xs [] ps = ap (λ ys. joined (front ++ record { address = a; bytes = ys } ∷ []) ps) (sym (append-nil xs))
 joined_bytes front a xs (b ∷ bs) ps =
-    let run : Part = record { address = a; bytes = xs } in
-    let place = (a + length xs) % address_count in
-    let joins_it : ends_before (front ++ run ∷ []) place ≡ true = ends_behind front run place ∙ same place in
-    let len : a + length xs + 1 ≡ a + length (xs ++ b ∷ []) = omega (arith, length-append xs (b ∷ [])) in
-    rw (joined, joins_it)
-    (ap (λ runs. joined runs (upwards (a + length xs + 1) bs ++ ps)) (byte_behind front run b)
-    ∙ ap (λ k. joined (front ++ record { address = a; bytes = xs ++ b ∷ [] } ∷ []) (upwards k bs ++ ps)) len
-    ∙ joined_bytes front a (xs ++ b ∷ []) bs ps
-    ∙ ap (λ ys. joined (front ++ record { address = a; bytes = ys } ∷ []) ps) (append_assoc xs (b ∷ []) bs))
-  where
-    same : (x : ℕ) → eqb x x ≡ true
-    same x = grind arith
+    grind (arith, ends_behind, length-append, byte_behind, append_assoc, joined_bytes front a (xs ++ b ∷ []) bs ps)
 
 -- the first of these does not go on from the runs before
 Begins : List Part → List Part → Type 0
@@ -182,10 +150,7 @@ Begins front (run ∷ runs) = ends_before front run.address ≡ false
 joined_run : (front : List Part) (a : ℕ) (bs : List ℕ) (ps : List (ℕ × ℕ)) → IsRun (record { address = a; bytes = bs }) → ends_before front a ≡ false → joined front (upwards a bs ++ ps) ≡ joined (front ++ record { address = a; bytes = bs } ∷ []) ps
 unfolding with_pair
 joined_run front a [] ps run begins = let some = run.some in absurd (omega arith)
-joined_run front a (b ∷ bs) ps run begins =
-    let inside = run.inside in
-    let e : a % address_count ≡ a = omega arith in
-    rw (e, begins) (joined_bytes front a (b ∷ []) bs ps)
+joined_run front a (b ∷ bs) ps run begins = grind (arith, joined_bytes)
 
 joined_pairs : (front runs : List Part) → AllByRecursion IsRun runs → AreApart runs → Begins front runs → joined front (pairs_of runs) ≡ front ++ runs
 unfolding pairs_of Begins
@@ -221,8 +186,6 @@ pub pairs_more : (segments : List Segment) (i : ℕ) (s : Segment) (qs rs : List
     → rs ≡ qs ++ upwards s.address s.bytes.items → rs ≡ pairs_of (map part_of (take (i + 1) segments))
 unfolding pairs_of
 pairs_more segments i s qs rs lt is before now =
-    let more : take (i + 1) segments ≡ take i segments ++ s ∷ [] = take_more segments i s lt ∙ ap (λ x. take i segments ++ x ∷ []) (sym is) in
-    let parts : map part_of (take (i + 1) segments) ≡ map part_of (take i segments) ++ part_of s ∷ [] = ap (map part_of) more ∙ map_push part_of (take i segments) s in
-    now ∙ ap (λ ps. ps ++ upwards s.address s.bytes.items) before
-    ∙ ap (λ ps. pairs_of (map part_of (take i segments)) ++ ps) (sym (append-nil (upwards s.address s.bytes.items)))
-    ∙ sym (flat_map-append pairs_of_part (map part_of (take i segments)) (part_of s ∷ [])) ∙ sym (ap pairs_of parts)
+    let more = take_more segments i s lt in
+    let parts = map_push part_of (take i segments) s in
+    cc (more, parts, append-nil (upwards s.address s.bytes.items), flat_map-append pairs_of_part (map part_of (take i segments)) (part_of s ∷ []))

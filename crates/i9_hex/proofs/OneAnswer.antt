@@ -1,5 +1,5 @@
 -- Each text has one answer: an image's pairs, or a first fault.
-use Rattle.std.proofs.Common.{◌≡◌, ℕ, ◌⊎◌, inl, inr, List, Result, Ok, Err, refl, ap}
+use Rattle.std.proofs.Common.{◌≡◌, ℕ, ◌⊎◌, inl, inr, List, Result, Ok, Err, refl, ap, arith}
 use Rattle.i9_text.specs.Text.{lines_of}
 use Rattle.i9_text.proofs.FirstFault.{SaysAll-read, read_from-says, read_from-refused, refused-read}
 use Rattle.i9_model.specs.HexText.{HexState, start, Says, fault_of, missing_end, IsImage, IsRefused}
@@ -13,9 +13,7 @@ image-answer text pairs image =
     rw e (ap Ok image.same)
 
 refused-answer : (text : List ℕ) (fault : ℕ × ℕ) → IsRefused (lines_of text) fault → answer_of text ≡ Err fault
-refused-answer text fault bad =
-    let e = read_from-refused Says fault_of with_line missing_end start says_line line_says (lines_of text) fault bad in
-    rw e refl
+refused-answer text fault bad = grind (arith, read_from-refused, says_line, line_says)
 
 -- by what reading gives
 image_or_fault : (text : List ℕ) (r : Result HexState (ℕ × ℕ)) → state_or_fault text ≡ r → ((pairs : List (ℕ × ℕ)) × IsImage (lines_of text) pairs) ⊎ ((fault : ℕ × ℕ) × IsRefused (lines_of text) fault)

@@ -1,7 +1,7 @@
 -- The functions `fault_of` and `with_line` answer the relation `Says`, both ways.
-use Rattle.std.proofs.Common.{◌≡◌, ℕ, zero, suc, ◌+◌, ◌*◌, ◌/◌, ◌%◌, ◌<◌, ◌≤◌, true, false, not, ltb, eqb, List, [], ◌∷◌, ◌++◌, length, take, get_or, Option, Some, None, Result, Ok, Err, refl, sym, ap, subst, ◌∙◌, arith, inl, inr, sum, ◌||◌, eq-eqb, length-append}
+use Rattle.std.proofs.Common.{◌≡◌, ℕ, zero, suc, ◌+◌, ◌*◌, ◌/◌, ◌%◌, ◌<◌, ◌≤◌, true, false, ltb, List, [], ◌∷◌, ◌++◌, length, take, get_or, Option, None, Result, Ok, Err, refl, sym, ap, subst, ◌∙◌, arith, sum, eq-eqb, length-append}
 use Rattle.i9_model.proofs.FrameLaws.{if_none}
-use Rattle.std.proofs.lemmas.Bool.{eqb-true, ltb-false, le-ltb, cases_Bool, or_parts, not-false}
+use Rattle.std.proofs.lemmas.Bool.{eqb-true, le-ltb, not-false}
 use Rattle.std.proofs.lemmas.List.{take_more, take_all, take_at, length-take-le}
 use Rattle.hex.specs.Hex.{decode_of}
 use Rattle.hex.specs.declared.error.FromHexError.{FromHexError}
@@ -32,20 +32,11 @@ with_content line k a c d e r = subst (λ (x : List ℕ). IsRecord line k a x) e
 
 -- where too many data bytes are no fault
 room : (s : HexState) (n : ℕ) → fault_of_more s n ≡ None → length s.pairs + n ≤ most_bytes
-room s n e = elim (cases_Bool (ltb most_bytes (length s.pairs + n))) [
-  | inl over ↦ absurd (cc (rw over at e))
-  | inr fits ↦ ltb-false _ _ fits
-]
-
--- the two bytes before the check byte
-first_two : (rest : List ℕ) → length rest ≡ 3 → take 2 rest ≡ get_or rest 0 0 ∷ get_or rest 1 0 ∷ []
-first_two [] len = absurd (omega arith)
-first_two (a ∷ []) len = absurd (omega arith)
-first_two (a ∷ b ∷ rest) len = refl
+room s n e = grind arith
 
 -- a record of two bytes
 two_bytes : (line : List ℕ) (k a n : ℕ) (rest : List ℕ) → length rest ≡ n + 1 → n ≡ 2 → IsRecord line k a (take n rest) → IsRecord line k a (get_or rest 0 0 ∷ get_or rest 1 0 ∷ [])
-two_bytes line k a n rest len two r = with_content line k a (take n rest) _ (rw two (first_two rest (omega arith))) r
+two_bytes line k a n rest len two r = grind arith
 
 -- a record without fault, by its type
 says_record : (s : HexState) (line : List ℕ) (n h l k : ℕ) (rest : List ℕ) → s.ended ≡ false → IsRecord line k (h * 256 + l) (take n rest) → length rest ≡ n + 1
@@ -78,29 +69,15 @@ record FineBytes (xs : List ℕ) : Type 0 where
 -- bytes without fault passed the tests
 fine_bytes : (xs : List ℕ) → fault_of_bytes xs ≡ None → FineBytes xs
 unfolding fault_of_bytes
-fine_bytes xs h =
-    let a = if_none (ltb (length xs) 5 || not (eqb (length xs) (get_or xs 0 0 + 5))) 3 _ h in
-    let b = if_none (not (eqb (sum xs % 256) 0)) 4 _ a.1 in
-    let c = if_none (ltb 5 (get_or xs 3 0)) 5 _ b.1 in
-    let d = if_none (not (fits_type (get_or xs 3 0) (get_or xs 0 0))) 3 _ c.1 in
-    let e = or_parts (ltb (length xs) 5) (not (eqb (length xs) (get_or xs 0 0 + 5))) a.0 in
-    record {
-      long = ltb-false _ _ e.0;
-      size = eqb-true _ _ (not-false _ e.1);
-      whole = eqb-true _ _ (not-false _ b.0);
-      known = ltb-false _ _ c.0;
-      fits = not-false _ d.0;
-    }
+fine_bytes xs h = grind arith
 
 first_none : (a b : Option ℕ) → first_fault a b ≡ None → (a ≡ None) × (b ≡ None)
-first_none None b h = (refl, h)
-first_none (Some k) b h = absurd cc
+first_none a b h = grind arith
 
 -- fewer than five bytes are at fault
 too_short : (s : HexState) (bytes : List ℕ) → length bytes < 5 → fault_of_digits s (Ok bytes) ≡ None → ⊥
-too_short s bytes short fine =
-    let b = fine_bytes bytes (first_none (fault_of_bytes bytes) (fault_of_room s bytes) fine).0 in
-    absurd (omega (arith, b.long))
+unfolding fault_of_bytes
+too_short s bytes short fine = grind arith
 
 -- bytes without fault say what they lead to
 says-decoded : (s : HexState) (digits : List ℕ) (r : Result (List ℕ) FromHexError) → decode_of digits ≡ r → s.ended ≡ false → fault_of_digits s r ≡ None → Says s (colon ∷ digits) (with_digits s r)
@@ -111,45 +88,21 @@ says-decoded s digits (Ok (n ∷ h ∷ l ∷ k ∷ rest)) decoded going fine =
     let small = (decode_of-ok digits (n ∷ h ∷ l ∷ k ∷ rest) decoded).3 2 in
     let len : length rest ≡ n + 1 = omega (arith, b.size) in
     says_record s (colon ∷ digits) n h l k rest going (is_record digits n h l k rest decoded small len b.whole) len b.known b.fits parts.1
-says-decoded s digits (Ok []) decoded going fine = absurd (too_short s [] (omega arith) fine)
-says-decoded s digits (Ok (n ∷ [])) decoded going fine = absurd (too_short s (n ∷ []) (omega arith) fine)
-says-decoded s digits (Ok (n ∷ h ∷ [])) decoded going fine = absurd (too_short s (n ∷ h ∷ []) (omega arith) fine)
-says-decoded s digits (Ok (n ∷ h ∷ l ∷ [])) decoded going fine = absurd (too_short s (n ∷ h ∷ l ∷ []) (omega arith) fine)
+says-decoded s digits (Ok few) decoded going fine = absurd (too_short s few (omega arith) fine)
 
 -- a line without fault says what it leads to
 pub says_line : (s : HexState) (line : List ℕ) → fault_of s line ≡ None → Says s line (with_line s line)
 unfolding fault_of
 says_line s [] fine = says_nothing s
-says_line s (c ∷ digits) fine =
-    let a = if_none s.ended 7 _ fine in
-    let b = if_none (not (eqb c colon)) 1 _ a.1 in
-    let is_colon : c ≡ colon = eqb-true _ _ (not-false _ b.0) in
-    subst (λ (x : ℕ). Says s (x ∷ digits) (with_digits s (decode_of digits))) (sym is_colon) (says-decoded s digits (decode_of digits) refl a.0 b.1)
+says_line s (c ∷ digits) fine = grind (arith, if_none, eqb-true, not-false, says-decoded)
 
 -- ---- where a line says something
-
--- the bytes of a record that its type allows have no fault
-bytes_fine : (t a check : ℕ) (content : List ℕ) → sum (record_bytes t a content check) % 256 ≡ 0 → t ≤ start_address_type → fits_type t (length content) ≡ true → fault_of_bytes (record_bytes t a content check) ≡ None
-unfolding fault_of_bytes
-bytes_fine t a check content whole known fits =
-    let len : length (record_bytes t a content check) ≡ length content + 5 = omega (arith, length-append content (check ∷ [])) in
-    let long : ltb (length (record_bytes t a content check)) 5 ≡ false = le-ltb _ _ (omega (arith, len)) in
-    let counted : eqb (length (record_bytes t a content check)) (length content + 5) ≡ true = eq-eqb _ _ len in
-    let checked : eqb (sum (record_bytes t a content check) % 256) 0 ≡ true = eq-eqb _ _ whole in
-    let typed : ltb start_address_type t ≡ false = le-ltb _ _ known in
-    rw (long, counted, checked, typed, fits) refl
 
 -- nor has its line, which leads to what the bytes lead to
 line_fine : (s after : HexState) (line : List ℕ) (t a : ℕ) (content : List ℕ) → s.ended ≡ false → IsRecord line t a content → t ≤ start_address_type → fits_type t (length content) ≡ true
     → ((check : ℕ) → (fault_of_room s (record_bytes t a content check) ≡ None) × (with_record s (record_bytes t a content check) ≡ after)) → (fault_of s line ≡ None) × (with_line s line ≡ after)
-unfolding fault_of
-line_fine s after line t a content going r known fits effect =
-    let fine = bytes_fine t a r.check content r.whole known fits in
-    let e = effect r.check in
-    let digits : fault_of_digits s (decode_of r.digits) ≡ None = rw (r.bytes, fine) e.0 in
-    let fault : fault_of s (colon ∷ r.digits) ≡ None = rw going digits in
-    let state : with_line s (colon ∷ r.digits) ≡ after = rw r.bytes e.1 in
-    subst (λ (x : List ℕ). (fault_of s x ≡ None) × (with_line s x ≡ after)) (sym r.text) (fault, state)
+unfolding fault_of fault_of_bytes
+line_fine s after line t a content going r known fits effect = grind (arith, length-append, le-ltb, eq-eqb)
 
 more_fine : (s : HexState) (n : ℕ) → length s.pairs + n ≤ most_bytes → fault_of_more s n ≡ None
 more_fine s n few = let t : ltb most_bytes (length s.pairs + n) ≡ false = le-ltb _ _ few in rw t refl
@@ -157,9 +110,7 @@ more_fine s n few = let t : ltb most_bytes (length s.pairs + n) ≡ false = le-l
 -- the bytes of a data record add its data
 bytes_effect : (s : HexState) (a check : ℕ) (bs : List ℕ) → with_record s (record_bytes data_type a bs check) ≡ with_pairs s a bs
 unfolding with_record
-bytes_effect s a check bs =
-    let e : a / 256 * 256 + a % 256 ≡ a = omega arith in
-    rw (e, take_at bs (check ∷ []) (length bs) refl) refl
+bytes_effect s a check bs = grind (arith, take_at)
 
 -- what a line says is what it leads to, without fault
 pub line_says : (s : HexState) (line : List ℕ) (after : HexState) → Says s line after → (fault_of s line ≡ None) × (with_line s line ≡ after)

@@ -1,11 +1,11 @@
 -- Images with one byte more.
-use Rattle.std.proofs.Common.{◌≡◌, ℕ, zero, suc, ◌+◌, ◌-◌, ◌%◌, ◌<◌, Bool, true, false, cond, eqb, List, [], ◌∷◌, ◌++◌, length, get_or, set, take, map, refl, sym, ap, subst, ◌∙◌, arith, append_assoc, add-zero, inl, inr}
+use Rattle.std.proofs.Common.{◌≡◌, ℕ, zero, suc, ◌+◌, ◌-◌, ◌<◌, Bool, true, false, cond, eqb, List, [], ◌∷◌, ◌++◌, length, get_or, set, take, map, refl, sym, ap, subst, ◌∙◌, arith, append_assoc, add-zero}
 use Rattle.std.specs.List.{AllByRecursion}
 use Rattle.std.proofs.Math.Seq.{map-set_same}
-use Rattle.std.proofs.lemmas.Bool.{eqb-true, cases_Bool}
+use Rattle.std.proofs.lemmas.Bool.{eqb-true}
 use Rattle.std.proofs.lemmas.List.{append-nil, map_push, take_more, length-take-le}
 use Rattle.std.proofs.lemmas.Grind.{flat_map-append}
-use Rattle.i9_model.specs.Image.{address_count, Part, pairs_at, wrapped, pairs_of_part, pairs_of, IsPart, AreParts}
+use Rattle.i9_model.specs.Image.{address_count, Part, pairs_at, wrapped, pairs_of_part, pairs_of, AreParts}
 use Rattle.i9_hex.proofs.Each.{all_push}
 use Rattle.i9_hex.specs.Put.{next_address, ends_before, with_byte, with_pair}
 use Rattle.i9_hex.specs.Shown.{part_of}
@@ -14,9 +14,7 @@ use Rattle.i9_hex.specs.declared.segments.Segment.{Segment}
 -- bytes in a row, in two parts
 pub pairs_at-append : (address : ℕ → ℕ) (n : ℕ) (xs ys : List ℕ) → pairs_at address n (xs ++ ys) ≡ pairs_at address n xs ++ pairs_at address (n + length xs) ys
 pairs_at-append address n [] ys = rw add-zero refl
-pairs_at-append address n (x ∷ xs) ys =
-    let e : n + 1 + length xs ≡ n + suc (length xs) = omega arith in
-    ap (λ (ps : List (ℕ × ℕ)). (address n, x) ∷ ps) (pairs_at-append address (n + 1) xs ys ∙ ap (λ (k : ℕ). pairs_at address (n + 1) xs ++ pairs_at address k ys) e)
+pairs_at-append address n (x ∷ xs) ys = grind (arith, pairs_at-append address (n + 1) xs ys)
 
 -- the data of a record, one byte more
 pub pairs_at-more : (address : ℕ → ℕ) (n i : ℕ) (bs : List ℕ) (ps qs rs : List (ℕ × ℕ)) → i < length bs → qs ≡ ps ++ pairs_at address n (take i bs) → rs ≡ qs ++ (address (n + i), get_or bs i 0) ∷ []
@@ -30,20 +28,17 @@ pairs_at-more address n i bs ps qs rs lt before now =
 
 -- what the test of the last segment finds
 pub ends_before-last : (items : List Segment) (n a : ℕ) (d last : Segment) → suc n ≡ length items → last ≡ get_or items n d → ends_before (map part_of items) a ≡ eqb (next_address (part_of last)) a
-ends_before-last [] n a d last len is = absurd (omega arith)
-ends_before-last (s ∷ []) zero a d last len is = ap (λ (x : Segment). eqb (next_address (part_of x)) a) (sym is)
-ends_before-last (s ∷ []) (suc n) a d last len is = absurd (omega arith)
-ends_before-last (s ∷ t ∷ ss) zero a d last len is = absurd (omega arith)
+ends_before-last (s ∷ []) zero a d last len is = cc
 ends_before-last (s ∷ t ∷ ss) (suc n) a d last len is = ends_before-last (t ∷ ss) n a d last (omega arith) is
+ends_before-last _ _ a d last len is = absurd (omega arith)
 
 -- the last segment with a byte more
 pub parts-grown : (items : List Segment) (n b : ℕ) (old new : Segment) → suc n ≡ length items → old ≡ get_or items n old → part_of new ≡ record { address = old.address; bytes = old.bytes.items ++ b ∷ [] }
     → map part_of (set items n new) ≡ with_byte (map part_of items) b
-parts-grown [] n b old new len is more = absurd (omega arith)
-parts-grown (s ∷ []) zero b old new len is more = ap (λ (p : Part). p ∷ []) (more ∙ ap (λ (x : Segment). let p : Part = record { address = x.address; bytes = x.bytes.items ++ b ∷ [] } in p) is)
-parts-grown (s ∷ []) (suc n) b old new len is more = absurd (omega arith)
-parts-grown (s ∷ t ∷ ss) zero b old new len is more = absurd (omega arith)
-parts-grown (s ∷ t ∷ ss) (suc n) b old new len is more = ap (λ (ps : List Part). part_of s ∷ ps) (parts-grown (t ∷ ss) n b old new (omega arith) is more)
+parts-grown (s ∷ []) zero b old new len is more = cc
+parts-grown (s ∷ t ∷ ss) (suc n) b old new len is more =
+    cc (parts-grown (t ∷ ss) n b old new (omega arith) is more)
+parts-grown _ _ b old new len is more = absurd (omega arith)
 
 -- a byte that was not stored leaves what the segments show
 pub parts-same : (items : List Segment) (n : ℕ) (old new : Segment) → old ≡ get_or items n old → part_of new ≡ part_of old → map part_of (set items n new) ≡ map part_of items
@@ -70,24 +65,13 @@ pairs_of_part-grown p a b next = pairs_at-append wrapped p.address p.bytes (b �
 pairs_of-with_byte : (ps : List Part) (a b : ℕ) → ends_before ps a ≡ true → pairs_of (with_byte ps b) ≡ pairs_of ps ++ (a, b) ∷ []
 unfolding pairs_of
 pairs_of-with_byte [] a b ends = absurd cc
-pairs_of-with_byte (p ∷ []) a b ends =
-    append-nil (pairs_of_part (record p { bytes = p.bytes ++ b ∷ [] })) ∙ pairs_of_part-grown p a b (eqb-true _ _ ends) ∙ ap (λ (qs : List (ℕ × ℕ)). qs ++ (a, b) ∷ []) (sym (append-nil (pairs_of_part p)))
-pairs_of-with_byte (p ∷ q ∷ ps) a b ends =
-    ap (λ (qs : List (ℕ × ℕ)). pairs_of_part p ++ qs) (pairs_of-with_byte (q ∷ ps) a b ends) ∙ sym (append_assoc (pairs_of_part p) (pairs_of (q ∷ ps)) ((a, b) ∷ []))
-
-pairs_of-new_part : (ps : List Part) (a b : ℕ) → a < address_count → pairs_of (ps ++ record { address = a; bytes = b ∷ [] } ∷ []) ≡ pairs_of ps ++ (a, b) ∷ []
-unfolding pairs_of
-pairs_of-new_part ps a b small =
-    let e : a % address_count ≡ a = omega arith in
-    flat_map-append pairs_of_part ps (record { address = a; bytes = b ∷ [] } ∷ []) ∙ ap (λ (k : ℕ). pairs_of ps ++ (k, b) ∷ []) e
+pairs_of-with_byte (p ∷ []) a b ends = grind (arith, append-nil, pairs_of_part-grown, eqb-true)
+pairs_of-with_byte (p ∷ q ∷ ps) a b ends = grind (arith, append_assoc, pairs_of-with_byte (q ∷ ps) a b ends)
 
 -- one pair more is the last
 pub pairs_of-with_pair : (ps : List Part) (a b : ℕ) → a < address_count → pairs_of (with_pair ps a b) ≡ pairs_of ps ++ (a, b) ∷ []
-unfolding with_pair
-pairs_of-with_pair ps a b small = elim (cases_Bool (ends_before ps a)) [
-  | inl joins ↦ rw joins (pairs_of-with_byte ps a b joins)
-  | inr begins ↦ rw begins (pairs_of-new_part ps a b small)
-]
+unfolding pairs_of with_pair
+pairs_of-with_pair ps a b small = grind (arith, pairs_of-with_byte, flat_map-append)
 
 -- the same, as a call of `put` shows it
 pub one_pair_more : (ps qs : List Part) (a b : ℕ) → a < address_count → qs ≡ with_pair ps a b → pairs_of qs ≡ pairs_of ps ++ (a, b) ∷ []
@@ -102,10 +86,7 @@ AreParts-with_byte (p ∷ q ∷ ps) b small h = (h.0, AreParts-with_byte (q ∷ 
 
 pub AreParts-with_pair : (ps : List Part) (a b : ℕ) → a < address_count → b < 256 → AreParts ps → AreParts (with_pair ps a b)
 unfolding with_pair
-AreParts-with_pair ps a b small byte h = elim (cases_Bool (ends_before ps a)) [
-  | inl joins ↦ rw joins (AreParts-with_byte ps b byte h)
-  | inr begins ↦ rw begins (all_push IsPart ps (record { address = a; bytes = b ∷ [] }) h (record { address = small; bytes = (byte, tt) }))
-]
+AreParts-with_pair ps a b small byte h = grind (arith, all_push, AreParts-with_byte)
 
 -- ---- a segment more
 
@@ -115,6 +96,5 @@ AreBytes-from (x ∷ xs) h = (h 0 (omega arith), AreBytes-from xs (λ k lt. h (s
 
 -- where a push went well or not
 pub AreParts-pushed : (well : Bool) (old new : List Segment) (s : Segment) → new ≡ cond well (old ++ s ∷ []) old → s.address < address_count → ((k : ℕ) → k < length s.bytes.items → get_or s.bytes.items k 0 < 256) → AreParts (map part_of old) → AreParts (map part_of new)
-AreParts-pushed true old new s is small low h =
-    subst (λ (ps : List Part). AreParts ps) (sym (ap (map part_of) is ∙ map_push part_of old s)) (all_push IsPart (map part_of old) (part_of s) h (record { address = small; bytes = AreBytes-from s.bytes.items low }))
+AreParts-pushed true old new s is small low h = grind (arith, map_push, all_push, AreBytes-from)
 AreParts-pushed false old new s is small low h = subst (λ (xs : List Segment). AreParts (map part_of xs)) (sym is) h

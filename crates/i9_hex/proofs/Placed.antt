@@ -1,7 +1,6 @@
 -- The pairs of images stand in the address space, and runs have no more of them than their image.
-use Rattle.std.proofs.Common.{ℕ, ◌+◌, ◌<◌, ◌≤◌, ltb, eqb, List, [], ◌∷◌, ◌++◌, length, sym, subst, ◌∙◌, arith, inl, inr}
+use Rattle.std.proofs.Common.{ℕ, ◌+◌, ◌<◌, ◌≤◌, List, [], ◌∷◌, ◌++◌, length, sym, subst, ◌∙◌, arith}
 use Rattle.std.specs.List.{AllByRecursion}
-use Rattle.std.proofs.lemmas.Bool.{cases_Bool}
 use Rattle.i9_model.specs.Image.{Part, upwards, pairs_of, AreParts}
 use Rattle.i9_hex.specs.Runs.{IsLow, AreRuns}
 use Rattle.i9_hex.proofs.Rising.{ArePlaced, rises_once, with_earlier, in_order, in_order_rises, in_order_placed, in_order_says}
@@ -31,13 +30,7 @@ parts_placed (part ∷ image) h = placed_bytes part.address part.bytes (pairs_of
 
 earlier_more : (p : ℕ × ℕ) (ps : List (ℕ × ℕ)) → length (with_earlier p ps) ≤ length ps + 1
 earlier_more p [] = omega arith
-earlier_more p (q ∷ qs) = elim (cases_Bool (ltb p.0 q.0)) [
-  | inl first ↦ rw first (omega arith)
-  | inr later ↦ elim (cases_Bool (eqb p.0 q.0)) [
-    | inl same ↦ rw (later, same) (omega arith)
-    | inr other ↦ let more = earlier_more p qs in rw (later, other) (omega (arith, more))
-  ]
-]
+earlier_more p (q ∷ qs) = grind (arith, earlier_more p qs)
 
 in_order_few : (ps : List (ℕ × ℕ)) → length (in_order ps) ≤ length ps
 in_order_few [] = omega arith

@@ -4,7 +4,7 @@ use Rattle.std.proofs.Common.{◌≡◌, ℕ, suc, ◌+◌, ◌<◌, ◌≤◌, 
 use Rattle.std.specs.List.{filter, All, AllByRecursion}
 use Rattle.std.specs.List.Sorted.{IsNonDecreasingBy, IsStableByKey, ties}
 use Rattle.std.specs.Ordering.{nat_cmp, is_lt}
-use Rattle.std.proofs.lemmas.Bool.{cases_Bool, cases_lt, eqb-true, ne_eqb}
+use Rattle.std.proofs.lemmas.Bool.{cases_lt, ne_eqb}
 use Rattle.i9_model.proofs.Upwards.{or_none as or_nothing}
 use Rattle.i9_model.specs.Writes.{or_earlier, last_put}
 use Rattle.i9_hex.specs.Runs.{SaySameBytes}
@@ -12,17 +12,9 @@ use Rattle.i9_hex.specs.Pairs.{IsPlaced, begins_at}
 
 -- ---- what is said of one address
 
--- of two pairs with one address the earlier says nothing
-or_twice : (o : Option ℕ) (v : ℕ) (e : Option ℕ) → or_earlier (or_earlier o (Some v)) e ≡ or_earlier o (Some v)
-or_twice None v e = refl
-or_twice (Some w) v e = refl
-
 -- what one pair says of an address
 abbrev pub said_by : ℕ × ℕ → ℕ → Option ℕ
 said_by p a = cond (eqb a p.0) (Some p.1) None
-
-says_own : (p : ℕ × ℕ) (a : ℕ) → a ≡ p.0 → said_by p a ≡ Some p.1
-says_own p a e = let t : eqb a p.0 ≡ true = grind arith in rw t refl
 
 says_other : (p : ℕ × ℕ) (a : ℕ) → (a ≡ p.0 → ⊥) → said_by p a ≡ None
 says_other p a other = rw (ne_eqb a p.0 other) refl
@@ -41,37 +33,29 @@ rises-from m n (p ∷ ps) le h = (omega (arith, h.0), h.1)
 pub rises-below : (n a : ℕ) (ps : List (ℕ × ℕ)) → Rises n ps → a < n → last_put ps a ≡ None
 unfolding last_put
 rises-below n a [] h low = refl
-rises-below n a (p ∷ ps) h low =
-    let rest = rises-below (p.0 + 1) a ps h.1 (omega (arith, h.0)) in
-    rw (rest, says_other p a (λ e. omega (arith, h.0))) refl
+rises-below n a (p ∷ ps) h low = grind (arith, says_other, rises-below (p.0 + 1) a ps h.1 (omega (arith, h.0)))
 
 rises-head : (n : ℕ) (p : ℕ × ℕ) (ps : List (ℕ × ℕ)) → Rises n (p ∷ ps) → last_put (p ∷ ps) p.0 ≡ Some p.1
 unfolding last_put
-rises-head n p ps h = rw (rises-below (p.0 + 1) p.0 ps h.1 (omega arith), says_own p p.0 refl) refl
+rises-head n p ps h = grind (arith, rises-below)
 
 rises-rest : (n a : ℕ) (p : ℕ × ℕ) (ps : List (ℕ × ℕ)) → Rises n (p ∷ ps) → p.0 < a → last_put (p ∷ ps) a ≡ last_put ps a
 unfolding last_put
 rises-rest n a p ps h above = rw (says_other p a (λ e. omega arith)) (or_nothing (last_put ps a))
 
-some_value : (v w : ℕ) → ◌≡◌ {A = Option ℕ} (Some v) (Some w) → v ≡ w
-some_value v w e = cc
-
-never_some : (v : ℕ) → ◌≡◌ {A = Option ℕ} None (Some v) → ⊥
-never_some v e = absurd cc
-
 -- pairs that rise are known by what they say
 pub rises_once : (n : ℕ) (ps qs : List (ℕ × ℕ)) → Rises n ps → Rises n qs → SaySameBytes ps qs → ps ≡ qs
 unfolding last_put
 rises_once n [] [] h g same = refl
-rises_once n [] (q ∷ qs) h g same = absurd (never_some q.1 (sym (same q.0) ∙ rises-head n q qs g))
-rises_once n (p ∷ ps) [] h g same = absurd (never_some p.1 (same p.0 ∙ rises-head n p ps h))
+rises_once n [] (q ∷ qs) h g same = absurd (cc (same q.0, rises-head n q qs g))
+rises_once n (p ∷ ps) [] h g same = absurd (cc (same p.0, rises-head n p ps h))
 rises_once n (p ∷ ps) (q ∷ qs) h g same = elim (cases_lt p.0 q.0) [
-  | inl lt ↦ absurd (never_some p.1 (sym (rises-below q.0 p.0 (q ∷ qs) (omega arith, g.1) lt) ∙ same p.0 ∙ rises-head n p ps h))
+  | inl lt ↦ absurd (cc (rises-below q.0 p.0 (q ∷ qs) (omega arith, g.1) lt, same p.0, rises-head n p ps h))
   | inr le ↦ elim (cases_lt q.0 p.0) [
-    | inl gt ↦ absurd (never_some q.1 (sym (rises-below p.0 q.0 (p ∷ ps) (omega arith, h.1) gt) ∙ sym (same q.0) ∙ rises-head n q qs g))
+    | inl gt ↦ absurd (cc (rises-below p.0 q.0 (p ∷ ps) (omega arith, h.1) gt, same q.0, rises-head n q qs g))
     | inr ge ↦
         let e : p.0 ≡ q.0 = omega arith in
-        let v : p.1 ≡ q.1 = some_value p.1 q.1 (sym (rises-head n p ps h) ∙ sym (same p.0) ∙ ap (last_put (q ∷ qs)) e ∙ rises-head n q qs g) in
+        let v : p.1 ≡ q.1 = cc (rises-head n p ps h, same p.0, ap (last_put (q ∷ qs)) e, rises-head n q qs g) in
         let rest : SaySameBytes ps qs = λ a. elim (cases_lt p.0 a) [
           | inl above ↦ sym (rises-rest n a q qs g (omega arith)) ∙ same a ∙ rises-rest n a p ps h above
           | inr below ↦ rises-below (q.0 + 1) a qs g.1 (omega arith) ∙ sym (rises-below (p.0 + 1) a ps h.1 (omega arith))
@@ -109,64 +93,36 @@ climbs-from m n [] le h = tt
 climbs-from m n (p ∷ ps) le h = (omega (arith, h.0), h.1)
 
 climbs-past : (a : ℕ) (ps : List (ℕ × ℕ)) → begins_at ps a ≡ false → Climbs a ps → Climbs (a + 1) ps
-climbs-past a [] other h = tt
-climbs-past a (p ∷ ps) other h = (past p.0 other h.0, h.1)
-  where
-    past : (x : ℕ) → eqb x a ≡ false → a ≤ x → a + 1 ≤ x
-    past x apart le = grind arith
+climbs-past a ps other h = grind arith
 
 pub kept_rises : (n : ℕ) (ps : List (ℕ × ℕ)) → Climbs n ps → Rises n (kept ps)
 kept_rises n [] h = tt
-kept_rises n (p ∷ ps) h = elim (cases_Bool (begins_at ps p.0)) [
-  | inl again ↦ rw again (kept_rises n ps (climbs-from n p.0 ps h.0 h.1))
-  | inr last ↦ rw last (h.0, kept_rises (p.0 + 1) ps (climbs-past p.0 ps last h.1))
-]
+kept_rises n (p ∷ ps) h =
+    grind (arith, kept_rises n ps (climbs-from n p.0 ps h.0 h.1), kept_rises (p.0 + 1) ps, climbs-past p.0 ps)
 
 pub kept_placed : (ps : List (ℕ × ℕ)) → ArePlaced ps → ArePlaced (kept ps)
 kept_placed [] h = tt
-kept_placed (p ∷ ps) h = elim (cases_Bool (begins_at ps p.0)) [
-  | inl again ↦ rw again (kept_placed ps h.1)
-  | inr last ↦ rw last (h.0, kept_placed ps h.1)
-]
+kept_placed (p ∷ ps) h = grind (arith, kept_placed ps h.1)
 
 hidden : (a : ℕ) (p : ℕ × ℕ) (ps : List (ℕ × ℕ)) → begins_at ps p.0 ≡ true → last_put (p ∷ ps) a ≡ last_put ps a
 unfolding last_put
-hidden a p [] begins = absurd cc
-hidden a p (q ∷ qs) begins =
-    let e : q.0 ≡ p.0 = eqb-true q.0 p.0 begins in
-    elim (cases_Bool (eqb a q.0)) [
-      | inl own ↦ rw own (or_twice (last_put qs a) q.1 (said_by p a))
-      | inr other ↦
-          let apart : eqb a p.0 ≡ false = ap (eqb a) (sym e) ∙ other in
-          rw (other, apart) (or_nothing (or_earlier (last_put qs a) None))
-    ]
+hidden a p ps begins = grind arith
 
 pub kept_says : (ps : List (ℕ × ℕ)) → SaySameBytes ps (kept ps)
 unfolding last_put
 kept_says [] a = refl
-kept_says (p ∷ ps) a = elim (cases_Bool (begins_at ps p.0)) [
-  | inl again ↦ rw again (kept_says ps a ∙ sym (hidden a p ps again))
-  | inr last ↦ rw last (ap (λ o. or_earlier o (said_by p a)) (kept_says ps a))
-]
+kept_says (p ∷ ps) a = grind (arith, kept_says ps a, hidden a p ps)
 
 -- ---- a stable sort
 
 tied : (a : ℕ) (p : ℕ × ℕ) → ties (λ (x y : ℕ × ℕ). is_lt (nat_cmp x.0 y.0)) (a, 0) p ≡ eqb a p.0
-tied a p = ties_eqb a p.0
-  where
-    ties_eqb : (x y : ℕ) → ties (λ (u v : ℕ). is_lt (nat_cmp u v)) x y ≡ eqb x y
-    ties_eqb x y = grind arith
+tied a p = grind arith
 
 -- what is said of an address is said by its own pairs
 own_say : (a : ℕ) (t : ℕ × ℕ → Bool) (ps : List (ℕ × ℕ)) → ((p : ℕ × ℕ) → t p ≡ eqb a p.0) → last_put (filter t ps) a ≡ last_put ps a
 unfolding last_put
 own_say a t [] is = refl
-own_say a t (p ∷ ps) is = elim (cases_Bool (t p)) [
-  | inl own ↦ rw own (ap (λ o. or_earlier o (said_by p a)) (own_say a t ps is))
-  | inr other ↦
-      let apart : eqb a p.0 ≡ false = sym (is p) ∙ other in
-      rw (other, apart) (own_say a t ps is ∙ sym (or_nothing (last_put ps a)))
-]
+own_say a t (p ∷ ps) is = grind (arith, own_say a t ps is, is p, or_nothing (last_put ps a))
 
 -- a stable sort by address says the same bytes
 pub stable_says : (ps qs : List (ℕ × ℕ)) → IsStableByKey (λ (p : ℕ × ℕ). p.0) nat_cmp ps qs → SaySameBytes ps qs
@@ -194,53 +150,20 @@ in_order (p ∷ ps) = with_earlier p (in_order ps)
 
 earlier_rises : (n : ℕ) (p : ℕ × ℕ) (ps : List (ℕ × ℕ)) → n ≤ p.0 → Rises n ps → Rises n (with_earlier p ps)
 earlier_rises n p [] le h = (le, tt)
-earlier_rises n p (q ∷ qs) le h = elim (cases_Bool (ltb p.0 q.0)) [
-  | inl first ↦ rw first (le, (below p.0 q.0 first, h.1))
-  | inr later ↦ elim (cases_Bool (eqb p.0 q.0)) [
-    | inl same ↦ rw (later, same) h
-    | inr other ↦ rw (later, other) (h.0, earlier_rises (q.0 + 1) p qs (above p.0 q.0 later other) h.1)
-  ]
-]
-  where
-    below : (x y : ℕ) → ltb x y ≡ true → x + 1 ≤ y
-    below x y lt = grind arith
-
-    above : (x y : ℕ) → ltb x y ≡ false → eqb x y ≡ false → y + 1 ≤ x
-    above x y ge apart = grind arith
+earlier_rises n p (q ∷ qs) le h = grind (arith, earlier_rises (q.0 + 1) p qs)
 
 earlier_placed : (p : ℕ × ℕ) (ps : List (ℕ × ℕ)) → IsPlaced p → ArePlaced ps → ArePlaced (with_earlier p ps)
 earlier_placed p [] new h = (new, tt)
-earlier_placed p (q ∷ qs) new h = elim (cases_Bool (ltb p.0 q.0)) [
-  | inl first ↦ rw first (new, h)
-  | inr later ↦ elim (cases_Bool (eqb p.0 q.0)) [
-    | inl same ↦ rw (later, same) h
-    | inr other ↦ rw (later, other) (h.0, earlier_placed p qs new h.1)
-  ]
-]
+earlier_placed p (q ∷ qs) new h = grind (arith, earlier_placed p qs new h.1)
 
 -- pairs at two addresses speak past each other
 say_apart : (o : Option ℕ) (p q : ℕ × ℕ) (a : ℕ) → eqb p.0 q.0 ≡ false → or_earlier (or_earlier o (said_by p a)) (said_by q a) ≡ or_earlier (or_earlier o (said_by q a)) (said_by p a)
-say_apart o p q a apart = elim (cases_Bool (eqb a p.0)) [
-  | inl own ↦
-      let e : a ≡ p.0 = eqb-true a p.0 own in
-      let other : eqb a q.0 ≡ false = ap (λ x. eqb x q.0) e ∙ apart in
-      rw (own, other) (or_nothing (or_earlier o (Some p.1)) ∙ sym (ap (λ x. or_earlier x (Some p.1)) (or_nothing o)))
-  | inr other ↦ rw other (ap (λ x. or_earlier x (said_by q a)) (or_nothing o) ∙ sym (or_nothing (or_earlier o (said_by q a))))
-]
-
-eqb-flip : (a b : ℕ) → eqb a b ≡ true → eqb b a ≡ true
-eqb-flip a b h = grind arith
+say_apart o p q a apart = grind arith
 
 earlier_says : (p : ℕ × ℕ) (ps : List (ℕ × ℕ)) (a : ℕ) → last_put (with_earlier p ps) a ≡ last_put (p ∷ ps) a
 unfolding last_put
 earlier_says p [] a = refl
-earlier_says p (q ∷ qs) a = elim (cases_Bool (ltb p.0 q.0)) [
-  | inl first ↦ rw first refl
-  | inr later ↦ elim (cases_Bool (eqb p.0 q.0)) [
-    | inl same ↦ rw (later, same) (sym (hidden a p (q ∷ qs) (eqb-flip p.0 q.0 same)))
-    | inr other ↦ rw (later, other) (ap (λ o. or_earlier o (said_by q a)) (earlier_says p qs a) ∙ say_apart (last_put qs a) p q a other)
-  ]
-]
+earlier_says p (q ∷ qs) a = grind (arith, hidden a p (q ∷ qs), earlier_says p qs a, say_apart (last_put qs a) p q a)
 
 pub in_order_rises : (ps : List (ℕ × ℕ)) → Rises 0 (in_order ps)
 in_order_rises [] = tt

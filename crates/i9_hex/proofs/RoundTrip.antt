@@ -1,10 +1,10 @@
 -- What is written is read again.
-use Rattle.std.proofs.Common.{◌≡◌, ℕ, zero, suc, ◌+◌, ◌-◌, ◌*◌, ◌/◌, ◌%◌, ◌<◌, ◌≤◌, true, false, eqb, List, [], ◌∷◌, ◌++◌, length, take, drop, sum, refl, sym, ap, subst, ◌∙◌, append_assoc, arith, inl, inr, length-append, length-drop, lit<, zero-add}
+use Rattle.std.proofs.Common.{◌≡◌, ℕ, zero, suc, ◌+◌, ◌*◌, ◌/◌, ◌%◌, ◌<◌, ◌≤◌, true, false, eqb, List, [], ◌∷◌, ◌++◌, length, take, drop, refl, sym, ap, subst, ◌∙◌, append_assoc, arith, inl, inr, length-append, length-drop, lit<, zero-add}
 use Rattle.std.specs.List.{flat_map, AllByRecursion}
 use Rattle.std.proofs.lemmas.Bool.{cases_Bool, cases_lt, eqb-true}
 use Rattle.std.proofs.lemmas.List.{append-nil, length-take, take-append-drop, drop_all}
 use Rattle.std.proofs.lemmas.Grind.{flat_map-append, fold-append}
-use Rattle.hex.specs.Hex.{encode_upper, IsBytes}
+use Rattle.hex.specs.Hex.{IsBytes}
 use Rattle.hex.proofs.HexLemmas.{decode_of-encode_upper}
 use Rattle.i9_text.specs.Text.{lines_of}
 use Rattle.i9_text.specs.FirstFault as texts
@@ -12,7 +12,7 @@ use Rattle.i9_text.proofs.FirstFaultOnce.{SaysAll-append}
 use Rattle.i9_text.proofs.WrittenLines.{IsPlain, lines_of-written, plain-encode_upper}
 use Rattle.i9_model.specs.Image.{address_count, wrapped, Part, pairs_at, upwards, pairs_of_part, pairs_of, AreParts}
 use Rattle.i9_model.specs.HexText.{most_bytes, data_type, end_type, upper_type, Upper, address_in, HexState, start, IsRecord, Says, says_nothing, says_bytes, says_end, says_upper, IsImage}
-use Rattle.i9_hex.specs.Writing.{check_of, front_of, record_line, piece_len, cut, pieces_of, upper_lines, piece_lines, body_lines, upper_after, end_line, hex_lines, hex_text}
+use Rattle.i9_hex.specs.Writing.{record_line, piece_len, cut, pieces_of, upper_lines, piece_lines, body_lines, upper_after, end_line, hex_lines, hex_text}
 use Rattle.i9_model.proofs.Reading.{length-pairs_at}
 use Rattle.i9_hex.proofs.Each.{all_append, all_take, all_drop}
 use Rattle.i9_hex.proofs.PartLemmas.{pairs_at-append}
@@ -34,33 +34,14 @@ record Fits (record_type address : ℕ) (content : List ℕ) : Type 0 where
   content_short : length content < 256
   content_bytes : AreBytes content
 
-all_bytes : (record_type address : ℕ) (content : List ℕ) → Fits record_type address content → AreBytes (front_of record_type address content ++ check_of (front_of record_type address content) ∷ [])
-all_bytes record_type address content h =
-    all_append (λ b. b < 256) (front_of record_type address content) (check_of (front_of record_type address content) ∷ [])
-    (h.content_short, (omega (arith, h.address_small), (omega arith, (h.type_small, h.content_bytes)))) (omega arith, tt)
-
-check_whole : (s : ℕ) → (s + (256 - s % 256) % 256) % 256 ≡ 0
-check_whole s = omega arith
-
 is_written : (record_type address : ℕ) (content : List ℕ) → Fits record_type address content → IsRecord (record_line record_type address content) record_type address content
 unfolding record_line
 is_written record_type address content h =
-    let front = front_of record_type address content in
-    let more : sum (front ++ check_of front ∷ []) ≡ sum front + check_of front = fold-append (λ (a x : ℕ). a + x) 0 front (check_of front ∷ []) in
-    let zero_sum : sum (front ++ check_of front ∷ []) % 256 ≡ 0 = ap (λ (n : ℕ). n % 256) more ∙ check_whole (sum front) in
-    record {
-      digits = encode_upper (front ++ check_of front ∷ []);
-      check = check_of front;
-      text = refl;
-      bytes = decode_of-encode_upper (front ++ check_of front ∷ []) (IsBytes-recursion (front ++ check_of front ∷ []) (all_bytes record_type address content h));
-      whole = zero_sum;
-    }
+    grind (arith, fold-append, decode_of-encode_upper, IsBytes-recursion, all_append)
 
 line_written : (record_type address : ℕ) (content : List ℕ) → Fits record_type address content → IsPlain (record_line record_type address content)
 unfolding record_line
-line_written record_type address content h =
-    let front = front_of record_type address content in
-    record { test = plain-encode_upper (front ++ check_of front ∷ []) }
+line_written record_type address content h = grind (arith, plain-encode_upper)
 
 -- ---- one piece
 
@@ -69,9 +50,7 @@ SaysAll = texts.SaysAll Says
 
 upper-upwards : (half low : ℕ) (bs : List ℕ) → pairs_at (address_in (Upper half)) low bs ≡ upwards (half * 65536 + low) bs
 upper-upwards half low [] = refl
-upper-upwards half low (b ∷ bs) =
-    let e : half * 65536 + (low + 1) ≡ half * 65536 + low + 1 = omega arith in
-    ap (λ (ps : List (ℕ × ℕ)). ((half * 65536 + low) % address_count, b) ∷ ps) (upper-upwards half (low + 1) bs ∙ ap (λ (k : ℕ). upwards k bs) e)
+upper-upwards half low (b ∷ bs) = grind (arith, upper-upwards half (low + 1) bs)
 
 abbrev at_upper : List (ℕ × ℕ) → ℕ → HexState
 at_upper pairs half = record { pairs = pairs; origin = Upper half; ended = false }
@@ -145,14 +124,7 @@ upwards-same a c (b ∷ bs) e =
 
 -- the bytes behind the first k, from where they stand
 upwards-rest : (a k : ℕ) (bs : List ℕ) → upwards ((a + k) % address_count) (drop k bs) ≡ upwards (a + length (take k bs)) (drop k bs)
-upwards-rest a k bs =
-    elim (cases_lt k (length bs)) [
-      | inl lt ↦
-          let len : length (take k bs) ≡ k = omega (arith, length-take k bs) in
-          let e : (a + k) % address_count % address_count ≡ (a + k) % address_count = omega arith in
-          rw len (upwards-same ((a + k) % address_count) (a + k) (drop k bs) e)
-      | inr le ↦ rw (drop_all k bs le) refl
-    ]
+upwards-rest a k bs = grind (arith, cases_lt, length-take, upwards-same, drop_all)
 
 pairs-cut : (n a : ℕ) (bs : List ℕ) → length bs ≤ n → pairs_of_pieces (cut n a bs) ≡ upwards a bs
 unfolding cut
@@ -176,26 +148,19 @@ all_pieces (p ∷ parts) h = all_append IsPiece (pieces_of p) (pieces parts) (ar
 pairs-pieces : (parts : List Part) → pairs_of_pieces (pieces parts) ≡ pairs_of parts
 unfolding pairs_of
 pairs-pieces [] = refl
-pairs-pieces (p ∷ parts) =
-    flat_map-append pairs_of_part (pieces_of p) (pieces parts) ∙ ap (λ (ps : List (ℕ × ℕ)). ps ++ pairs_of_pieces (pieces parts)) (pairs-cut (length p.bytes) p.address p.bytes (omega arith))
-    ∙ ap (λ (ps : List (ℕ × ℕ)). pairs_of_part p ++ ps) (pairs-pieces parts)
+pairs-pieces (p ∷ parts) = grind (arith, flat_map-append, pairs-cut, pairs-pieces parts)
 
 -- ---- the whole text
 
 upper_are_lines : (u half : ℕ) → half < 65536 → AllByRecursion IsPlain (upper_lines u half)
 upper_are_lines u half small =
-    elim (cases_Bool (eqb half u)) [
-      | inl same ↦ rw same tt
-      | inr other ↦ rw other (line_written upper_type 0 (half / 256 ∷ half % 256 ∷ []) (upper_fits half small), tt)
-    ]
+    grind (arith, line_written upper_type 0 (half / 256 ∷ half % 256 ∷ []) (upper_fits half small))
 
 body_are_lines : (u : ℕ) (ps : List Part) → AllByRecursion IsPiece ps → AllByRecursion IsPlain (body_lines u ps)
 unfolding body_lines
 body_are_lines u [] h = tt
 body_are_lines u (p ∷ ps) h =
-    all_append IsPlain (piece_lines u p) (body_lines (p.address / 65536) ps)
-    (all_append IsPlain (upper_lines u (p.address / 65536)) (record_line data_type (p.address % 65536) p.bytes ∷ []) (upper_are_lines u (p.address / 65536) (omega (arith, h.0.piece_address))) (line_written data_type (p.address % 65536) p.bytes (piece_fits p h.0), tt))
-    (body_are_lines (p.address / 65536) ps h.1)
+    grind (arith, all_append, upper_are_lines, line_written, piece_fits, body_are_lines (p.address / 65536) ps h.1)
 
 end_fits : Fits end_type 0 []
 end_fits = record { type_small = lit< tt; address_small = lit< tt; content_short = lit< tt; content_bytes = tt }

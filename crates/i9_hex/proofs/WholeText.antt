@@ -1,12 +1,11 @@
 -- What the reader of a text answers: the image that the lines say, or the first fault.
-use Rattle.std.proofs.Common.{◌≡◌, ℕ, Bool, true, false, List, Option, Some, None, Result, Ok, Err, refl, ap, subst, IfOk, IfErr}
+use Rattle.std.proofs.Common.{◌≡◌, ℕ, Bool, true, List, Option, None, Result, Ok, Err, refl, ap, subst, IfOk, IfErr, arith}
 use Rattle.i9_text.specs.Text.{lines_of}
 use Rattle.i9_text.specs.FirstFault.{or_fault}
 use Rattle.i9_text.proofs.FirstFault.{read_from, SaysAll-read, read_from-says, read_from-refused, refused-read}
 use Rattle.i9_model.specs.Image.{Part, pairs_of}
 use Rattle.i9_model.specs.HexText.{HexState, start, Says, fault_of, missing_end, IsImage, IsRefused}
 use Rattle.i9_hex.specs.declared.error.HexError.{HexError}
-use Rattle.i9_hex.specs.declared.error.HexError.TheVariants.{Bad, Memory}
 use Rattle.i9_hex.specs.Lines.{with_line}
 use Rattle.i9_hex.specs.Reading.{place_of, Reads, IfBad}
 use Rattle.i9_hex.proofs.OneLine.{says_line, line_says}
@@ -25,22 +24,15 @@ answer_of text = pairs_or_fault (state_or_fault text)
 
 -- at the end of the text
 pub pairs-at_end : (o : Option ℕ) (n : ℕ) (s : HexState) → pairs_or_fault (or_fault o n (Ok s)) ≡ or_fault o n (Ok s.pairs)
-pairs-at_end None n s = refl
-pairs-at_end (Some kind) n s = refl
+pairs-at_end o n s = grind arith
 
 -- where the answer is an image, or a fault
 pairs_ok : (r : Result HexState (ℕ × ℕ)) (ps : List (ℕ × ℕ)) → pairs_or_fault r ≡ Ok ps → (t : HexState) × (r ≡ Ok t) × (t.pairs ≡ ps)
-pairs_ok (Ok t) ps e = (t, refl, cc)
-pairs_ok (Err f) ps e = absurd cc
-
-pairs_err : (r : Result HexState (ℕ × ℕ)) (f : ℕ × ℕ) → pairs_or_fault r ≡ Err f → r ≡ Err f
-pairs_err (Ok t) f e = absurd cc
-pairs_err (Err g) f e = let same : g ≡ f = cc in ap Err same
+pairs_ok r ps e = grind arith
 
 -- the end record was read exactly where nothing is missing
 pub is_ended : (s : HexState) (b : Bool) → s.ended ≡ b → missing_end s ≡ None → s.ended ≡ true
-is_ended s true is fine = is
-is_ended s false is fine = absurd (cc (rw is at fine))
+is_ended s b is fine = grind arith
 
 pub has_end : (s : HexState) → s.ended ≡ true → missing_end s ≡ None
 has_end s ended = rw ended refl
@@ -61,12 +53,7 @@ only text r h pairs image =
     subst (λ (a : Result (List (ℕ × ℕ)) (ℕ × ℕ)). Reads r a) answer h
 
 pub refused : (text : List ℕ) (r : Result (List Part) HexError) → Reads r (answer_of text) → IfErr r (λ e. IfBad e (λ f. IsRefused (lines_of text) (place_of f)))
-refused text (Ok x) h = tt
-refused text (Err Memory) h = tt
-refused text (Err (Bad f)) h = refused-read Says fault_of with_line missing_end start says_line line_says (lines_of text) (place_of f) (pairs_err (state_or_fault text) (place_of f) h)
+refused text r h = grind (arith, refused-read, says_line, line_says)
 
 pub first : (text : List ℕ) (r : Result (List Part) HexError) → Reads r (answer_of text) → (fault : ℕ × ℕ) → IsRefused (lines_of text) fault → Reads r (Err fault)
-first text r h fault bad =
-    let e = read_from-refused Says fault_of with_line missing_end start says_line line_says (lines_of text) fault bad in
-    let answer : answer_of text ≡ Err fault = rw e refl in
-    subst (λ (a : Result (List (ℕ × ℕ)) (ℕ × ℕ)). Reads r a) answer h
+first text r h fault bad = grind (arith, read_from-refused, says_line, line_says)

@@ -1,7 +1,6 @@
 -- The steps of writing pieces one after the other.
-use Rattle.std.proofs.Common.{◌≡◌, ℕ, zero, suc, ◌+◌, ◌/◌, ◌%◌, ◌<◌, ◌≤◌, List, [], ◌∷◌, ◌++◌, length, take, drop, get_or, min, map, refl, sym, ap, ◌∙◌, append_assoc, arith, inl, inr, length-drop}
+use Rattle.std.proofs.Common.{◌≡◌, ℕ, zero, suc, ◌+◌, ◌/◌, ◌%◌, ◌<◌, ◌≤◌, List, [], ◌∷◌, ◌++◌, length, take, drop, get_or, min, map, refl, sym, ap, ◌∙◌, append_assoc, arith, length-drop}
 use Rattle.std.specs.List.{flat_map}
-use Rattle.std.proofs.lemmas.Bool.{cases_lt}
 use Rattle.std.proofs.lemmas.List.{append-nil, take_all, drop_all, take_more, map_push}
 use Rattle.std.proofs.lemmas.Grind.{flat_map-append}
 use Rattle.i9_model.specs.Image.{address_count, Part}
@@ -16,37 +15,24 @@ pub cut-fuel : (n m a : ℕ) (bs : List ℕ) → length bs ≤ n → length bs �
 unfolding cut
 cut-fuel zero zero a bs h g = refl
 cut-fuel zero (suc m) a [] h g = refl
-cut-fuel zero (suc m) a (b ∷ bs) h g = absurd (omega arith)
 cut-fuel (suc n) zero a [] h g = refl
-cut-fuel (suc n) zero a (b ∷ bs) h g = absurd (omega arith)
 cut-fuel (suc n) (suc m) a [] h g = refl
 cut-fuel (suc n) (suc m) a (b ∷ bs) h g =
     let len = length-drop (piece_len a) (b ∷ bs) in
     ap (λ (ps : List Part). record { address = a; bytes = take (piece_len a) (b ∷ bs) } ∷ ps)
     (cut-fuel n m ((a + piece_len a) % address_count) (drop (piece_len a) (b ∷ bs)) (omega (arith, len, piece_some a)) (omega (arith, len, piece_some a)))
+cut-fuel _ _ a (b ∷ bs) h g = absurd (omega arith)
 
 -- the first piece
 pub cut-first : (a : ℕ) (bs : List ℕ) → 0 < length bs → cut (length bs) a bs ≡ record { address = a; bytes = take (piece_len a) bs } ∷ cut (length (drop (piece_len a) bs)) ((a + piece_len a) % address_count) (drop (piece_len a) bs)
 unfolding cut
-cut-first a [] some = absurd (omega arith)
-cut-first a (b ∷ bs) some =
-    let len = length-drop (piece_len a) (b ∷ bs) in
-    ap (λ (ps : List Part). record { address = a; bytes = take (piece_len a) (b ∷ bs) } ∷ ps)
-    (cut-fuel (length bs) (length (drop (piece_len a) (b ∷ bs))) ((a + piece_len a) % address_count) (drop (piece_len a) (b ∷ bs)) (omega (arith, len, piece_some a)) (omega arith))
+cut-first a bs some = grind (arith, length-drop, cut-fuel)
 
 pub take-min : (k : ℕ) (xs : List ℕ) → take (min k (length xs)) xs ≡ take k xs
-take-min k xs =
-    elim (cases_lt k (length xs)) [
-      | inl lt ↦ let e : min k (length xs) ≡ k = omega arith in rw e refl
-      | inr le ↦ let e : min k (length xs) ≡ length xs = omega arith in rw (e, take_all k xs le, take_all (length xs) xs (omega arith)) refl
-    ]
+take-min k xs = grind (arith, take_all k xs, take_all (length xs) xs)
 
 pub drop-min : (k : ℕ) (xs : List ℕ) → drop (min k (length xs)) xs ≡ drop k xs
-drop-min k xs =
-    elim (cases_lt k (length xs)) [
-      | inl lt ↦ let e : min k (length xs) ≡ k = omega arith in rw e refl
-      | inr le ↦ let e : min k (length xs) ≡ length xs = omega arith in rw (e, drop_all k xs le, drop_all (length xs) xs (omega arith)) refl
-    ]
+drop-min k xs = grind (arith, drop_all k xs, drop_all (length xs) xs)
 
 abbrev pub text_of_lines : List (List ℕ) → List ℕ
 text_of_lines lines = flat_map with_line_feed lines
@@ -56,28 +42,20 @@ pub segment_turn : (half a next : ℕ) (rest piece after out out' total : List �
     → out' ++ text_of_lines (body_lines (a / 65536) (cut (length after) next after)) ≡ total
 unfolding body_lines
 segment_turn half a next rest piece after out out' total some is_piece is_after is_next pushed so_far =
-    let first : Part = record { address = a; bytes = take (piece_len a) rest } in
-    let later = cut (length (drop (piece_len a) rest)) ((a + piece_len a) % address_count) (drop (piece_len a) rest) in
-    let split : text_of_lines (body_lines half (cut (length rest) a rest)) ≡ text_of_lines (piece_lines half first) ++ text_of_lines (body_lines (a / 65536) later) =
-    ap (λ (ps : List Part). text_of_lines (body_lines half ps)) (cut-first a rest some) ∙ flat_map-append with_line_feed (piece_lines half first) (body_lines (a / 65536) later) in
-    rw (is_after, is_next) (ap (λ (x : List ℕ). x ++ text_of_lines (body_lines (a / 65536) later)) (pushed ∙ ap (λ (p : List ℕ). out ++ text_of_lines (piece_lines half (record { address = a; bytes = p }))) is_piece)
-    ∙ append_assoc out (text_of_lines (piece_lines half first)) (text_of_lines (body_lines (a / 65536) later)) ∙ ap (λ (x : List ℕ). out ++ x) (sym split) ∙ so_far)
+    grind (arith, cut-first, flat_map-append, append_assoc)
 
 pub upper_turn : (half a next : ℕ) (rest after : List ℕ) (total : ℕ) → 0 < length rest → after ≡ drop (piece_len a) rest → next ≡ (a + piece_len a) % address_count
     → upper_after half (cut (length rest) a rest) ≡ total → upper_after (a / 65536) (cut (length after) next after) ≡ total
 unfolding upper_after
-upper_turn half a next rest after total some is_after is_next so_far =
-    rw (is_after, is_next) (sym (ap (upper_after half) (cut-first a rest some)) ∙ so_far)
+upper_turn half a next rest after total some is_after is_next so_far = grind (arith, cut-first)
 
 pub segment_end : (half a : ℕ) (rest out total : List ℕ) → length rest ≡ 0 → out ++ text_of_lines (body_lines half (cut (length rest) a rest)) ≡ total → out ≡ total
 unfolding body_lines cut
-segment_end half a [] out total none so_far = sym (append-nil out) ∙ so_far
-segment_end half a (b ∷ rest) out total none so_far = absurd (omega arith)
+segment_end half a rest out total none so_far = grind (arith, append-nil)
 
 pub upper_end : (half a : ℕ) (rest : List ℕ) (total : ℕ) → length rest ≡ 0 → upper_after half (cut (length rest) a rest) ≡ total → half ≡ total
 unfolding upper_after cut
-upper_end half a [] total none so_far = so_far
-upper_end half a (b ∷ rest) total none so_far = absurd (omega arith)
+upper_end half a rest total none so_far = grind arith
 
 -- ---- one segment after the other
 
@@ -116,8 +94,4 @@ text_turn segments i half upper s out out' lt is so_far stood pushed stands =
 
 pub text_end : (segments : List Segment) (i : ℕ) (out out' : List ℕ) → length segments ≤ i → out ≡ text_of_lines (body_lines 0 (all_pieces (take i segments))) → out' ≡ out ++ with_line_feed end_line → out' ≡ hex_text (map part_of segments)
 unfolding hex_lines
-text_end segments i out out' le so_far pushed =
-    let whole = take_all i segments le in
-    let body = body_lines 0 (all_pieces segments) in
-    pushed ∙ ap (λ (x : List ℕ). x ++ with_line_feed end_line) (so_far ∙ ap (λ (x : List Segment). text_of_lines (body_lines 0 (all_pieces x))) whole)
-    ∙ ap (λ (x : List ℕ). text_of_lines body ++ x) (sym (append-nil (with_line_feed end_line))) ∙ sym (flat_map-append with_line_feed body (end_line ∷ []))
+text_end segments i out out' le so_far pushed = grind (arith, take_all, append-nil, flat_map-append)

@@ -1,5 +1,5 @@
 -- The functions that read the words of a line answer the forms, both ways.
-use Rattle.std.proofs.Common.{◌≡◌, ℕ, cond, Bool, true, false, ◌||◌, List, [], ◌∷◌, Option, Some, None, Result, Ok, Err, refl, sym, subst, inl, inr, codes}
+use Rattle.std.proofs.Common.{◌≡◌, ℕ, cond, Bool, true, false, ◌||◌, List, [], ◌∷◌, Option, Some, None, Result, Ok, Err, refl, sym, subst, inl, inr, codes, arith}
 use Rattle.i9_replay.proofs.EventForms.{same_some, ok_or_ok}
 use Rattle.std.specs.Option.{option_and_then, option_map, ok_or}
 use Rattle.std.specs.Str.{bytes_eq}
@@ -17,31 +17,26 @@ use Rattle.i9_schedule.specs.declared.command.Command.TheVariants.{Turn, Until, 
 -- the one operand that is a number
 number_case : (P : Words → ℕ → Type 0) (high : ℕ) → ((w : List ℕ) (n : ℕ) → decimal_in 1 high w ≡ Some n → P (w ∷ []) n) → (ws : Words) (n : ℕ) → number_of high ws ≡ Some n → P ws n
 unfolding number_of
-number_case P high says [] n h = absurd cc
 number_case P high says (w ∷ []) n h = says w n h
-number_case P high says (v ∷ w ∷ ws) n h = absurd cc
+number_case P high says _ n h = absurd cc
 
 -- the one operand that is an address
 place_case : (P : Words → ℕ → Type 0) → ((w : List ℕ) (a : ℕ) → address_of w ≡ Some a → P (w ∷ []) a) → (ws : Words) (a : ℕ) → place_of ws ≡ Some a → P ws a
 unfolding place_of
-place_case P says [] a h = absurd cc
 place_case P says (w ∷ []) a h = says w a h
-place_case P says (v ∷ w ∷ ws) a h = absurd cc
+place_case P says _ a h = absurd cc
 
 bare_case : (name : List ℕ) (ws : Words) (own c : Command) → IsCommand (name ∷ []) own → bare_of own ws ≡ Some c → IsCommand (name ∷ ws) c
-bare_case name [] own c says h = subst (λ (x : Command). IsCommand (name ∷ []) x) (same_some own c h) says
-bare_case name (w ∷ ws) own c says h = absurd cc
+bare_case name ws own c says h = grind arith
 
 -- the two operands of a piece
 piece_case : (P : Words → ℕ × ℕ → Type 0) → ((v w : List ℕ) (a l : ℕ) → address_of v ≡ Some a → decimal_in 1 most_shown w ≡ Some l → P (v ∷ w ∷ []) (a, l)) → (ws : Words) (p : ℕ × ℕ) → piece_of ws ≡ Some p → P ws p
 unfolding piece_of
-piece_case P says [] p h = absurd cc
-piece_case P says (w ∷ []) p h = absurd cc
 piece_case P says (v ∷ w ∷ []) p h =
     option_and_then_some (λ a. option_and_then (λ l. Some (a, l)) (decimal_in 1 most_shown w)) (address_of v) p h (λ a address more.
     option_and_then_some (λ l. Some (a, l)) (decimal_in 1 most_shown w) p more (λ l size is.
     subst (λ (x : ℕ × ℕ). P (v ∷ w ∷ []) x) (same_some (a, l) p is) (says v w a l address size)))
-piece_case P says (u ∷ v ∷ w ∷ ws) p h = absurd cc
+piece_case P says _ p h = absurd cc
 
 map_case : {A : Type 0} (own : A → Command) (P : Command → Type 0) (o : Option A) (c : Command) → ((p : A) → o ≡ Some p → P (own p)) → option_map own o ≡ Some c → P c
 map_case own P None c says h = absurd cc
@@ -115,9 +110,7 @@ KindOf (Err k) named = k ≡ cond named bad_operand unknown_command
 
 kind_by_name : (own : Option Command) (here later : Bool) (others : Result Command ℕ) → KindOf others later → KindOf (cond here (ok_or own bad_operand) others) (here || later)
 unfolding KindOf
-kind_by_name (Some c) true later others h = refl
-kind_by_name None true later others h = refl
-kind_by_name own false later others h = h
+kind_by_name own here later others h = grind arith
 
 pub kind_of_command : (ws : Words) → KindOf (command_of ws) (is_named ws)
 unfolding command_of KindOf

@@ -1,5 +1,5 @@
 -- What the reader of a text answers: the version and the events that the lines say, or the first fault.
-use Rattle.std.proofs.Common.{◌≡◌, ℕ, true, false, List, [], ◌∷◌, Option, Some, None, Result, Ok, Err, refl, sym, ap, subst, inl, inr, IfOk, IfErr, codes}
+use Rattle.std.proofs.Common.{◌≡◌, ℕ, true, false, List, [], ◌∷◌, Option, Some, None, Result, Ok, Err, refl, sym, ap, subst, inl, inr, IfOk, IfErr, codes, arith}
 use Rattle.std.specs.Str.{bytes_eq}
 use Rattle.i9_text.specs.Text.{lines_of, words_of}
 use Rattle.i9_text.proofs.FirstFault.{read_from, SaysAll-read, read_from-says, read_from-refused, refused-read}
@@ -26,8 +26,7 @@ Tells told ws (Ok (said.Version version)) = (told ≡ None) × (ws ≡ heading) 
 Tells told ws (Ok (said.Event t)) = timed_of (version_in told) ws ≡ Ok t
 
 event_tells : (told : Option ℕ) (ws : Words) (r : Result Timed ℕ) → timed_of (version_in told) ws ≡ r → Tells told ws (event_said (version_in told) ws)
-event_tells told ws (Ok t) is = rw is is
-event_tells told ws (Err kind) is = rw is tt
+event_tells told ws r is = grind arith
 
 heading_tells : (ws : Words) → Tells None (codes "schedule" ∷ ws) (heading_of ws)
 unfolding heading_of
@@ -118,12 +117,10 @@ abbrev pub read_text : List ℕ → Result Contents (ℕ × ℕ)
 read_text text = told_of (read_lines text)
 
 told_ok : (r : Result SoFar (ℕ × ℕ)) (c : Contents) → told_of r ≡ Ok c → (s : SoFar) × (r ≡ Ok s) × (contents_of s ≡ c)
-told_ok (Ok s) c h = let same : contents_of s ≡ c = cc in (s, refl, same)
-told_ok (Err f) c h = absurd cc
+told_ok r c h = grind arith
 
 told_err : (r : Result SoFar (ℕ × ℕ)) (f : ℕ × ℕ) → told_of r ≡ Err f → r ≡ Err f
-told_err (Ok s) f h = absurd cc
-told_err (Err g) f h = let same : g ≡ f = cc in ap Err same
+told_err r f h = grind arith
 
 -- ---- and what it says, both ways
 

@@ -1,20 +1,15 @@
 -- The bytes of which printed operands are made.
-use Rattle.std.proofs.Common.{◌≡◌, ℕ, ◌+◌, ◌^◌, ◌<◌, Bool, true, false, cond, eqb, ◌||◌, List, [], ◌∷◌, ◌++◌, refl, arith}
+use Rattle.std.proofs.Common.{◌≡◌, ℕ, ◌+◌, ◌^◌, ◌<◌, Bool, true, false, cond, ◌||◌, List, [], ◌∷◌, ◌++◌, refl, arith}
 use Rattle.std.specs.Prelude.{ℤ, get_or}
 use Rattle.std.specs.List.{list_all, AllByRecursion}
 use Rattle.i9_isa.specs.declared.inst.Operand.{Operand}
 use Rattle.i9_isa.specs.declared.inst.Operand.TheVariants.{Reg, Lit, Sfr}
 use Rattle.i9_isa.specs.declared.inst.Mode.{Mode}
-use Rattle.i9_isa.specs.declared.inst.Mode.TheVariants.{Offset, BaseOffset, BaseIndex, Disp, BaseDisp, IndexDisp, BaseIndexDisp}
+use Rattle.i9_isa.specs.declared.inst.Mode.TheVariants.{BaseIndex, IndexDisp, BaseIndexDisp}
 use Rattle.i9_isa.specs.declared.inst.Ea.{Ea}
 use Rattle.i9_isa.specs.declared.inst.Inst.{Inst}
-use Rattle.i9_isa.specs.declared.format.Format.{Format}
-use Rattle.i9_isa.specs.declared.format.Format.TheVariants as format
-use Rattle.i9_isa.specs.declared.format.Use.{Use}
-use Rattle.i9_isa.specs.declared.format.Use.TheVariants.{Unused}
-use Rattle.i9_isa.specs.Operands.{takes, is_address}
-use Rattle.i9_isa.specs.Valid.{IsValid, FitsAddress}
-use Rattle.i9_isa.specs.Table.{row_of}
+use Rattle.i9_isa.specs.Operands.{is_address}
+use Rattle.i9_isa.specs.Valid.{IsValid}
 use Rattle.i9_text.specs.Text.{is_blank}
 use Rattle.std.specs.Fmt.{decimal}
 use Rattle.i9_statement.specs.Cut.{is_byte}
@@ -23,7 +18,7 @@ use Rattle.i9_statement.specs.Values.{is_name_byte}
 use Rattle.i9_statement.specs.Addresses.{scale_names}
 use Rattle.i9_statement.specs.NumberText.{hex_text, hex_byte_text}
 use Rattle.i9_statement.specs.Printed.{HasText, needs_bang, operand_text, front_text, base_text, index_text, bang_text, address_text, target, target_text}
-use Rattle.i9_statement.specs.Instructions.{Fields, comes_first, first_use, last_use, operand_field, address_field, target_field, operand_fields}
+use Rattle.i9_statement.specs.Instructions.{Fields, operand_fields}
 use Rattle.i9_statement.proofs.Cutting.{is_free, free_by, all_by, all_append}
 pub use Rattle.i9_statement.proofs.Cutting.{apart_by, free_in}
 use Rattle.i9_statement.proofs.ReadValues.{has_byte, has_byte-some, register_bytes, register_some, decimal_bytes, decimal_some, hex_bytes, hex_byte_bytes}
@@ -46,8 +41,7 @@ named_bytes : (w : List ℕ) → list_all is_name_byte w ≡ true → list_all i
 named_bytes w h = all_by is_name_byte is_operand_byte (λ b in_q. rw in_q refl) w h
 
 pub has_front : (v w : List ℕ) → has_byte v ≡ true → has_byte (v ++ w) ≡ true
-has_front [] w h = absurd cc
-has_front (b ∷ v) w h = refl
+has_front v w h = grind arith
 
 pub has_back : (v w : List ℕ) → has_byte w ≡ true → has_byte (v ++ w) ≡ true
 has_back [] w h = h
@@ -78,34 +72,22 @@ field_of_target ip z = hex_field (target ip z)
 
 -- the texts of the parts of an address
 bang_bytes : (q : Bool) → list_all is_operand_byte (cond q (33 ∷ []) []) ≡ true
-bang_bytes true = refl
-bang_bytes false = refl
+bang_bytes q = grind arith
 
 front_decimal : (q : Bool) (d : ℕ) → d < 2 ^ 32 → list_all is_operand_byte (cond q [] (decimal d)) ≡ true
-front_decimal true d h = refl
-front_decimal false d h = named_bytes (decimal d) (decimal_bytes d h)
+front_decimal q d h = grind (arith, named_bytes, decimal_bytes)
 
 front_bytes : (m : Mode) (d : ℕ) → d < 2 ^ 32 → list_all is_operand_byte (front_text m d) ≡ true
-front_bytes Offset d h = named_bytes (decimal d) (decimal_bytes d h)
-front_bytes BaseOffset d h = front_decimal (eqb d 0) d h
-front_bytes Mode.Base d h = refl
-front_bytes BaseIndex d h = refl
-front_bytes _ d h = named_bytes (hex_text d) (hex_bytes d)
+front_bytes m d h = grind (arith, named_bytes, decimal_bytes, front_decimal, hex_bytes)
 
 round_bytes : (r : ℕ) → r < 32 → list_all is_operand_byte (40 ∷ register_text r ++ 41 ∷ []) ≡ true
 round_bytes r h = all_append is_operand_byte (register_text r) (41 ∷ []) (named_bytes (register_text r) (register_bytes r (omega arith))) refl
 
 base_bytes : (m : Mode) (r : ℕ) → r < 32 → list_all is_operand_byte (base_text m r) ≡ true
-base_bytes Mode.Ip r h = refl
-base_bytes Offset r h = refl
-base_bytes Disp r h = refl
-base_bytes IndexDisp r h = refl
-base_bytes _ r h = round_bytes r h
+base_bytes m r h = grind (arith, round_bytes)
 
 square_bytes : (r s : ℕ) → r < 32 → s < 5 → list_all is_operand_byte (91 ∷ (register_text r ++ 42 ∷ get_or scale_names s []) ++ 93 ∷ []) ≡ true
-square_bytes r s hr hs =
-    all_append is_operand_byte (register_text r ++ 42 ∷ get_or scale_names s []) (93 ∷ [])
-    (all_append is_operand_byte (register_text r) (42 ∷ get_or scale_names s []) (named_bytes (register_text r) (register_bytes r (omega arith))) (named_bytes (get_or scale_names s []) (scale_name_bytes s hs))) refl
+square_bytes r s hr hs = grind (arith, all_append, named_bytes, register_bytes, scale_name_bytes)
 
 index_bytes : (m : Mode) (r s : ℕ) → r < 32 → s < 5 → list_all is_operand_byte (index_text m r s) ≡ true
 index_bytes BaseIndex r s hr hs = square_bytes r s hr hs
@@ -116,13 +98,7 @@ index_bytes _ r s hr hs = refl
 -- what is printed of an address is not empty
 address_some : (m : Mode) (b i s d : ℕ) → d < 2 ^ 32 → has_byte (bang_text m d ++ (front_text m d ++ (base_text m b ++ index_text m i s))) ≡ true
 unfolding hex_text
-address_some Offset b i s d h = has_front (decimal d) _ (has_byte-some (decimal d) (decimal_some d h))
-address_some BaseOffset b i s d h = has_back (front_text BaseOffset d) _ refl
-address_some Mode.Base b i s d h = refl
-address_some BaseIndex b i s d h = refl
-address_some Disp b i s d h = has_back (bang_text Disp d) _ refl
-address_some BaseDisp b i s d h = has_back (bang_text BaseDisp d) _ refl
-address_some _ b i s d h = refl
+address_some m b i s d h = grind (arith, has_front, has_byte-some, decimal_some, has_back)
 
 address_bytes : (m : Mode) (b i s d : ℕ) → Within (ea m b i s d) → list_all is_operand_byte (bang_text m d ++ (front_text m d ++ (base_text m b ++ index_text m i s))) ≡ true
 address_bytes m b i s d w =
@@ -139,22 +115,6 @@ field_of_address e h = record {
 
 -- ---- the operands of an instruction
 
-operand_fields-ok : (u : Use) (o : Operand) → takes u o ≡ true → AllByRecursion IsField (operand_field u o)
-operand_fields-ok Unused o h = tt
-operand_fields-ok u o h = (field_of_operand o (taken_in_range u o h), tt)
-
-address_fields-ok : (f : Format) (e : Ea) → FitsAddress f e → AllByRecursion IsField (address_field f e)
-address_fields-ok format.Mem e h = (field_of_address e h, tt)
-address_fields-ok _ e h = tt
-
-target_fields-ok : (uses : Bool) (ip : ℕ) (z : ℤ) → AllByRecursion IsField (target_field uses ip z)
-target_fields-ok true ip z = (field_of_target ip z, tt)
-target_fields-ok false ip z = tt
-
-either_use-ok : (q : Bool) (u v : Use) (o : Operand) → AllByRecursion IsField (operand_field u o) → AllByRecursion IsField (operand_field v o) → AllByRecursion IsField (operand_field (cond q u v) o)
-either_use-ok true u v o x y = x
-either_use-ok false u v o x y = y
-
 fields_append : (fs gs : Fields) → AllByRecursion IsField fs → AllByRecursion IsField gs → AllByRecursion IsField (fs ++ gs)
 fields_append [] gs hf hg = hg
 fields_append (f ∷ fs) gs hf hg = (hf.0, fields_append fs gs hf.1 hg)
@@ -162,10 +122,4 @@ fields_append (f ∷ fs) gs hf hg = (hf.0, fields_append fs gs hf.1 hg)
 pub operand_fields-fields : (ip : ℕ) (i : Inst) → IsValid i → AllByRecursion IsField (operand_fields ip i)
 unfolding operand_fields
 operand_fields-fields ip i v =
-    let r = row_of i.op in
-    let c = operand_fields-ok r.c i.c v.c in
-    fields_append (operand_field r.a i.a) _ (operand_fields-ok r.a i.a v.a)
-    (fields_append (operand_field r.b i.b) _ (operand_fields-ok r.b i.b v.b)
-    (fields_append (operand_field (first_use r) i.c) _ (either_use-ok (comes_first r.format r.c) r.c Unused i.c c tt)
-    (fields_append (address_field r.format i.ea) _ (address_fields-ok r.format i.ea v.ea)
-    (fields_append (target_field r.disp ip i.disp) (operand_field (last_use r) i.c) (target_fields-ok r.disp ip i.disp) (either_use-ok (comes_first r.format r.c) Unused r.c i.c tt c)))))
+    grind (arith, field_of_operand, taken_in_range, fields_append, field_of_address, field_of_target)

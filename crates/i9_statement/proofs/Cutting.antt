@@ -1,7 +1,7 @@
 -- A text that is cut where it was joined gives its parts.
-use Rattle.std.proofs.Common.{◌≡◌, ℕ, Bool, true, false, not, List, [], ◌∷◌, ◌++◌, length, take, drop, Some, refl, ap, ◌∙◌, arith, inl, inr}
+use Rattle.std.proofs.Common.{◌≡◌, ℕ, Bool, true, false, not, List, [], ◌∷◌, ◌++◌, length, take, drop, Some, refl, ap, ◌∙◌, arith}
 use Rattle.std.specs.List.{position_or_len, list_all}
-use Rattle.std.proofs.lemmas.Bool.{and_parts, not-true, eqb-true, cases_Bool}
+use Rattle.std.proofs.lemmas.Bool.{and_parts, not-true}
 use Rattle.std.proofs.lemmas.List.Folds.{list_all-append}
 use Rattle.std.proofs.Math.Seq.{take-append_seam, drop-append_seam}
 use Rattle.i9_statement.specs.Cut.{before, from, is_byte, closed}
@@ -29,14 +29,10 @@ before-cut p w t free stop = ap (λ n. take n (w ++ t)) (cut_place p w t free st
 pub from-cut : (p : ℕ → Bool) (w t : List ℕ) → is_free p w ≡ true → stops p t ≡ true → from p (w ++ t) ≡ t
 from-cut p w t free stop = ap (λ n. drop n (w ++ t)) (cut_place p w t free stop) ∙ drop-append_seam w t
 
-eqb_same : (n : ℕ) → is_byte n n ≡ true
-eqb_same n = grind arith
-
 -- a bracket that is closed
 pub closed-cut : (x : ℕ) (w t : List ℕ) → is_free (is_byte x) w ≡ true → closed x (w ++ x ∷ t) ≡ Some (w, t)
 unfolding closed
-closed-cut x w t free =
-    rw (before-cut (is_byte x) w (x ∷ t) free (eqb_same x), from-cut (is_byte x) w (x ∷ t) free (eqb_same x)) refl
+closed-cut x w t free = grind (arith, before-cut, from-cut)
 
 -- bytes of a class that no byte of the test is in
 pub free_by : (q p : ℕ → Bool) → ((b : ℕ) → q b ≡ true → p b ≡ false) → (w : List ℕ) → list_all q w ≡ true → is_free p w ≡ true
@@ -56,10 +52,7 @@ all_append q v w hv hw = list_all-append q v w ∙ rw hv hw
 
 -- a byte that is not in a class is none of its bytes
 pub apart_by : (q : ℕ → Bool) (x b : ℕ) → q x ≡ false → q b ≡ true → is_byte x b ≡ false
-apart_by q x b other h = elim (cases_Bool (is_byte x b)) [
-  | inl same ↦ let e : b ≡ x = eqb-true b x same in absurd (cc (ap q e))
-  | inr differs ↦ differs
-]
+apart_by q x b other h = grind arith
 
 pub free_in : (q : ℕ → Bool) (x : ℕ) (w : List ℕ) → q x ≡ false → list_all q w ≡ true → is_free (is_byte x) w ≡ true
 free_in q x w other h = free_by q (is_byte x) (λ b. apart_by q x b other) w h

@@ -1,5 +1,5 @@
 -- Names by the first letters of their mnemonics.
-use Rattle.std.proofs.Common.{◌≡◌, ℕ, ◌<◌, ◌≤◌, Bool, true, List, [], ◌∷◌, length, None, refl, get_or, inl, inr, arith}
+use Rattle.std.proofs.Common.{◌≡◌, ℕ, ◌<◌, ◌≤◌, Bool, true, List, [], ◌∷◌, length, None, refl, get_or, arith}
 use Rattle.std.specs.Prelude.{find, filter}
 use Rattle.std.specs.Str.{bytes_eq}
 use Rattle.std.proofs.lemmas.Bool.{cases_Bool}
@@ -11,13 +11,7 @@ use Rattle.i9_statement.specs.Mnemonics.{mnemonic, begins_with, op_named}
 -- what is found is among those that pass a test, where it passes that itself
 found_among : (p q : Op → Bool) (ops : List Op) → ((op : Op) → p op ≡ true → q op ≡ true) → find p (filter q ops) ≡ find p ops
 found_among p q [] h = refl
-found_among p q (op ∷ ops) h = elim (cases_Bool (p op)) [
-  | inl here ↦ rw (h op here, here) refl
-  | inr not ↦ elim (cases_Bool (q op)) [
-    | inl inside ↦ rw (inside, not) (found_among p q ops h)
-    | inr out ↦ rw (out, not) (found_among p q ops h)
-  ]
-]
+found_among p q (op ∷ ops) h = grind (arith, cases_Bool, found_among p q ops h)
 
 -- a mnemonic that is this text begins with its letter
 begins_as : (c : ℕ) (s m : List ℕ) → bytes_eq (c ∷ s) m ≡ true → begins_with c m ≡ true

@@ -15,9 +15,7 @@ outside : (s w bits k : ℕ) → bit_and bits s ≡ bits → bit_at s k ≡ 0 �
 outside s w bits k within out = omega (arith, bit_at_and bits s k, ap (λ n. bit_at n k) within, bit_at_or w bits k)
 
 inside : (s w bits k : ℕ) → bit_and bits s ≡ bits → (bit_at s k ≡ 1 → bit_at w k ≡ 0) → bit_at (bit_and (bit_or w bits) s) k ≡ bit_at bits k
-inside s w bits k within none =
-    let e = ap (λ n. bit_at n k) within in
-    grind (arith, e, bit_at_and bits s k, bit_at_or w bits k, bit_at_and (bit_or w bits) s k, bit_at-lt bits k, bit_at-lt s k)
+inside s w bits k within none = grind (arith, bit_at_and, bit_at_or, bit_at-lt)
 
 pub marked : (i : Inst) (w w1 bits : ℕ) → Encodes w w1 i → HasNone (ignored_bits i) w → bits < 2 ^ 32 → bit_or w bits < 2 ^ 32 → bit_and bits (ignored_bits i) ≡ bits → IsCode i bits (bit_or w bits) w1
 marked i w w1 bits form clear small fits within =

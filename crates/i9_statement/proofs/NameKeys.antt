@@ -1,6 +1,5 @@
 -- Each name has a key of its own, so a table keeps the definitions of names by their keys.
-use Rattle.std.proofs.Common.{◌≡◌, ℕ, zero, suc, ◌<◌, ◌≤◌, Bool, true, false, cond, List, [], ◌∷◌, length, take, drop, Option, Some, None, refl, sym, ap, ◌∙◌, inl, inr, arith}
-use Rattle.std.specs.Prelude.{is_some}
+use Rattle.std.proofs.Common.{◌≡◌, ℕ, ◌<◌, ◌≤◌, Bool, true, cond, List, [], ◌∷◌, length, take, drop, Option, Some, None, refl, sym, ap, ◌∙◌, arith}
 use Rattle.std.specs.Ordering.{is_eq}
 use Rattle.std.specs.List.{list_all}
 use Rattle.std.specs.Map.{update}
@@ -19,8 +18,7 @@ use Rattle.i9_statement.proofs.NameBytes.{low_name}
 -- ---- words
 
 some_byte : (n : ℕ) → is_name_byte n ≡ true → 0 < n
-some_byte zero h = absurd (cc h)
-some_byte (suc n) h = omega arith
+some_byte n h = grind arith
 
 abbrev AreNameBytes : List ℕ → Type 0
 AreNameBytes s = list_all is_name_byte s ≡ true
@@ -28,12 +26,8 @@ AreNameBytes s = list_all is_name_byte s ≡ true
 word_once : (s t : List ℕ) → AreNameBytes s → AreNameBytes t → word_of s ≡ word_of t → s ≡ t
 unfolding word_of
 word_once [] [] g h e = refl
-word_once [] (c ∷ t) g h e =
-    let high = some_byte c (and_parts (is_name_byte c) (list_all is_name_byte t) h).0 in
-    absurd (omega (arith, e, high))
-word_once (b ∷ s) [] g h e =
-    let high = some_byte b (and_parts (is_name_byte b) (list_all is_name_byte s) g).0 in
-    absurd (omega (arith, e, high))
+word_once [] (c ∷ t) g h e = grind (arith, some_byte, and_parts)
+word_once (b ∷ s) [] g h e = grind (arith, some_byte, and_parts)
 word_once (b ∷ s) (c ∷ t) g h e =
     let gs = and_parts (is_name_byte b) (list_all is_name_byte s) g in
     let hs = and_parts (is_name_byte c) (list_all is_name_byte t) h in
@@ -92,21 +86,12 @@ same_words x y h = (grind arith, grind arith, grind arith, grind arith, grind ar
 key_itself : (x : Key) → is_eq (key_cmp x x) ≡ true
 key_itself x = grind arith
 
-same_key : (x y : Key) → is_eq (key_cmp x y) ≡ true → x ≡ y
-same_key x y h = let e = same_words x y h in rw (e.0, e.1, e.2, e.3, e.4) refl
-
 -- whether the keys of two texts are equal
 abbrev same_keys : List ℕ → List ℕ → Bool
 same_keys s t = is_eq (key_cmp (key_of s) (key_of t))
 
 same_names : (s t : List ℕ) → is_name s ≡ true → is_name t ≡ true → same_keys s t ≡ bytes_eq s t
-same_names s t g h = elim (cases_Bool (same_keys s t)) [
-  | inl same ↦ same ∙ sym ((bytes_eq-Decides s t).1 (key_once s t g h (same_words (key_of s) (key_of t) same)))
-  | inr other ↦ elim (cases_Bool (bytes_eq s t)) [
-    | inl equal ↦ absurd (cc (other, sym (ap (same_keys s) ((bytes_eq-Decides s t).0 equal)) ∙ key_itself (key_of s)))
-    | inr unequal ↦ other ∙ sym unequal
-  ]
-]
+same_names s t g h = grind (arith, cases_Bool, bytes_eq-Decides, key_once, same_words, key_itself)
 
 -- ---- definitions by key
 
@@ -120,13 +105,7 @@ Puts f key d g = (q : Key) → g q ≡ cond (is_eq (key_cmp key q)) (Some d) (f 
 
 put_name : (f g : Key → Option Definition) (name : List ℕ) (d : Definition) → is_name name ≡ true → Puts f (key_of name) d g
     → (q : List ℕ) → by_key g q ≡ update bytes_eq (by_key f) name (Some d) q
-put_name f g name d good put q = elim (cases_Bool (is_name q)) [
-  | inl named ↦ rw named (put (key_of q) ∙ ap (λ b. cond b (Some d) (f (key_of q))) (same_names name q good named))
-  | inr unnamed ↦ elim (cases_Bool (bytes_eq name q)) [
-    | inl equal ↦ absurd (cc (unnamed, sym (ap is_name ((bytes_eq-Decides name q).0 equal)) ∙ good))
-    | inr unequal ↦ rw (unnamed, unequal) refl
-  ]
-]
+put_name f g name d good put q = grind (arith, cases_Bool, same_names, bytes_eq-Decides)
 
 found : (f : Key → Option Definition) (name : List ℕ) → is_name name ≡ true → by_key f name ≡ f (key_of name)
 found f name good = rw good refl
@@ -134,19 +113,9 @@ found f name good = rw good refl
 -- a definition of a new name
 pub entered : (f g : Key → Option Definition) (name : List ℕ) (d : Definition) → is_name name ≡ true
     → f (key_of name) ≡ None → Puts f (key_of name) d g → by_key g ≡ enter name d (by_key f)
-entered f g name d good none put =
-    let new : is_some (by_key f name) ≡ false = ap is_some (found f name good ∙ none) in
-    rw new (fun_ext (put_name f g name d good put))
+entered f g name d good none put = grind (arith, found, fun_ext, put_name)
 
 -- one that gives way to the first
 pub stays : (f g h : Key → Option Definition) (name : List ℕ) (d first : Definition) → is_name name ≡ true
     → f (key_of name) ≡ Some first → Puts f (key_of name) d g → Puts g (key_of name) first h → by_key h ≡ enter name d (by_key f)
-stays f g h name d first good was put back =
-    let old : is_some (by_key f name) ≡ true = ap is_some (found f name good ∙ was) in
-    rw old (ap by_key (fun_ext same))
-  where
-    same : (q : Key) → h q ≡ f q
-    same q = elim (cases_Bool (is_eq (key_cmp (key_of name) q))) [
-      | inl at ↦ back q ∙ rw at (sym (ap f (sym (same_key (key_of name) q at)) ∙ was))
-      | inr other ↦ back q ∙ rw other (put q ∙ rw other refl)
-    ]
+stays f g h name d first good was put back = grind arith

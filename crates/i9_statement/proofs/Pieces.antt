@@ -1,25 +1,19 @@
 -- Operands that are appended one by one are the operands of the statement.
-use Rattle.std.proofs.Common.{◌≡◌, ℕ, Bool, true, false, List, [], ◌∷◌, ◌++◌, refl, sym, ap, ◌∙◌, append_assoc}
+use Rattle.std.proofs.Common.{◌≡◌, ℕ, Bool, true, false, List, [], ◌∷◌, ◌++◌, refl, sym, ap, ◌∙◌, append_assoc, arith}
 use Rattle.std.proofs.lemmas.List.{append-nil}
 use Rattle.i9_text.specs.Text.{space}
 use Rattle.i9_statement.specs.Fields.{comma, join_fields}
 use Rattle.i9_statement.specs.Instructions.{Fields}
 use Rattle.i9_statement.specs.Statements.{fields_text}
-use Rattle.i9_statement.specs.Pieces.{separator, pieces, started_by, Added}
+use Rattle.i9_statement.specs.Pieces.{pieces, started_by, Added}
 
 pieces-append : (q : Bool) (fs gs : Fields) → pieces q (fs ++ gs) ≡ pieces q fs ++ pieces (started_by q fs) gs
 unfolding pieces
 pieces-append q [] gs = refl
-pieces-append q (f ∷ fs) gs = ap (λ t. (separator q ++ f) ++ t) (pieces-append true fs gs ∙ ap (λ x. pieces true fs ++ pieces x gs) (still fs)) ∙ sym (append_assoc (separator q ++ f) (pieces true fs) (pieces true gs))
-  where
-    still : (fs : Fields) → started_by true fs ≡ true
-    still [] = refl
-    still (f ∷ fs) = refl
+pieces-append q (f ∷ fs) gs = grind (arith, append_assoc, pieces-append true fs gs)
 
 started-append : (q : Bool) (fs gs : Fields) → started_by q (fs ++ gs) ≡ started_by (started_by q fs) gs
-started-append q [] gs = refl
-started-append q (f ∷ fs) [] = refl
-started-append q (f ∷ fs) (g ∷ gs) = refl
+started-append q fs gs = grind arith
 
 -- one after the other
 pub added_both : {a b c : List ℕ} {q r s : Bool} {fs gs : Fields} → Added a b q fs r → Added b c r gs s → Added a c q (fs ++ gs) s
@@ -37,12 +31,8 @@ pieces-true f (g ∷ fs) = ap (λ t. (comma ∷ space ∷ f) ++ t) (pieces-true 
 
 pub pieces-text : (fs : Fields) → pieces false fs ≡ fields_text fs
 unfolding pieces join_fields
-pieces-text [] = refl
-pieces-text (f ∷ []) = ap (λ t. space ∷ t) (append-nil f)
-pieces-text (f ∷ g ∷ fs) = ap (λ t. (space ∷ f) ++ t) (pieces-true g fs)
+pieces-text fs = grind (arith, append-nil, pieces-true)
 
 -- a mnemonic, operands and bits
 pub statement_joined : (t0 t1 t2 t3 m s : List ℕ) (fs : Fields) (now : Bool) → t1 ≡ t0 ++ m → Added t1 t2 false fs now → t3 ≡ t2 ++ s → t3 ≡ t0 ++ (m ++ (fields_text fs ++ s))
-statement_joined t0 t1 t2 t3 m s fs now h1 h2 h3 =
-    h3 ∙ ap (λ t. t ++ s) (h2.text ∙ ap (λ t. t ++ pieces false fs) h1 ∙ ap (λ t. (t0 ++ m) ++ t) (pieces-text fs))
-    ∙ append_assoc (t0 ++ m) (fields_text fs) s ∙ append_assoc t0 m (fields_text fs ++ s)
+statement_joined t0 t1 t2 t3 m s fs now h1 h2 h3 = grind (arith, pieces-text, append_assoc)

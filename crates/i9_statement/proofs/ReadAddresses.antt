@@ -6,32 +6,31 @@ use Rattle.std.specs.List.{list_all}
 use Rattle.std.specs.Str.{bytes_eq}
 use Rattle.std.specs.Fmt.{decimal}
 use Rattle.std.proofs.lemmas.Bool.{and_parts, ltb-true, not-true}
-use Rattle.std.proofs.lemmas.Bool.Decides.{nat_tests}
 use Rattle.std.proofs.Math.Dec.{eqb-suc-zero}
 use Rattle.std.proofs.lemmas.List.Folds.{list_all-append}
 use Rattle.i9_isa.specs.declared.inst.Mode.{Mode}
 use Rattle.i9_isa.specs.declared.inst.Mode.TheVariants.{Offset, BaseOffset, BaseIndex, Disp, BaseDisp, IndexDisp, BaseIndexDisp}
 use Rattle.i9_isa.specs.declared.inst.Ea.{Ea}
-use Rattle.i9_isa.specs.Operands.{is_address, has_base, has_index, has_offset, has_disp}
+use Rattle.i9_isa.specs.Operands.{is_address}
 use Rattle.i9_decode.proofs.Forms.{AddressParts, address_parts}
 use Rattle.i9_statement.specs.declared.values.Value.{Value}
 use Rattle.i9_statement.specs.declared.values.Value.TheVariants.{Number}
 use Rattle.i9_statement.specs.declared.parts.Front.{Front}
-use Rattle.i9_statement.specs.declared.parts.Front.TheVariants.{Absent, Valued}
+use Rattle.i9_statement.specs.declared.parts.Front.TheVariants.{Valued}
 use Rattle.i9_statement.specs.declared.parts.Base.{Base}
 use Rattle.i9_statement.specs.declared.parts.Base.TheVariants as base
 use Rattle.i9_statement.specs.declared.parts.Index.{Index}
 use Rattle.i9_statement.specs.declared.parts.Index.TheVariants as index
-use Rattle.i9_statement.specs.Cut.{before, from, behind, is_byte, closed}
+use Rattle.i9_statement.specs.Cut.{is_byte, closed}
 use Rattle.i9_statement.specs.Noted.{fine}
-use Rattle.i9_statement.specs.Registers.{register_place, register_text}
+use Rattle.i9_statement.specs.Registers.{register_text}
 use Rattle.i9_statement.specs.Values.{Names, value_of, is_name_byte}
-use Rattle.i9_statement.specs.Addresses.{bang, star, open_round, close_round, open_square, if_last, close_square, opens, base_of, with_rest, base_named, scale_names, scale_of, scaled, index_of, valued, front_of, mode_of, address_by, with_base, with_index, address_behind, address_of}
+use Rattle.i9_statement.specs.Addresses.{bang, star, open_round, close_round, open_square, close_square, opens, base_of, with_rest, base_named, scale_names, scale_of, index_of, valued, front_of, mode_of, address_by, address_behind, address_of}
 use Rattle.i9_statement.specs.NumberText.{hex_text}
 use Rattle.i9_statement.specs.Printed.{base_text, index_text, address_text}
 use Rattle.i9_statement.proofs.Cutting.{is_free, stops, before-cut, from-cut, closed-cut, free_by, apart_by, free_in}
 use Rattle.i9_text.proofs.Below.{test_below, passes_below}
-use Rattle.i9_statement.proofs.ReadValues.{register_place-text, register_bytes, value_of-decimal, value_of-hex, decimal_bytes, decimal_some, hex_bytes, found_at, found_true}
+use Rattle.i9_statement.proofs.ReadValues.{register_place-text, register_bytes, value_of-decimal, value_of-hex, decimal_bytes, decimal_some, hex_bytes}
 
 -- ---- bytes of names and numbers are none of the signs
 
@@ -57,22 +56,15 @@ base_of-text : (r : ℕ) (t : List ℕ) → r < 32 → base_of ((open_round ∷ 
 unfolding base_of
 base_of-text r t h =
     let free = free_in is_name_byte close_round (register_text r) refl (register_bytes r (omega arith)) in
-    ap base_of_open (append_assoc (register_text r) (close_round ∷ []) t ∙ refl)
-    ∙ ap (option_and_then (λ c. with_rest (base_named c.0) c.1)) (closed-cut close_round (register_text r) t free)
-    ∙ ap (λ o. with_rest o t) (base_named-text r h)
-
-scale_bytes : test_below (λ k. list_all is_name_byte (get_or scale_names k [])) 5 ≡ true
-scale_bytes = refl
+    cc (append_assoc (register_text r) (close_round ∷ []) t, closed-cut close_round (register_text r) t free,
+        base_named-text r h)
 
 pub scale_name_bytes : (k : ℕ) → k < 5 → list_all is_name_byte (get_or scale_names k []) ≡ true
-scale_name_bytes k h = passes_below (λ j. list_all is_name_byte (get_or scale_names j [])) 5 k scale_bytes h
-
-scales_found : test_below (λ k. found_at (scale_of (get_or scale_names k [])) k) 5 ≡ true
-unfolding scale_of
-scales_found = refl
+scale_name_bytes k h = grind arith
 
 scale_of-text : (k : ℕ) → k < 5 → scale_of (get_or scale_names k []) ≡ Some k
-scale_of-text k h = found_true _ k (passes_below (λ j. found_at (scale_of (get_or scale_names j [])) j) 5 k scales_found h)
+unfolding scale_of
+scale_of-text k h = grind arith
 
 abbrev square_byte : ℕ → Bool
 square_byte b = not (is_byte close_square b)
@@ -87,11 +79,10 @@ index_of-text r k hr hk =
     let inside : is_free (is_byte close_square) (reg ++ star ∷ scale) ≡ true =
     list_all-append square_byte reg (star ∷ scale) ∙ rw (free_in is_name_byte close_square reg refl reg_bytes, scale_free) refl in
     let reg_free = free_in is_name_byte star reg refl reg_bytes in
-    ap (option_and_then if_last) (closed-cut close_square (reg ++ star ∷ scale) [] inside)
-    ∙ ap (λ x. option_and_then (λ n. scaled (register_place (before (is_byte star) (reg ++ star ∷ scale))) (scale_of n)) (behind star x)) (from-cut (is_byte star) reg (star ∷ scale) reg_free refl)
-    ∙ ap (λ x. scaled (register_place x) (scale_of scale)) (before-cut (is_byte star) reg (star ∷ scale) reg_free refl)
-    ∙ ap (λ o. scaled o (scale_of scale)) (register_place-text r (omega arith))
-    ∙ ap (scaled (Some r)) (scale_of-text k hk)
+    cc (closed-cut close_square (reg ++ star ∷ scale) [] inside,
+        from-cut (is_byte star) reg (star ∷ scale) reg_free refl,
+        before-cut (is_byte star) reg (star ∷ scale) reg_free refl, register_place-text r (omega arith),
+        scale_of-text k hk)
 
 -- ---- the whole
 
@@ -101,11 +92,7 @@ parts_behind : (forced : Bool) (names : Names) (f b i : List ℕ) {front : Front
 unfolding address_behind
 parts_behind forced names f b i {front} {at} {by} bytes stop ef eb ei =
     let free = free_of_opens f bytes in
-    ap (λ x. with_base forced (front_of names x) (base_of (from opens (f ++ (b ++ i))))) (before-cut opens f (b ++ i) free stop)
-    ∙ ap (λ x. with_base forced (front_of names f) (base_of x)) (from-cut opens f (b ++ i) free stop)
-    ∙ ap (λ x. with_base forced x (base_of (b ++ i))) ef
-    ∙ ap (with_base forced front) eb
-    ∙ ap (with_index forced front at) ei
+    cc (before-cut opens f (b ++ i) free stop, from-cut opens f (b ++ i) free stop)
 
 -- ---- one mode after the other
 
@@ -119,22 +106,8 @@ pub record Within (e : Ea) : Type 0 where
   pub scale : e.scale < 5
   pub disp : e.disp < 2 ^ 32
 
-below_if : (has : Bool) (limit n : ℕ) → 0 < limit → ltb n (cond has limit 1) ≡ true → n < limit
-below_if true limit n some h = ltb-true n limit h
-below_if false limit n some h = let l = ltb-true n 1 h in omega arith
-
-disp_below : (long short : Bool) (n : ℕ) → ltb n (cond long (2 ^ 32) (cond short (2 ^ 12) 1)) ≡ true → n < 2 ^ 32
-disp_below long short n h = grind (arith, nat_tests)
-
 pub within : (e : Ea) → is_address e ≡ true → Within e
-within e h =
-    let p = address_parts e h in
-    record {
-      base = below_if (has_base e.mode) 32 e.base (omega arith) p.base;
-      index = below_if (has_index e.mode) 32 e.index (omega arith) p.index;
-      scale = below_if (has_index e.mode) 5 e.scale (omega arith) p.scale;
-      disp = disp_below (has_disp e.mode) (has_offset e.mode) e.disp p.disp;
-    }
+within e h = grind arith
 
 -- a text that begins with a name's byte has no `!`
 not_forced : (names : Names) (w t : List ℕ) → 0 < length w → list_all is_name_byte w ≡ true → address_of names (w ++ t) ≡ address_behind false names (w ++ t)
@@ -143,8 +116,7 @@ not_forced names [] t some h = absurd (omega arith)
 not_forced names (c ∷ w) t some h = rw (apart_by is_name_byte bang c refl (and_parts (is_name_byte c) (list_all is_name_byte w) h).0) refl
 
 front_of-some : (names : Names) (w : List ℕ) (v : Value) → 0 < length w → value_of names w ≡ Some v → front_of names w ≡ Valued v
-front_of-some names [] v some h = absurd (omega arith)
-front_of-some names (c ∷ w) v some h = ap valued h
+front_of-some names w v some h = grind arith
 
 front_of-hex : (names : Names) (n : ℕ) → n < 2 ^ 32 → front_of names (hex_text n) ≡ Valued (Number n)
 unfolding hex_text
@@ -155,17 +127,14 @@ front_of-decimal names n h = front_of-some names (decimal n) (Number n) (decimal
 
 -- a displacement, with `!` where it is needed
 perhaps_forced : (q : Bool) (names : Names) (d : ℕ) (t : List ℕ) → address_of names ((cond q (bang ∷ []) []) ++ (hex_text d ++ t)) ≡ address_behind q names (hex_text d ++ t)
-unfolding hex_text address_of
-perhaps_forced true names d t = refl
-perhaps_forced false names d t = not_forced names (hex_text d) t (omega arith) (hex_bytes d)
+unfolding address_of hex_text
+perhaps_forced q names d t = grind arith
 
 mode_disp : (q : Bool) (d : ℕ) → ltb d 4096 ≡ q → mode_of q (Valued (Number d)) base.Nothing index.Nothing ≡ Some Disp
-mode_disp true d h = refl
-mode_disp false d h = rw h refl
+mode_disp q d h = grind arith
 
 mode_base_disp : (q : Bool) (d r : ℕ) → ltb d 4096 ≡ q → mode_of q (Valued (Number d)) (base.Register r) index.Nothing ≡ Some BaseDisp
-mode_base_disp true d r h = refl
-mode_base_disp false d r h = rw h refl
+mode_base_disp q d r h = grind arith
 
 -- an address of a mode is read again
 abbrev IsRead : Names → Ea → Type 0

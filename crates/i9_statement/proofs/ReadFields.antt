@@ -7,7 +7,6 @@ use Rattle.std.proofs.lemmas.List.Elements.{All-from_recursion}
 use Rattle.std.proofs.lemmas.List.Splits.{slice_split_at, slice_split_none}
 use Rattle.i9_text.specs.Text.{space, is_blank, words_of}
 use Rattle.i9_text.proofs.WordCuts.{words_of-blank, words_of-first}
-use Rattle.i9_statement.specs.Cut.{from}
 use Rattle.i9_statement.specs.Fields.{comma, is_comma, one_word, field_of, fields_by, fields_of, join_fields}
 use Rattle.i9_statement.specs.Statements.{fields_text}
 use Rattle.i9_statement.proofs.Cutting.{is_free, stops, before-cut, from-cut, all_append}
@@ -19,17 +18,8 @@ abbrev pub pad : Bool → List ℕ
 pad true = space ∷ []
 pad false = []
 
-pad_stops : (q : Bool) → stops is_blank (pad q) ≡ true
-pad_stops true = refl
-pad_stops false = refl
-
-pad_words : (q : Bool) → words_of (pad q) ≡ []
-pad_words true = refl
-pad_words false = refl
-
 pad_free : (q : Bool) → is_free is_comma (pad q) ≡ true
-pad_free true = refl
-pad_free false = refl
+pad_free q = grind arith
 
 -- ---- words
 
@@ -37,13 +27,11 @@ pad_free false = refl
 pub words_of-cut : (c : ℕ) (w t : List ℕ) → is_free is_blank (c ∷ w) ≡ true → stops is_blank t ≡ true → words_of ((c ∷ w) ++ t) ≡ (c ∷ w) ∷ words_of t
 words_of-cut c w t free stop =
     let first = not-true (is_blank c) (and_parts (not (is_blank c)) _ free).0 in
-    words_of-first ((c ∷ w) ++ t) 0 (omega arith) first
-    ∙ ap (λ v. v ∷ words_of (from is_blank ((c ∷ w) ++ t))) (before-cut is_blank (c ∷ w) t free stop)
-    ∙ ap (λ v. (c ∷ w) ∷ words_of v) (from-cut is_blank (c ∷ w) t free stop)
+    cc (words_of-first ((c ∷ w) ++ t) 0 (omega arith) first, before-cut is_blank (c ∷ w) t free stop,
+        from-cut is_blank (c ∷ w) t free stop)
 
 pub words_of-pad : (w : List ℕ) (q : Bool) → has_byte w ≡ true → is_free is_blank w ≡ true → words_of (w ++ pad q) ≡ w ∷ []
-words_of-pad [] q some free = absurd cc
-words_of-pad (c ∷ w) q some free = words_of-cut c w (pad q) free (pad_stops q) ∙ ap (λ v. (c ∷ w) ∷ v) (pad_words q)
+words_of-pad w q some free = grind (arith, words_of-cut)
 
 field_blanks : (f : List ℕ) → IsField f → is_free is_blank f ≡ true
 field_blanks f h = free_of_blanks is_operand_byte f refl refl h.bytes
@@ -69,9 +57,7 @@ split_nowhere w free = slice_split_none is_comma w (All-from_recursion (λ b. is
 
 fields_cut : (f : List ℕ) (fs : List (List ℕ)) (q : Bool) → AllByRecursion IsField (f ∷ fs) → map field_of (slice_split is_comma (space ∷ join_fields (f ∷ fs) ++ pad q)) ≡ f ∷ fs
 unfolding join_fields
-fields_cut f [] q h =
-    let free : is_free is_comma (space ∷ f ++ pad q) ≡ true = all_append (λ b. not (is_comma b)) f (pad q) (field_commas f h.0) (pad_free q) in
-    ap (map field_of) (split_nowhere (space ∷ f ++ pad q) free) ∙ ap (λ v. v ∷ []) (field_of-pad f q h.0)
+fields_cut f [] q h = grind (arith, all_append, field_commas, pad_free, split_nowhere, field_of-pad)
 fields_cut f (g ∷ fs) q h =
     let rest = join_fields (g ∷ fs) in
     ap (λ v. map field_of (slice_split is_comma (space ∷ v))) (append_assoc f (comma ∷ space ∷ rest) (pad q))
@@ -82,8 +68,7 @@ fields_cut f (g ∷ fs) q h =
 
 -- a text with a word is not blank
 fields_by-some : (text : List ℕ) (c : ℕ) (w : List ℕ) → words_of text ≡ words_of (c ∷ w) → is_blank c ≡ false → fields_by (words_of text) text ≡ map field_of (slice_split is_comma text)
-fields_by-some text c w e first =
-    ap (λ ws. fields_by ws text) (e ∙ words_of-first (c ∷ w) 0 (omega arith) first)
+fields_by-some text c w e first = grind arith
 
 join_first : (c : ℕ) (f : List ℕ) (fs : List (List ℕ)) → (w : List ℕ) × (join_fields ((c ∷ f) ∷ fs) ≡ c ∷ w)
 unfolding join_fields

@@ -2,16 +2,15 @@
 use Rattle.std.proofs.Common.{◌≡◌, ℕ, ◌^◌, ◌<◌, Bool, true, false, eqb, List, [], ◌∷◌, length, Option, Some, None, refl, ap, ◌∙◌, arith, lit≤}
 use Rattle.std.specs.Option.{option_map}
 use Rattle.std.specs.List.{list_all}
-use Rattle.std.specs.Char.{digit_value}
 use Rattle.std.specs.Fmt.{decimal}
 use Rattle.std.specs.Str.Parse.{AllDigits, digits_value}
-use Rattle.std.proofs.lemmas.Bool.{eqb-true, lt-ltb, and_right}
+use Rattle.std.proofs.lemmas.Bool.{lt-ltb, and_right}
 use Rattle.std.proofs.lemmas.Fmt.{decimal_is_IsNumeral}
 use Rattle.i9_text.specs.Text.{are_digits}
 use Rattle.i9_text.specs.Written.{word_text, byte_text}
 use Rattle.i9_statement.specs.declared.values.Value.TheVariants.{Number}
 use Rattle.i9_statement.specs.Registers.{register_place, register_text}
-use Rattle.i9_statement.specs.Values.{Names, begins_name, is_name_byte, is_hexadecimal, decimal_of, magnitude, in_range, value_of}
+use Rattle.i9_statement.specs.Values.{Names, is_name_byte, decimal_of, magnitude, in_range, value_of}
 use Rattle.i9_statement.specs.NumberText.{hex_text, hex_byte_text}
 use Rattle.i9_text.proofs.Below.{test_below, passes_below}
 use Rattle.i9_text.proofs.WrittenDigits.{number_of-word, number_of-byte, byte_digits, word_digits}
@@ -27,29 +26,15 @@ pub decimal_of-digits : (w : List ℕ) → 0 < length w → AllDigits 10 w → d
 unfolding decimal_of
 decimal_of-digits w some h = rw (lt-ltb _ _ some, digits_test 10 w h) refl
 
--- a digit begins no name, is no minus and no x
-digit_apart : (c : ℕ) → digit_value c < 10 → (begins_name c ≡ false) × (eqb c 45 ≡ false) × (eqb c 120 ≡ false)
-digit_apart c h = (grind arith, grind arith, grind arith)
-
-not_hexadecimal : (w : List ℕ) → AllDigits 10 w → is_hexadecimal w ≡ false
-not_hexadecimal [] h = refl
-not_hexadecimal (a ∷ []) h = refl
-not_hexadecimal (a ∷ b ∷ w) h = and_right (eqb a 48) (eqb b 120) (digit_apart b h.1.0).2
-
 in_range-small : (n : ℕ) → n < 2 ^ 32 → in_range false n ≡ Number n
 in_range-small n h = rw (lt-ltb _ _ h) refl
 
 value_of-digits : (names : Names) (w : List ℕ) → 0 < length w → AllDigits 10 w → digits_value 10 w < 2 ^ 32 → value_of names w ≡ Some (Number (digits_value 10 w))
-unfolding value_of magnitude
-value_of-digits names [] some h small = absurd (omega arith)
-value_of-digits names (c ∷ w) some h small =
-    let apart = digit_apart c h.0 in
-    rw (apart.0, apart.1, not_hexadecimal (c ∷ w) h, decimal_of-digits (c ∷ w) some h) (ap Some (in_range-small (digits_value 10 (c ∷ w)) small))
+unfolding magnitude value_of
+value_of-digits names w some h small = grind (arith, and_right, decimal_of-digits, lt-ltb)
 
 pub value_of-decimal : (names : Names) (n : ℕ) → n < 2 ^ 32 → value_of names (decimal n) ≡ Some (Number n)
-value_of-decimal names n small =
-    let h = decimal_is_IsNumeral n (omega arith) in
-    value_of-digits names (decimal n) h.0.0 h.0.1 (omega (arith, h.1)) ∙ ap (λ k. Some (Number k)) h.1
+value_of-decimal names n small = grind (arith, decimal_is_IsNumeral, value_of-digits)
 
 pub value_of-hex : (names : Names) (n : ℕ) → n < 2 ^ 32 → value_of names (hex_text n) ≡ Some (Number n)
 unfolding value_of magnitude hex_text
@@ -70,8 +55,7 @@ has_byte [] = false
 has_byte (b ∷ w) = true
 
 pub has_byte-some : (w : List ℕ) → 0 < length w → has_byte w ≡ true
-has_byte-some [] h = absurd (omega arith)
-has_byte-some (b ∷ w) h = refl
+has_byte-some w h = grind arith
 
 pub decimal_some : (n : ℕ) → n < 2 ^ 32 → 0 < length (decimal n)
 decimal_some n small = (decimal_is_IsNumeral n (omega arith)).0.0
@@ -91,8 +75,7 @@ found_at (Some j) k = eqb j k
 found_at None k = false
 
 pub found_true : (o : Option ℕ) (k : ℕ) → found_at o k ≡ true → o ≡ Some k
-found_true (Some j) k h = ap Some (eqb-true j k h)
-found_true None k h = absurd cc
+found_true o k h = grind arith
 
 all_found : test_below (λ k. found_at (register_place (register_text k)) k) 39 ≡ true
 unfolding register_place register_text

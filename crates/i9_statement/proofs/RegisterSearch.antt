@@ -1,5 +1,5 @@
 -- The place of a register's name, of which its length and its first letter leave one.
-use Rattle.std.proofs.Common.{◌≡◌, ℕ, ◌<◌, true, false, List, [], Option, Some, None, refl, sym, ap, ◌∙◌, arith, inl, inr}
+use Rattle.std.proofs.Common.{◌≡◌, ℕ, ◌<◌, true, false, List, [], Option, Some, None, refl, ap, ◌∙◌, arith}
 use Rattle.std.specs.List.{position_or_len}
 use Rattle.std.specs.Str.{bytes_eq}
 use Rattle.std.proofs.lemmas.Bool.{cases_Bool}
@@ -31,10 +31,7 @@ pub place_found : (s : List ℕ) (k : ℕ) → k < 39 → bytes_eq s (register_t
 place_found s k h here = ap register_place ((bytes_eq-Decides s (register_text k)).0 here) ∙ register_place-text k h
 
 other_name : (s : List ℕ) (o : Option ℕ) (j : ℕ) → likely_place s ≡ o → ((k : ℕ) → o ≡ Some k → bytes_eq s (register_text k) ≡ false) → j < 39 → bytes_eq s (register_text j) ≡ false
-other_name s o j likely not h = elim (cases_Bool (bytes_eq s (register_text j))) [
-  | inl same ↦ not j (sym likely ∙ ap likely_place ((bytes_eq-Decides s (register_text j)).0 same) ∙ likely_place-text j h)
-  | inr other ↦ other
-]
+other_name s o j likely not h = grind (arith, cases_Bool, bytes_eq-Decides, likely_place-text)
 
 -- a text that is not the likely name
 pub place_none : (s : List ℕ) (o : Option ℕ) → likely_place s ≡ o → ((k : ℕ) → o ≡ Some k → bytes_eq s (register_text k) ≡ false) → register_place s ≡ None

@@ -1,31 +1,27 @@
 -- Each statement without fault stands for words.
-use Rattle.std.proofs.Common.{◌≡◌, ℕ, ◌<◌, ◌^◌, Bool, true, false, eqb, List, [], ◌∷◌, Option, Some, None, IfSome, refl, ◌∙◌, arith, inl, inr}
-use Rattle.std.specs.Option.{option_and_then}
-use Rattle.std.specs.Str.{bytes_eq}
+use Rattle.std.proofs.Common.{◌≡◌, ℕ, ◌<◌, ◌^◌, Bool, true, List, [], ◌∷◌, Option, Some, None, IfSome, refl, arith, inl, inr}
 use Rattle.std.specs.Int.Bits.{bit_and, bit_or}
-use Rattle.std.proofs.lemmas.Bool.{cases_Bool, eqb-true}
-use Rattle.std.proofs.lemmas.Nat.{and_le_l, or_lt}
+use Rattle.std.proofs.lemmas.Bool.{cases_Bool}
+use Rattle.std.proofs.lemmas.Nat.{or_lt}
 use Rattle.i9_isa.specs.declared.op.Op.{Op}
 use Rattle.i9_isa.specs.declared.inst.Inst.{Inst}
 use Rattle.i9_isa.specs.declared.inst.Mode.{Mode}
-use Rattle.i9_isa.specs.declared.inst.Mode.TheVariants.{Offset, BaseOffset, Base, BaseIndex}
 use Rattle.i9_isa.specs.Operands.{has_disp}
 use Rattle.i9_isa.specs.Table.{row_of}
 use Rattle.i9_isa.specs.Valid.{IsValid}
 use Rattle.i9_isa.specs.Words.{words_of_mode}
 use Rattle.i9_decode.specs.Ignored.{ignored_bits}
-use Rattle.i9_text.specs.Text.{is_blank, number_of}
-use Rattle.i9_text.specs.Text as text
+use Rattle.i9_text.specs.Text.{is_blank}
 use Rattle.i9_statement.specs.declared.fault.Noted.{Noted}
 use Rattle.i9_statement.specs.Noted.{fine}
-use Rattle.i9_statement.specs.Cut.{before, from, behind, is_byte, closed}
+use Rattle.i9_statement.specs.Cut.{before, from, is_byte}
 use Rattle.i9_statement.specs.Values.{Names}
 use Rattle.i9_statement.proofs.Decimals.{hex_below}
 use Rattle.i9_statement.specs.declared.statements.Statement.{Statement}
-use Rattle.i9_statement.specs.Mnemonics.{op_named, hint_by, with_hint, named_by}
+use Rattle.i9_statement.specs.Mnemonics.{named_by}
 use Rattle.i9_statement.specs.Fields.{fields_of}
 use Rattle.i9_statement.specs.Instructions.{instruction_of}
-use Rattle.i9_statement.specs.Statements.{open_brace, close_brace, if_nothing_left, braced, spare_in, spare_of, said, with_spare, statement_by, statement_of}
+use Rattle.i9_statement.specs.Statements.{open_brace, spare_of, said, with_spare, statement_by, statement_of}
 use Rattle.i9_statement.specs.Codes.{IsCode, Stands, stands_one, stands_two}
 use Rattle.i9_statement.proofs.Marked.{marked}
 use Rattle.i9_statement.proofs.StatementWords.{one_or_two}
@@ -37,52 +33,18 @@ use Rattle.i9_statement.proofs.ValidRead.{if_some-then, instruction_valid}
 Fits : Op × Bool → Type 0
 Fits n = n.1 ≡ true → (row_of n.0).hint ≡ true
 
-hint_uses : (uses : Bool) (s : List ℕ) (hint : Bool) → hint_by uses s ≡ Some hint → hint ≡ true → uses ≡ true
-hint_uses true s hint e h = refl
-hint_uses false [] hint e h = let clear : false ≡ hint = cc in clear ∙ h
-hint_uses false (b ∷ s) hint e h = absurd cc
-
 named_fits : (s : List ℕ) → IfSome (named_by s) Fits
-unfolding named_by Fits
-named_fits s =
-    let suffix = from (is_byte 46) s in
-    if_some-then Fits (λ op. with_hint op (hint_by (row_of op).hint suffix)) (op_named (before (is_byte 46) s)) (λ op. by_hint op (hint_by (row_of op).hint suffix) refl)
-  where
-    by_hint : (op : Op) (o : Option Bool) → hint_by (row_of op).hint (from (is_byte 46) s) ≡ o → IfSome (with_hint op o) Fits
-    by_hint op None e = tt
-    by_hint op (Some hint) e = hint_uses (row_of op).hint (from (is_byte 46) s) hint e
+unfolding Fits named_by
+named_fits s = grind arith
 
 -- ---- the bits in braces
 
 abbrev IsWord : ℕ → Type 0
 IsWord n = n < 2 ^ 32
 
-digits_small : (ds : List ℕ) → IfSome (number_of 16 8 ds) IsWord
-digits_small ds = by_number (number_of 16 8 ds) refl
-  where
-    by_number : (o : Option ℕ) → number_of 16 8 ds ≡ o → IfSome o IsWord
-    by_number None e = tt
-    by_number (Some n) e = hex_below ds n e
-
-left_small : (c : List ℕ × List ℕ) → IfSome (if_nothing_left c) IsWord
-left_small c = elim (cases_Bool (bytes_eq c.1 [])) [
-  | inl done ↦ rw done (digits_small c.0)
-  | inr more ↦ rw more tt
-]
-
-braced_small : (w : List ℕ) → IfSome (braced w) IsWord
-braced_small w =
-    if_some-then IsWord (λ s. option_and_then if_nothing_left (closed close_brace s)) (behind open_brace w)
-    (λ s. if_some-then IsWord if_nothing_left (closed close_brace s) left_small)
-
 spare_small : (s : List ℕ) → IfSome (spare_of s) IsWord
 unfolding spare_of
-spare_small s = by_words (text.words_of s)
-  where
-    by_words : (ws : List (List ℕ)) → IfSome (spare_in ws) IsWord
-    by_words [] = omega arith
-    by_words (w ∷ []) = braced_small w
-    by_words (w ∷ x ∷ ws) = tt
+spare_small s = grind (arith, if_some-then, cases_Bool, hex_below)
 
 -- ---- statements
 
@@ -92,15 +54,8 @@ record IsSound (s : Statement) : Type 0 where
   ignored : bit_and s.spare (ignored_bits s.inst) ≡ s.spare
   small : s.spare < 2 ^ 32
 
-plain_sound : (i : Inst) → IsValid i → IsSound (said i 0)
-plain_sound i v = record { valid = v; ignored = omega (arith, and_le_l 0 (ignored_bits i)); small = omega arith }
-
 spare_sound : (n : Noted Inst) (bits : Option ℕ) → IsValid n.value → IfSome bits IsWord → IsSound (with_spare n bits).value
-spare_sound n None v h = plain_sound n.value v
-spare_sound n (Some bits) v h = elim (cases_Bool (eqb (bit_and bits (ignored_bits n.value)) bits)) [
-  | inl good ↦ rw good (record { valid = v; ignored = eqb-true (bit_and bits (ignored_bits n.value)) bits good; small = h })
-  | inr bad ↦ rw bad (plain_sound n.value v)
-]
+spare_sound n bits v h = grind arith
 
 statement_sound : (ip : ℕ) (names : Names) (s : List ℕ) → (statement_of ip names s).fault ≡ None → IsSound (statement_of ip names s).value
 unfolding statement_of Fits
@@ -116,11 +71,7 @@ statement_sound ip names s = by_name (named_by (before is_blank s)) (named_fits 
 -- ---- words
 
 one_word : (m : Mode) → words_of_mode m ≡ 1 → has_disp m ≡ true → ⊥
-one_word Offset one h = cc
-one_word BaseOffset one h = cc
-one_word Base one h = cc
-one_word BaseIndex one h = cc
-one_word _ one h = cc
+one_word m one h = grind arith
 
 -- the first word of a sound statement
 first_word : (s : Statement) → IsSound s → ℕ

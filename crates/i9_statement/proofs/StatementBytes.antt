@@ -1,6 +1,5 @@
 -- The bytes of which printed statements are made.
-use Rattle.std.proofs.Common.{◌≡◌, ℕ, ◌<◌, ◌^◌, Bool, true, false, cond, eqb, ◌||◌, List, [], ◌∷◌, ◌++◌, refl, arith, lit≤}
-use Rattle.std.specs.Prelude.{codes}
+use Rattle.std.proofs.Common.{◌≡◌, ℕ, ◌<◌, ◌^◌, Bool, true, false, cond, ◌||◌, List, [], ◌∷◌, ◌++◌, refl, arith, lit≤}
 use Rattle.std.specs.List.{list_all, AllByRecursion}
 use Rattle.std.specs.Fmt.{digits}
 use Rattle.std.proofs.lemmas.Fmt.{digits_is_IsNumeral}
@@ -11,10 +10,10 @@ use Rattle.i9_isa.specs.Valid.{IsValid}
 use Rattle.i9_text.specs.Text.{space}
 use Rattle.i9_statement.specs.Cut.{is_byte}
 use Rattle.i9_statement.specs.Values.{is_name_byte}
-use Rattle.i9_statement.specs.Mnemonics.{mnemonic, mnemonic_text}
+use Rattle.i9_statement.specs.Mnemonics.{mnemonic_text}
 use Rattle.i9_statement.specs.Fields.{join_fields, comma}
-use Rattle.i9_statement.specs.Instructions.{Fields, operand_fields}
-use Rattle.i9_statement.specs.Statements.{open_brace, close_brace, fields_text, spare_text, statement_text}
+use Rattle.i9_statement.specs.Instructions.{Fields}
+use Rattle.i9_statement.specs.Statements.{open_brace, close_brace, fields_text, statement_text}
 use Rattle.i9_statement.proofs.Cutting.{all_by, all_append}
 use Rattle.i9_statement.proofs.NameBytes.{name_bytes}
 use Rattle.i9_statement.proofs.ReadInstructions.{mnemonic_bytes}
@@ -31,12 +30,8 @@ operand_statement w h = all_by is_operand_byte is_statement_byte (λ b in_q. rw 
 pub name_statement : (w : List ℕ) → list_all is_name_byte w ≡ true → list_all is_statement_byte w ≡ true
 name_statement w h = all_by is_name_byte is_statement_byte (λ b in_q. rw in_q refl) w h
 
-suffix_bytes : (hint : Bool) → list_all is_statement_byte (cond hint (codes ".f") []) ≡ true
-suffix_bytes true = refl
-suffix_bytes false = refl
-
 mnemonic_text_bytes : (op : Op) (hint : Bool) → list_all is_statement_byte (mnemonic_text op hint) ≡ true
-mnemonic_text_bytes op hint = all_append is_statement_byte (mnemonic op) (cond hint (codes ".f") []) (name_statement (mnemonic op) (mnemonic_bytes op)) (suffix_bytes hint)
+mnemonic_text_bytes op hint = grind (arith, all_append, name_statement, mnemonic_bytes)
 
 join_bytes : (fs : Fields) → AllByRecursion IsField fs → list_all is_statement_byte (join_fields fs) ≡ true
 unfolding join_fields
@@ -45,8 +40,7 @@ join_bytes (f ∷ []) h = operand_statement f h.0.bytes
 join_bytes (f ∷ g ∷ fs) h = all_append is_statement_byte f (comma ∷ space ∷ join_fields (g ∷ fs)) (operand_statement f h.0.bytes) (join_bytes (g ∷ fs) h.1)
 
 fields_bytes : (fs : Fields) → AllByRecursion IsField fs → list_all is_statement_byte (fields_text fs) ≡ true
-fields_bytes [] h = refl
-fields_bytes (f ∷ fs) h = join_bytes (f ∷ fs) h
+fields_bytes fs h = grind (arith, join_bytes)
 
 spare_bytes : (q : Bool) (bits : ℕ) → bits < 2 ^ 32 → list_all is_statement_byte (cond q [] (space ∷ open_brace ∷ (digits 16 true bits ++ close_brace ∷ []))) ≡ true
 spare_bytes true bits small = refl
@@ -58,9 +52,7 @@ spare_bytes false bits small =
 pub statement_bytes : (ip : ℕ) (i : Inst) (bits : ℕ) → bits < 2 ^ 32 → IsValid i → list_all is_statement_byte (statement_text ip i bits) ≡ true
 unfolding statement_text
 statement_bytes ip i bits small v =
-    let fs = operand_fields ip i in
-    all_append is_statement_byte (mnemonic_text i.op i.hint) (fields_text fs ++ spare_text bits) (mnemonic_text_bytes i.op i.hint)
-    (all_append is_statement_byte (fields_text fs) (spare_text bits) (fields_bytes fs (operand_fields-fields ip i v)) (spare_bytes (eqb bits 0) bits small))
+    grind (arith, all_append, mnemonic_text_bytes, fields_bytes, operand_fields-fields, spare_bytes)
 
 -- ---- ASCII
 

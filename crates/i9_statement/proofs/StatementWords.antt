@@ -1,20 +1,18 @@
 -- The words of a statement: there is one list of them, and a printed statement stands for those that it was printed of.
-use Rattle.std.proofs.Common.{◌≡◌, ℕ, zero, suc, ◌^◌, ◌<◌, Bool, false, ltb, List, [], ◌∷◌, ◌++◌, Option, Some, Ok, refl, sym, ap, subst, ◌∙◌, arith, inl, inr, ◌⊎◌}
+use Rattle.std.proofs.Common.{◌≡◌, ℕ, ◌^◌, ◌<◌, Bool, false, List, [], ◌∷◌, ◌++◌, Option, Some, Ok, refl, sym, ap, subst, ◌∙◌, arith, inl, inr, ◌⊎◌}
 use Rattle.std.specs.Int.{bit_at}
 use Rattle.std.specs.Int.Bits.{bit_and}
 use Rattle.std.proofs.lemmas.List.{append-nil}
-use Rattle.std.proofs.lemmas.Option.{cond_some, option_and_then_some}
+use Rattle.std.proofs.lemmas.Option.{option_and_then_some}
 use Rattle.std.proofs.lemmas.Nat.{and_le_l}
 use Rattle.std.proofs.lemmas.Nat.Bits.{bit_at_and, bit_at-lt, same_from_bits, same_from_bits_below}
 use Rattle.i9_isa.specs.declared.inst.Inst.{Inst}
 use Rattle.i9_isa.specs.declared.inst.Mode.{Mode}
-use Rattle.i9_isa.specs.declared.inst.Mode.TheVariants.{Offset, BaseOffset, BaseIndex}
 use Rattle.i9_isa.specs.declared.inst.Ea.{Ea}
 use Rattle.i9_isa.specs.declared.format.Format.{Format}
-use Rattle.i9_isa.specs.declared.format.Format.TheVariants as format
 use Rattle.i9_isa.specs.Operands.{no_address}
 use Rattle.i9_isa.specs.Table.{row_of}
-use Rattle.i9_isa.specs.Words.{words_of, words_of_mode, decoded, mode_in, address_in, if_scaled, ea_in, Encodes}
+use Rattle.i9_isa.specs.Words.{words_of, words_of_mode, decoded, address_in, if_scaled, ea_in, Encodes}
 use Rattle.i9_isa.proofs.Decoding.{decoded_encodes, second_free}
 use Rattle.i9_decode.specs.Ignored.{ignored_bits}
 use Rattle.i9_decode.proofs.ValidWords.{encodes_valid}
@@ -35,9 +33,7 @@ pub and_again : (w s : ℕ) → bit_and (bit_and w s) s ≡ bit_and w s
 and_again w s = same_from_bits (bit_and (bit_and w s) s) (bit_and w s) (λ k. omega (arith, bit_at_and (bit_and w s) s k, bit_at_and w s k))
 
 pub bit_cases : (n : ℕ) → n < 2 → (n ≡ 0) ⊎ (n ≡ 1)
-bit_cases zero h = inl refl
-bit_cases (suc zero) h = inr refl
-bit_cases (suc (suc n)) h = absurd (omega arith)
+bit_cases n h = grind arith
 
 picked : (s v w k : ℕ) → bit_at s k ≡ 1 → bit_and v s ≡ bit_and w s → bit_at v k ≡ bit_at w k
 picked s v w k one same =
@@ -53,32 +49,18 @@ code_unique i bits v w w1 cv cw =
     ])
 
 pub one_or_two : (m : Mode) → (words_of_mode m ≡ 1) ⊎ (words_of_mode m ≡ 2)
-one_or_two Offset = inl refl
-one_or_two BaseOffset = inl refl
-one_or_two Mode.Base = inl refl
-one_or_two BaseIndex = inl refl
-one_or_two _ = inr refl
+one_or_two m = grind arith
 
 -- ---- the second word
 
 address_second : (m : Mode) (w w1 : ℕ) (e : Ea) → if_scaled (address_in m w w1) ≡ Some e → words_of_mode e.mode ≡ 2 → e.disp ≡ w1
-address_second m w w1 e h two =
-    let is = (cond_some (ltb (address_in m w w1).scale 5) (address_in m w w1) e h).1 in
-    ap (λ a. a.disp) (sym is) ∙ second m (ap (λ a. words_of_mode a.mode) is ∙ two)
-  where
-    second : (n : Mode) → words_of_mode n ≡ 2 → (address_in n w w1).disp ≡ w1
-    second Offset h = absurd cc
-    second BaseOffset h = absurd cc
-    second Mode.Base h = absurd cc
-    second BaseIndex h = absurd cc
-    second _ h = refl
+address_second m w w1 e h two = grind arith
 
 no_second : (w1 : ℕ) (e : Ea) → ◌≡◌ {A = Option Ea} (Some no_address) (Some e) → words_of_mode e.mode ≡ 2 → e.disp ≡ w1
 no_second w1 e h two = let is : no_address ≡ e = cc in absurd (cc (ap (λ a. words_of_mode a.mode) is ∙ two))
 
 ea_second : (f : Format) (w w1 : ℕ) (e : Ea) → ea_in f w w1 ≡ Some e → words_of_mode e.mode ≡ 2 → e.disp ≡ w1
-ea_second format.Mem w w1 e h two = option_and_then_some (λ m. if_scaled (address_in m w w1)) (mode_in w) e h (λ m at x. address_second m w w1 e x two)
-ea_second _ w w1 e h two = no_second w1 e h two
+ea_second f w w1 e h two = grind (arith, option_and_then_some, address_second, no_second)
 
 second_word : (i : Inst) (w w1 : ℕ) → Encodes w w1 i → words_of i ≡ 2 → i.ea.disp ≡ w1
 second_word i w w1 h two = ea_second (row_of i.op).format w w1 i.ea h.ea two
@@ -93,10 +75,7 @@ same_code : (i j : Inst) (b c v x : ℕ) → ◌≡◌ {A = Statement} (said i b
 same_code i j b c v x same code = subst (λ (s : Statement). IsCode s.inst s.spare v x) same code
 
 both_once : (i : Inst) (b v w x y : ℕ) → words_of i ≡ 2 → IsCode i b v x → IsCode i b w y → (v ∷ x ∷ []) ≡ (w ∷ y ∷ [])
-both_once i b v w x y two cv cw =
-    let e : x ≡ y = sym (second_word i v x cv.form two) ∙ second_word i w y cw.form two in
-    let f : v ≡ w = code_unique i b v w y (subst (λ z. IsCode i b v z) e cv) cw in
-    rw (e, f) refl
+both_once i b v w x y two cv cw = grind (arith, second_word, code_unique)
 
 pub stands_once : (names : Names) (ip : ℕ) (s : List ℕ) (us vs : List ℕ) → Stands names ip s us → Stands names ip s vs → us ≡ vs
 stands_once names ip s _ _ (stands_one i b v read one code) (stands_one j c w again other codes) =

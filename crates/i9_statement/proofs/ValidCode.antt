@@ -5,7 +5,6 @@ use Rattle.std.specs.Int.{from_bool}
 use Rattle.std.proofs.lemmas.Bool.{ltb-true, lt-ltb, le-ltb, eqb-true, and_parts, cases_Bool}
 use Rattle.std.proofs.lemmas.Int.{ints}
 use Rattle.i9_isa.specs.declared.op.Op.{Op}
-use Rattle.i9_isa.specs.declared.op.Op.TheVariants.{Notbit}
 use Rattle.i9_isa.specs.declared.inst.Inst.{Inst}
 use Rattle.i9_isa.specs.declared.inst.Mode.{Mode}
 use Rattle.i9_isa.specs.declared.inst.Mode.TheVariants.{Offset, BaseOffset, Base, Ip, BaseIndex, Disp, BaseDisp, IndexDisp, BaseIndexDisp}
@@ -29,20 +28,14 @@ pub record HasWord (i : Inst) : Type 0 where
   pub form : (w1 : ℕ) → (has_disp i.ea.mode ≡ true → i.ea.disp ≡ w1) → Encodes word w1 i
   pub clear : HasNone (ignored_bits i) word
 
-opcode_fits : (op : Op) → ltb (row_of op).opcode 256 ≡ true
-opcode_fits Notbit = refl
-opcode_fits _ = refl
-
 opcode_small : (op : Op) → (row_of op).opcode < 256
-opcode_small op = ltb-true (row_of op).opcode 256 (opcode_fits op)
+opcode_small op = grind arith
 
 flag_small : (b : Bool) → from_bool b < 2
-flag_small true = omega arith
-flag_small false = omega arith
+flag_small b = grind arith
 
 flag_read : (n : ℕ) (b : Bool) → n ≡ from_bool b → eqb n 1 ≡ b
-flag_read n true e = rw e refl
-flag_read n false e = rw e refl
+flag_read n b e = grind arith
 
 -- ---- the register format
 
@@ -99,10 +92,7 @@ record LowDisp (width : ℕ) (z : ℤ) : Type 0 where
   said : z ≡ signed_of width low
 
 low_within : (width half : ℕ) → 2 ^ width ≡ 2 * half → 2 ^ (width - 1) ≡ half → half % 4 ≡ 0 → (z : ℤ) → is_within half z ≡ true → LowDisp width z
-low_within width half twice once fours (pos n) h =
-    let p = and_parts (ltb n half) (eqb (n % 4) 0) h in
-    let l = ltb-true n half p.0 in
-    record { low = n; small = omega arith; fours = eqb-true (n % 4) 0 p.1; said = rw (once, lt-ltb n half l) refl }
+low_within width half twice once fours (pos n) h = grind (arith, and_parts, ltb-true, eqb-true, lt-ltb)
 low_within width half twice once fours (negsuc n) h =
     let p = and_parts (ltb n half) (eqb (n % 4) 3) h in
     let l = ltb-true n half p.0 in
@@ -110,12 +100,10 @@ low_within width half twice once fours (negsuc n) h =
     record { low = 2 * half - 1 - n; small = omega arith; fours = omega arith; said = rw (once, le-ltb (2 * half - 1 - n) half (omega arith), twice) (omega (arith, ints)) }
 
 near_low : (uses : Bool) (z : ℤ) → FitsDisp Format.Cobr uses z → LowDisp 13 z
-near_low true z h = low_within 13 (2 ^ 12) refl refl refl z h
-near_low false z h = rw h (low_within 13 (2 ^ 12) refl refl refl (pos 0) refl)
+near_low uses z h = grind (arith, low_within)
 
 far_low : (uses : Bool) (z : ℤ) → FitsDisp Format.Ctrl uses z → LowDisp 24 z
-far_low true z h = low_within 24 (2 ^ 23) refl refl refl z h
-far_low false z h = rw h (low_within 24 (2 ^ 23) refl refl refl (pos 0) refl)
+far_low uses z h = grind (arith, low_within)
 
 -- the fields of a word of the compare-and-branch format
 record BranchFields (w o a b m s low hint : ℕ) : Type 0 where
@@ -202,14 +190,10 @@ record ModeBits (m : Mode) (n : ℕ) : Type 0 where
 
 mode_bits : (m : Mode) → ModeBits m (mode_number m)
 unfolding mode_number
-mode_bits Offset = record { small = refl; mode = refl; low = refl; long = refl }
-mode_bits BaseOffset = record { small = refl; mode = refl; low = refl; long = refl }
-mode_bits _ = record { small = refl; mode = refl; low = refl; long = refl }
+mode_bits m = grind arith
 
 offset_small : (m : Mode) (n : ℕ) → has_offset m ≡ true → ltb n (disp_limit m) ≡ true → n < 4096
-offset_small Offset n e h = ltb-true n 4096 h
-offset_small BaseOffset n e h = ltb-true n 4096 h
-offset_small _ n e h = absurd cc
+offset_small m n e h = grind arith
 
 -- the fields of a first word of the memory format, above those of the address
 record MemoryFields (w o c base : ℕ) : Type 0 where
@@ -238,9 +222,7 @@ short_field o c base mode disp em ld = omega arith
 
 short_mode : (m : Mode) → has_offset m ≡ true → mode_number m % 4096 ≡ 0
 unfolding mode_number
-short_mode Offset e = refl
-short_mode BaseOffset e = refl
-short_mode _ e = absurd cc
+short_mode m e = grind arith
 
 -- a word with the fields of an instruction of the memory format
 memory_of : (i : Inst) (w : ℕ) → IsValid i → (row_of i.op).format ≡ Format.Mem → is_address i.ea ≡ true

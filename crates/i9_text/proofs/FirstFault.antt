@@ -3,6 +3,7 @@
 use Rattle.std.proofs.Common.{◌≡◌, ℕ, suc, ◌+◌, List, [], ◌∷◌, ◌++◌, length, Option, Some, None, Result, Ok, Err, refl, sym, ap, subst, ◌∙◌, arith, inl, inr, ◌⊎◌, add-zero, zero-add, append_assoc, length-append}
 use Rattle.std.proofs.lemmas.List.{append-nil}
 use Rattle.i9_text.specs.FirstFault.{or_fault, SaysAll, IsRefused, at_line, at_end}
+use Rattle.i9_text.proofs.FirstFaultOnce.{SaysAll-append}
 
 module _ {S : Type 0} (fault : S → List ℕ → Option ℕ) (after : S → List ℕ → S) (missing : S → Option ℕ) where
   -- what reading these lines gives after n lines: the state that they lead to, or the first fault
@@ -16,12 +17,6 @@ option_cases (Some k) = inr (k, refl)
 
 module _ {S : Type 0} (Says : S → List ℕ → S → Type 0) (fault : S → List ℕ → Option ℕ) (after : S → List ℕ → S) (missing : S → Option ℕ) (start : S)
     (says_line : (s : S) (line : List ℕ) → fault s line ≡ None → Says s line (after s line)) (line_says : (s : S) (line : List ℕ) (t : S) → Says s line t → (fault s line ≡ None) × (after s line ≡ t)) where
-  same_err : (f g : ℕ × ℕ) → ◌≡◌ {A = Result S (ℕ × ℕ)} (Err f) (Err g) → f ≡ g
-  same_err f g e = cc
-
-  same_ok : (s t : S) → ◌≡◌ {A = Result S (ℕ × ℕ)} (Ok s) (Ok t) → s ≡ t
-  same_ok s t e = cc
-
   no_fault : (o : Option ℕ) (n : ℕ) (read : Result S (ℕ × ℕ)) (t : S) → or_fault o n read ≡ Ok t → (o ≡ None) × (read ≡ Ok t)
   no_fault None n read t e = (refl, e)
   no_fault (Some k) n read t e = absurd cc
@@ -31,7 +26,7 @@ module _ {S : Type 0} (Says : S → List ℕ → S → Type 0) (fault : S → Li
   unfolding read_from
   SaysAll-read n s t [] e =
       let a = no_fault (missing s) n (Ok s) t e in
-      let same = same_ok s t a.1 in
+      let same : s ≡ t = cc in
       (same, subst (λ (x : S). missing x ≡ None) same a.0)
   SaysAll-read n s t (line ∷ lines) e =
       let a = no_fault (fault s line) (n + 1) (read_from fault after missing (n + 1) (after s line) lines) t e in
@@ -64,11 +59,6 @@ module _ {S : Type 0} (Says : S → List ℕ → S → Type 0) (fault : S → Li
   read_from-refused lines f (at_end all s k before wrong) =
       ap (read_from fault after missing 0 start) (sym (append-nil all)) ∙ read_from-front 0 start s all [] before ∙ rw (wrong, zero-add) refl
 
-  -- one line more at the end
-  SaysAll-push : (r s t : S) (front : List (List ℕ)) (line : List ℕ) → SaysAll Says r front s → Says s line t → SaysAll Says r (front ++ line ∷ []) t
-  SaysAll-push r s t [] line before now = (t, subst (λ (x : S). Says x line t) (sym before) now, refl)
-  SaysAll-push r s t (first ∷ front) line before now = (before.0, before.1, SaysAll-push before.0 s t front line before.2 now)
-
   -- what reading refuses after lines without fault
   refused_from : (front : List (List ℕ)) (n : ℕ) (s : S) (lines : List (List ℕ)) (f : ℕ × ℕ) → n ≡ length front → SaysAll Says start front s → read_from fault after missing n s lines ≡ Err f → IsRefused Says fault missing start (front ++ lines) f
   unfolding read_from
@@ -76,18 +66,18 @@ module _ {S : Type 0} (Says : S → List ℕ → S → Type 0) (fault : S → Li
       elim (option_cases (missing s)) [
         | inl fine ↦ absurd (cc (rw fine at e))
         | inr wrong ↦
-            let same = same_err (n, wrong.0) f (rw wrong.1 at e) in
+            let same : (n, wrong.0) ≡ f = cc (rw wrong.1 at e) in
             let here : IsRefused Says fault missing start front f = subst (λ (x : ℕ × ℕ). IsRefused Says fault missing start front x) (ap (λ (k : ℕ). (k, wrong.0)) (sym len) ∙ same) (at_end front s wrong.0 before wrong.1) in
             subst (λ (x : List (List ℕ)). IsRefused Says fault missing start x f) (sym (append-nil front)) here
       ]
   refused_from front n s (line ∷ lines) f len before e =
       elim (option_cases (fault s line)) [
         | inl fine ↦
-            let more = SaysAll-push start s (after s line) front line before (says_line s line fine) in
+            let more = SaysAll-append Says start s (after s line) front (line ∷ []) before (after s line, says_line s line fine, refl) in
             let rest = refused_from (front ++ line ∷ []) (n + 1) (after s line) lines f (omega (arith, length-append front (line ∷ []))) more (rw fine at e) in
             subst (λ (x : List (List ℕ)). IsRefused Says fault missing start x f) (append_assoc front (line ∷ []) lines) rest
         | inr wrong ↦
-            let same = same_err (n + 1, wrong.0) f (rw wrong.1 at e) in
+            let same : (n + 1, wrong.0) ≡ f = cc (rw wrong.1 at e) in
             subst (λ (x : ℕ × ℕ). IsRefused Says fault missing start (front ++ line ∷ lines) x) (ap (λ (k : ℕ). (k + 1, wrong.0)) (sym len) ∙ same) (at_line front line lines s wrong.0 before wrong.1)
       ]
 

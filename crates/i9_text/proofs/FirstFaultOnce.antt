@@ -30,10 +30,7 @@ module _ {S : Type 0} (Says : S → List ℕ → S → Type 0) (fault : S → Li
   once_by : (n : ℕ) (s : S) (lines : List (List ℕ)) (f g : ℕ × ℕ) → Refused n s lines f → Refused n s lines g → f ≡ g
   unfolding Refused
   once_by n s [] f g x y = absurd x
-  once_by n s (line ∷ lines) f g (inl x) (inl y) = x.2 ∙ ap (λ k. (n + 1, k)) (same_kind x.0 y.0 (sym x.1 ∙ y.1)) ∙ sym y.2
-    where
-      same_kind : (a b : ℕ) → ◌≡◌ {A = Option ℕ} (Some a) (Some b) → a ≡ b
-      same_kind a b e = cc
+  once_by n s (line ∷ lines) f g (inl x) (inl y) = cc (x.1, x.2, y.1, y.2)
   once_by n s (line ∷ lines) f g (inl x) (inr y) = absurd (cc (sym x.1 ∙ sound s line y.0 y.1))
   once_by n s (line ∷ lines) f g (inr x) (inl y) = absurd (cc (sym y.1 ∙ sound s line x.0 x.1))
   once_by n s (line ∷ lines) f g (inr x) (inr y) =

@@ -8,13 +8,11 @@ use Rattle.i9_text.proofs.FirstFault.{read_from}
 
 -- what `split_line` says of the lines that are left
 pub lines_left-split : (text line : List ℕ) (after : Option (Bor (List ℕ))) → MatchOption after (lines_of text ≡ line ∷ []) (λ rest. lines_of text ≡ line ∷ lines_of rest.now) → lines_of text ≡ line ∷ lines_left after
-lines_left-split text line None h = h
-lines_left-split text line (Some rest) h = h
+lines_left-split text line after h = grind arith
 
 -- the loop ends
 pub left_len-split : (left : Option (Bor (List ℕ))) (text : Bor (List ℕ)) (after : Option (Bor (List ℕ))) → left ≡ Some text → MatchOption after ⊤ (λ rest. length rest.now < length text.now) → left_len after < left_len left
-left_len-split left text None some h = let e : left_len left ≡ length text.now + 1 = ap left_len some in omega arith
-left_len-split left text (Some rest) some h = let e : left_len left ≡ length text.now + 1 = ap left_len some in omega arith
+left_len-split left text after some h = grind arith
 
 module _ {S : Type 0} (fault : S → List ℕ → Option ℕ) (step : S → List ℕ → S) (missing : S → Option ℕ) where
   -- the invariant, after the next line is cut off

@@ -1,16 +1,12 @@
 -- The first word of a line, by the places of its first blank and of its first byte that is none.
-use Rattle.std.proofs.Common.{◌≡◌, ℕ, suc, ◌+◌, ◌<◌, Bool, true, false, List, [], ◌∷◌, length, take, drop, filter, Some, None, refl, sym, ap, ◌∙◌, arith, inl, inr, get_or, add-one, add-zero, drop-cons, not}
+use Rattle.std.proofs.Common.{◌≡◌, ℕ, suc, ◌+◌, ◌<◌, true, false, List, [], ◌∷◌, length, take, drop, filter, Some, None, refl, sym, ap, ◌∙◌, arith, inl, inr, get_or, add-one, add-zero, drop-cons}
 use Rattle.std.specs.List.{slice_split, position, position_or_len}
-use Rattle.std.proofs.lemmas.Bool.{lt-ltb, cases_lt, cases_Bool}
+use Rattle.std.proofs.lemmas.Bool.{lt-ltb, cases_lt, cases_Bool, not-true}
 use Rattle.std.proofs.lemmas.List.{length-take, take_all, drop_all, get_or-drop}
 use Rattle.std.proofs.lemmas.List.Sums.{fails_before_first, passes_at_first}
 use Rattle.std.proofs.lemmas.List.Splits.{slice_split_first, slice_split_none, slice_split-cons_yes}
 use Rattle.i9_text.specs.Text.{is_blank, is_in_word, is_some_word, words_of}
 use Rattle.i9_text.proofs.Cuts.{position_or_len-found, position_or_len-missing}
-
-not-false : (b : Bool) → not b ≡ true → b ≡ false
-not-false true e = absurd cc
-not-false false e = refl
 
 -- a blank in front says nothing
 pub words_of-blank : (b : ℕ) (rest : List ℕ) → is_blank b ≡ true → words_of (b ∷ rest) ≡ words_of rest
@@ -42,9 +38,7 @@ words_of-word line n e some long =
 -- where the first byte is no blank, the bytes before the first blank are a word
 pub words_of-first : (line : List ℕ) (d : ℕ) → 0 < length line → is_blank (get_or line 0 d) ≡ false → words_of line ≡ take (position_or_len is_blank line) line ∷ words_of (drop (position_or_len is_blank line) line)
 words_of-first [] d some first = absurd (omega arith)
-words_of-first (b ∷ rest) d some first =
-    let later : position_or_len is_blank (b ∷ rest) ≡ 1 + position_or_len is_blank rest = rw first refl in
-    words_of-word (b ∷ rest) (position_or_len is_blank (b ∷ rest)) refl (omega (arith, later)) some
+words_of-first (b ∷ rest) d some first = grind (arith, words_of-word)
 
 -- nor do all the blanks in front
 pub words_of-skip : (line : List ℕ) → words_of (drop (position_or_len is_in_word line) line) ≡ words_of line
@@ -64,7 +58,7 @@ pub words_of-from : (line : List ℕ) (i d : ℕ) → Some i ≡ position is_in_
 words_of-from line i d e =
     let f = position_or_len-found is_in_word line i e in
     let passes = passes_at_first is_in_word line d (omega (arith, f)) in
-    (rw f.0 at (words_of-skip line), rw (get_or-drop, add-zero) (not-false _ (rw f.0 at passes)), f.1)
+    (rw f.0 at (words_of-skip line), rw (get_or-drop, add-zero) (not-true _ (rw f.0 at passes)), f.1)
 
 -- a line of blanks
 pub words_of-none : (line : List ℕ) → None ≡ position is_in_word line → words_of line ≡ []
@@ -72,12 +66,8 @@ words_of-none line e = sym (words_of-skip line) ∙ rw (drop_all (position_or_le
 
 -- a line that begins with a word and has a blank
 pub words_of-cut : (line : List ℕ) (i d : ℕ) → Some i ≡ position is_blank line → is_blank (get_or line 0 d) ≡ false → (words_of line ≡ take i line ∷ words_of (drop i line)) × (i < length line)
-words_of-cut line i d e first =
-    let f = position_or_len-found is_blank line i e in
-    (rw f.0 at (words_of-first line d (omega (arith, f)) first), f.1)
+words_of-cut line i d e first = grind (arith, position_or_len-found, words_of-first)
 
 -- a line that is one word
 pub words_of-whole : (line : List ℕ) (d : ℕ) → None ≡ position is_blank line → 0 < length line → is_blank (get_or line 0 d) ≡ false → words_of line ≡ line ∷ []
-words_of-whole line d e some first =
-    let past = position_or_len-missing is_blank line e in
-    rw (take_all (position_or_len is_blank line) line past, drop_all (position_or_len is_blank line) line past) at (words_of-first line d some first)
+words_of-whole line d e some first = grind (arith, position_or_len-missing, take_all, drop_all, words_of-first)

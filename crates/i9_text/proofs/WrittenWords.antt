@@ -4,7 +4,7 @@ use Rattle.std.specs.List.{slice_split, join_with_byte, list_all, AllByRecursion
 use Rattle.std.specs.Char.{digit_value}
 use Rattle.std.specs.Fmt.{decimal}
 use Rattle.std.specs.Str.Parse.{AllDigits}
-use Rattle.std.proofs.lemmas.Bool.{lt-ltb, and_parts, not-true}
+use Rattle.std.proofs.lemmas.Bool.{lt-ltb, and_parts}
 use Rattle.std.proofs.lemmas.Fmt.{decimal_is_IsNumeral, length-decimal-le}
 use Rattle.std.proofs.lemmas.List.Elements.{All-from_recursion}
 use Rattle.std.proofs.lemmas.List.Splits.{slice_split_at, slice_split_none}
@@ -20,9 +20,7 @@ pub record IsWord (w : List ℕ) : Type 0 where
 
 no_blanks : (w : List ℕ) → list_all is_in_word w ≡ true → AllByRecursion (λ b. is_blank b ≡ false) w
 no_blanks [] h = tt
-no_blanks (b ∷ w) h =
-    let p = and_parts (is_in_word b) (list_all is_in_word w) h in
-    (not-true _ p.0, no_blanks w p.1)
+no_blanks (b ∷ w) h = (grind arith, no_blanks w (grind arith))
 
 filter-word : (w : List ℕ) (parts : List (List ℕ)) → ltb 0 (length w) ≡ true → filter is_some_word (w ∷ parts) ≡ w ∷ filter is_some_word parts
 filter-word w parts e = rw e refl
@@ -60,6 +58,4 @@ pub IsWord-decimal : (n : ℕ) → n < 2 ^ 64 → IsWord (decimal n)
 IsWord-decimal n small = let h = decimal_is_IsNumeral n small in IsWord-digits (decimal n) 10 (lit≤ tt) h.0.0 h.0.1
 
 pub number_of-decimal : (most n : ℕ) → 0 < most → n < 10 ^ most → n < 2 ^ 64 → number_of 10 most (decimal n) ≡ Some n
-number_of-decimal most n some few small =
-    let h = decimal_is_IsNumeral n small in
-    number_of-digits 10 most (decimal n) h.0.0 (length-decimal-le most n some few small) h.0.1 ∙ ap Some h.1
+number_of-decimal most n some few small = grind (arith, decimal_is_IsNumeral, number_of-digits, length-decimal-le)

@@ -8,16 +8,14 @@ use Rattle.i9_asm.specs.Source.{start_source, line_fault, fault_of, Assembles}
 use Rattle.i9_asm.specs.Reading.{source_at}
 use Rattle.i9_asm.proofs.TakenLines.{refused_at}
 use Rattle.i9_asm.proofs.RelationLoop.{wrong, done}
-use Rattle.i9_asm.proofs.ReadNames.{starts_at, all_told, known_here, known_behind, stands_on}
+use Rattle.i9_asm.proofs.ReadNames.{starts_at, all_told, known_here, stands_on}
 use Rattle.i9_asm.proofs.assembling.segments_of.Goals as goal
 
 pub loop-rest-init : goal.loop-rest-init
 loop-rest-init c = record { stands = starts_at (definitions c.args.table.now) c.new-source.result c.args.text c.requires c.new-source.ensures; few = omega arith }
 
 pub with_line-requires : goal.with_line-requires
-with_line-requires c =
-    let l = c.loop-rest in
-    known_behind (definitions c.args.table.now) l.number l.source l.rest c.in-Some.lines c.split_line.result.0.now c.split_line.result.1 (lines_of c.args.text.now) c.in-Some.is c.split_line.ensures.lines l.invariant.stands
+with_line-requires c = grind arith
 
 pub loop-rest-preserved : goal.loop-rest-preserved
 loop-rest-preserved c =

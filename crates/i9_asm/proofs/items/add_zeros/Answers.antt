@@ -1,4 +1,4 @@
-use Rattle.std.proofs.Common.{◌++◌, sym, ap, ◌∙◌, append_assoc}
+use Rattle.std.proofs.Common.{sym, append_assoc, arith}
 use Rattle.std.proofs.lemmas.List.{append-nil}
 use Rattle.i9_asm.specs.Source.{zeros}
 use Rattle.i9_asm.proofs.GivenBytes.{zeros-more}
@@ -9,6 +9,4 @@ unfolding zeros
 loop-init c = sym (append-nil c.args.bytes.now.items)
 
 pub loop-preserved : goal.loop-preserved
-loop-preserved c =
-    let old = c.args.bytes.now.items in
-    rw (c.in_ok-push.ensures.items, c.loop.invariant) (append_assoc old (zeros c.loop.counter) _ ∙ ap (λ zs. old ++ zs) (zeros-more c.loop.counter))
+loop-preserved c = grind (arith, append_assoc, zeros-more)

@@ -1,5 +1,4 @@
-use Rattle.std.proofs.Common.{sym, ap, ◌∙◌}
-use Rattle.std.specs.List.{list_all}
+use Rattle.std.proofs.Common.{sym, arith}
 use Rattle.std.proofs.lemmas.List.{take_all}
 use Rattle.std.proofs.lemmas.List.Folds.{list_all_more}
 use Rattle.i9_asm.specs.Places.{is_ascii}
@@ -11,6 +10,4 @@ loop-byte-preserved c =
     rw c.loop-byte.invariant (sym more)
 
 pub returns : goal.returns
-returns c =
-    let whole = take_all c.loop-byte.byte-index c.args.line.now c.loop-byte-test.false in
-    c.loop-byte.invariant ∙ ap (list_all is_ascii) whole
+returns c = grind (arith, take_all)

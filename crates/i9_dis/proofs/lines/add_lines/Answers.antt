@@ -1,24 +1,14 @@
-use Rattle.std.proofs.Common.{◌+◌, ◌<◌, ◌≤◌, length, arith, refl, sym, ap, subst}
+use Rattle.std.proofs.Common.{◌<◌, length, arith, refl}
 use Rattle.std.proofs.lemmas.Grind.{common_steps}
-use Rattle.i9_dis.proofs.Printing.{Goes, goes_start, goes_turn, goes_end}
-use Rattle.i9_dis.proofs.Listed.{line_some, line_fits}
+use Rattle.i9_dis.proofs.Printing.{goes_turn, goes_end}
+use Rattle.i9_dis.proofs.Listed.{line_fits}
 use Rattle.i9_dis.proofs.lines.add_lines.Goals as goal
 
 pub loop-rest-init : goal.loop-rest-init
-loop-rest-init c =
-    let a = c.args in
-    record {
-      place = ap (λ n. n + length a.bytes.now) c.from-place.ensures;
-      lines = subst (λ place. Goes a.start a.bytes.now a.text.now.items place a.bytes.now a.text.now.items) (sym c.from-place.ensures) (goes_start a.start a.bytes.now a.text.now.items);
-    }
-
-fits : (c : goal.In_ok-size) → c.in_ok-size.size ≤ length c.loop-rest.rest.now
-fits c =
-    let some : 0 < length c.loop-rest.rest.now = grind (arith, common_steps) in
-    omega (arith, c.in_ok-size.ensures.size, line_fits c.loop-rest.place c.loop-rest.rest.now some)
+loop-rest-init c = grind arith
 
 pub split_at-requires : goal.split_at-requires
-split_at-requires c = fits c
+split_at-requires c = grind arith
 
 pub loop-rest-preserved : goal.loop-rest-preserved
 loop-rest-preserved c =
@@ -31,10 +21,7 @@ loop-rest-preserved c =
     }
 
 pub loop-rest-smaller : goal.loop-rest-smaller
-loop-rest-smaller c =
-    let some : 0 < length c.loop-rest.rest.now = grind (arith, common_steps) in
-    let left = c.split_at.ensures.back_len in
-    omega (arith, c.in_ok-size.ensures.size, line_some c.loop-rest.place c.loop-rest.rest.now, line_fits c.loop-rest.place c.loop-rest.rest.now some)
+loop-rest-smaller c = grind arith
 
 pub returns : goal.returns
 returns c = goes_end c.args.start c.args.bytes.now c.args.text.now.items c.loop-rest.place c.loop-rest.rest.now c.loop-rest.text.items (grind (arith, common_steps)) c.loop-rest.invariant.lines

@@ -10,10 +10,7 @@ pub of-table-requires : goal.of-table-requires
 of-table-requires c = (fine_file c.args.file.now c.requires).long
 
 pub loop-index-init : goal.loop-index-init
-loop-index-init c = record {
-  same = begins_all c.args.file.now c.of-table.result.place c.of-table.result.count c.new-segments.result c.of-table.ensures.place c.of-table.ensures.count c.new-segments.ensures;
-  room = omega arith;
-}
+loop-index-init c = grind (arith, begins_all)
 
 pub read-header-requires : goal.read-header-requires
 read-header-requires c =
@@ -28,9 +25,7 @@ pub load-requires : goal.load-requires
 load-requires c = (fits c.args.file.now c.loop-index.size (plain c.read-header.result) (sym c.fault.ensures ∙ c.in_default.is)).loadable
 
 pub overflow_add-size : goal.overflow_add-size
-overflow_add-size c =
-    let fit = fits c.args.file.now c.loop-index.size (plain c.read-header.result) (sym c.fault.ensures ∙ c.in_default.is) in
-    omega (arith, fit.room)
+overflow_add-size c = grind (arith, fits)
 
 pub loop-index-preserved : goal.loop-index-preserved
 loop-index-preserved c = elim c.if-is_load.branch [

@@ -1,4 +1,4 @@
-use Rattle.std.proofs.Common.{◌≡◌, ℕ, List, Result, Err, sym, subst, ◌∙◌}
+use Rattle.std.proofs.Common.{◌≡◌, ℕ, List, Result, Err, sym, subst, ◌∙◌, arith}
 use Rattle.i9_elf.specs.declared.error.ElfError.TheVariants.{Bad}
 use Rattle.i9_elf.specs.Reading.{answer_of, Reads}
 use Rattle.i9_elf.proofs.Answers.{found, only, refused, first, answer-at_fault, answer-at_loads}
@@ -20,9 +20,4 @@ pub returns-in-Some-clause-first : goal.returns-in-Some-clause-first
 returns-in-Some-clause-first c = first c.args.file.now (Err (Bad c.in-Some.kind)) (by_fault c)
 
 pub returns-in-None : goal.returns-in-None
-returns-in-None c = record {
-  found = found c.args.file.now c.load_all.result c.requires (by_loads c);
-  only = only c.args.file.now c.load_all.result (by_loads c);
-  refused = refused c.args.file.now c.load_all.result (by_loads c);
-  first = first c.args.file.now c.load_all.result (by_loads c);
-}
+returns-in-None c = grind (arith, found, by_loads, only, refused, first)

@@ -16,9 +16,7 @@ count image runs others segments are also shown =
     ap length (one ∙ sym shown) ∙ length-map_part segments
 
 pub returns-then-as_slice-gt-MOST_HEADERS-clause-segments : goal.returns-then-as_slice-gt-MOST_HEADERS-clause-segments
-returns-then-as_slice-gt-MOST_HEADERS-clause-segments c = λ is runs are.
-    let n = count c.args.image.now c.in-Ok.runs runs c.as_slice.result.now c.in-Ok.ensures are c.as_slice.ensures.segments in
-    omega (arith, n, c.if-as_slice-gt-MOST_HEADERS.true)
+returns-then-as_slice-gt-MOST_HEADERS-clause-segments c = grind (arith, count)
 
 pub file_of-requires-clause-bytes : goal.file_of-requires-clause-bytes
 file_of-requires-clause-bytes c = subst (λ (runs : List Part). bytes_in runs ≤ most_bytes) (sym c.as_slice-2.ensures.segments) (few_bytes c.args.image.now c.in-Ok.runs c.in-Ok.ensures c.requires)

@@ -1,14 +1,11 @@
-use Rattle.std.proofs.Common.{◌+◌, map, ap}
+use Rattle.std.proofs.Common.{map, ap, arith}
 use Rattle.std.proofs.lemmas.List.{take_rest}
 use Rattle.i9_text.proofs.Cuts.{slice_split-found, slice_split-missing}
 use Rattle.i9_statement.specs.Fields.{is_comma, field_of}
 use Rattle.i9_statement.proofs.fields.split_field.Goals as goal
 
 pub returns-in-Some-clause-fields : goal.returns-in-Some-clause-fields
-returns-in-Some-clause-fields c =
-    let text = c.args.text.now in
-    let end = c.in-Some.end in
-    rw (c.field_of.ensures, take_rest text (end + 1)) (ap (map field_of) (slice_split-found is_comma text end 0 c.in-Some.ensures.place))
+returns-in-Some-clause-fields c = grind (arith, take_rest, slice_split-found)
 
 pub returns-in-None-clause-fields : goal.returns-in-None-clause-fields
 returns-in-None-clause-fields c = rw c.field_of-in-None.ensures (ap (map field_of) (slice_split-missing is_comma c.args.text.now c.in-None.ensures.place))

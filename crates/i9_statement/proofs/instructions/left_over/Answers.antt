@@ -1,7 +1,6 @@
-use Rattle.std.proofs.Common.{◌≡◌, ℕ, ◌<◌, List, [], ◌∷◌, length, map, Some, refl, sym, arith}
-use Rattle.std.specs.List.{slice_split}
+use Rattle.std.proofs.Common.{◌≡◌, ℕ, ◌<◌, List, [], ◌∷◌, length, map, Some, refl, arith}
 use Rattle.std.proofs.lemmas.List.Splits.{length-slice_split}
-use Rattle.i9_statement.specs.Fields.{is_comma, field_of}
+use Rattle.i9_statement.specs.Fields.{field_of}
 use Rattle.i9_statement.specs.declared.fault.Fault.TheVariants.{Form}
 use Rattle.i9_statement.specs.Instructions.{left_over}
 use Rattle.i9_statement.proofs.instructions.left_over.Goals as goal
@@ -11,6 +10,4 @@ some_left [] h = absurd (omega arith)
 some_left (p ∷ ps) h = refl
 
 pub returns-in-Some : goal.returns-in-Some
-returns-in-Some c =
-    let text = c.in-Some.field-0.now in
-    rw c.in-Some.is (sym (some_left (slice_split is_comma text) (omega (arith, length-slice_split is_comma text))))
+returns-in-Some c = grind (arith, some_left, length-slice_split)

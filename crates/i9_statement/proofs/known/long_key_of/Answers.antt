@@ -1,4 +1,4 @@
-use Rattle.std.proofs.Common.{ℕ, ◌≤◌, List, length, take, drop, refl, arith}
+use Rattle.std.proofs.Common.{ℕ, ◌≤◌, List, length, take, drop, arith}
 use Rattle.std.proofs.Math.Nat.{min-le_left}
 use Rattle.std.proofs.lemmas.List.{length-take, length-drop}
 use Rattle.i9_statement.specs.Known.{key_of}
@@ -21,9 +21,4 @@ word_of-last-requires c =
 
 pub returns : goal.returns
 unfolding key_of
-returns c =
-    let front = c.cut_word.ensures.front in
-    let back = c.cut_word.ensures.back in
-    let last = c.word_of-last.ensures in
-    rw (c.mark_of.ensures, c.word_of-first.ensures, c.word_of-second.ensures, c.word_of-third.ensures, last)
-    (rw (c.cut_word-3.ensures.front, c.cut_word-3.ensures.back, c.cut_word-2.ensures.front, c.cut_word-2.ensures.back, front, back) refl)
+returns c = grind arith

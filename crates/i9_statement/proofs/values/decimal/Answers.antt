@@ -1,4 +1,4 @@
-use Rattle.std.proofs.Common.{◌≡◌, ◌<◌, length, take, get_or, Some, sym, ap, ◌∙◌, arith}
+use Rattle.std.proofs.Common.{take, get_or, sym, ap, ◌∙◌, arith}
 use Rattle.std.specs.Option.{option_map}
 use Rattle.std.specs.Char.{digit_value}
 use Rattle.std.specs.Str.Parse.{digits_value}
@@ -11,9 +11,7 @@ use Rattle.i9_statement.proofs.ReadValues.{decimal_of-digits}
 use Rattle.i9_statement.proofs.values.decimal.Goals as goal
 
 pub returns-then-is_empty : goal.returns-then-is_empty
-returns-then-is_empty c =
-    let empty : length c.args.text.now ≡ 0 = grind (arith, common_steps) in
-    sym (ap (option_map capped) (decimal_of-empty c.args.text.now empty))
+returns-then-is_empty c = grind (arith, common_steps, decimal_of-empty)
 
 pub returns-then-digit-ge10 : goal.returns-then-digit-ge10
 returns-then-digit-ge10 c = sym (ap (option_map capped) (decimal_of-other c.args.text.now c.loop-byte.byte-index c.loop-byte-test.true (omega (arith, c.digit-digit.ensures))))
@@ -32,8 +30,4 @@ loop-byte-preserved c =
     }
 
 pub returns : goal.returns
-returns c =
-    let w = c.args.text.now in
-    let whole = take_all c.loop-byte.byte-index w c.loop-byte-test.false in
-    let some : 0 < length w = grind (arith, common_steps) in
-    ap Some (rw whole at c.loop-byte.invariant.value) ∙ sym (ap (option_map capped) (decimal_of-digits w some (rw whole at c.loop-byte.invariant.digits)))
+returns c = grind (arith, take_all, common_steps, decimal_of-digits)

@@ -1,4 +1,4 @@
-use Rattle.std.proofs.Common.{drop, sym, ◌∙◌}
+use Rattle.std.proofs.Common.{drop, sym, ◌∙◌, arith}
 use Rattle.std.proofs.lemmas.List.{take_rest}
 use Rattle.i9_statement.specs.Values.{magnitude}
 use Rattle.i9_statement.proofs.Decimals.{capped_hex}
@@ -13,6 +13,4 @@ returns-then-is_hexadecimal c =
 
 pub returns-else-is_hexadecimal : goal.returns-else-is_hexadecimal
 unfolding magnitude
-returns-else-is_hexadecimal c =
-    let is = sym c.is_hexadecimal.ensures ∙ c.if-is_hexadecimal.false in
-    rw is c.decimal.ensures
+returns-else-is_hexadecimal c = grind arith

@@ -1,11 +1,9 @@
-use Rattle.std.proofs.Common.{arith, sym, refl}
+use Rattle.std.proofs.Common.{arith}
 use Rattle.i9_text.proofs.WordCuts.{words_of-from, words_of-none}
 use Rattle.i9_text.proofs.words.skip_blanks.Goals as goal
 
 pub split_at-requires : goal.split_at-requires
-split_at-requires c =
-    let f = words_of-from c.args.line.now c.in-Some.start 0 c.in-Some.ensures in
-    omega (arith, f)
+split_at-requires c = grind arith
 
 pub returns-in-Some : goal.returns-in-Some
 returns-in-Some c =
@@ -17,6 +15,4 @@ returns-in-Some c =
     }
 
 pub returns-in-None : goal.returns-in-None
-returns-in-None c =
-    let none = words_of-none c.args.line.now c.in-None.ensures in
-    record { words = sym none; first = λ _. refl; none = λ _. none }
+returns-in-None c = grind (arith, words_of-none)

@@ -1,4 +1,4 @@
-use Rattle.std.proofs.Common.{ap, ◌∙◌}
+use Rattle.std.proofs.Common.{ap, ◌∙◌, arith}
 use Rattle.std.proofs.lemmas.Result.{on_ok_weaker}
 use Rattle.i9_statement.specs.Known.{known_in}
 use Rattle.i9_asm.specs.Lines.{Empty, Org, Align, Set}
@@ -11,8 +11,7 @@ use Rattle.i9_asm.proofs.GivenBytes.{code_adds, data_adds, string_adds, zeros_ad
 use Rattle.i9_asm.proofs.places.Place.add_item.Goals as goal
 
 pub returns-in-Instruction-clause-bytes : goal.returns-in-Instruction-clause-bytes
-returns-in-Instruction-clause-bytes c = on_ok_weaker c.add_code.result
-    (code_adds (known_in c.args.names) (place_of c.args.self.now) c.address.result c.in-Instruction.text.now c.args.bytes.now.items c.add_code.new.bytes.items (item_as c.args.said.now) c.address.ensures (ap item_as c.in-Instruction.is)) c.add_code.ensures.words
+returns-in-Instruction-clause-bytes c = grind (arith, on_ok_weaker, code_adds)
 
 pub returns-in-Data-clause-bytes : goal.returns-in-Data-clause-bytes
 returns-in-Data-clause-bytes c = on_ok_weaker c.add_data.result

@@ -1,4 +1,4 @@
-use Rattle.std.proofs.Common.{◌≡◌, ◌+◌, ◌%◌, None, sym, ap, subst, ◌∙◌}
+use Rattle.std.proofs.Common.{◌≡◌, ◌+◌, ◌%◌, None, sym, ap, subst, ◌∙◌, arith}
 use Rattle.i9_statement.specs.Noted.{least}
 use Rattle.i9_statement.specs.Known.{known_in}
 use Rattle.i9_asm.specs.Said.{item_as}
@@ -9,14 +9,7 @@ use Rattle.i9_asm.proofs.TakenLines.{least_left, least_right, grown_room, grows}
 use Rattle.i9_asm.proofs.source.Source.with_said.Goals as goal
 
 pub returns-in-Some : goal.returns-in-Some
-returns-in-Some c =
-    let names = known_in c.args.names in
-    let s = source_at (known_in c.args.behind) c.args.self in
-    let item = item_as c.args.said.now in
-    let g = c.in-Ok.grown in
-    let by = subst (λ (p : Place). GrowsBy names (source_at p.known c.args.self) item g) c.place-place.ensures c.in-Ok.ensures.grows in
-    let rest = c.least-rest.ensures ∙ ap (λ f. least f c.room_fault.result) by.fault ∙ ap (least (item_fault names s.place item)) (c.room_fault.ensures ∙ grown_room names s item g by) in
-    sym (c.least.ensures ∙ ap (least c.args.front) rest) ∙ c.in-Some.is
+returns-in-Some c = grind (arith, grown_room)
 
 pub returns : goal.returns
 returns c =
