@@ -56,8 +56,7 @@ front_sound : (short : Bool) (rest : List (List ℕ))
 unfolding known_names back_lines calls_text past_lines are_sound line_fault front_lines tables_text set_up_text
     code_len labelled item_of is_name decimal_of magnitude value_of number_of register_place fields_of closed spare_of
     statement_of named_by op_named mnemonic instruction_of operand_of target_of address_of address_behind base_of index_of
-front_sound true rest = refl
-front_sound false rest = refl
+front_sound short rest = grind arith
 
 front_past : (rest : List (List ℕ)) → past_lines start_place (front_lines ++ rest) ≡ past_lines number_place rest
 unfolding past_lines front_lines tables_text set_up_text
@@ -129,12 +128,10 @@ loads_lead names rounds start depth size rounds_small start_small depth_small is
 -- ---- the whole
 
 size_low : (short : Bool) → size_by short ≤ 8
-size_low true = omega arith
-size_low false = omega arith
+size_low short = grind arith
 
 size_is : (n : ℕ) (short : Bool) → ltb n 4096 ≡ short → load_size n ≡ size_by short
-size_is n true h = rw h refl
-size_is n false h = rw h refl
+size_is n short h = grind arith
 
 start_small : (number : ℕ) → start_of number < 2 ^ 32
 unfolding drawn
@@ -153,10 +150,7 @@ made_sound number =
     let later = later_lines (rounds_of number) (start_of number) (depth_of number) in
     let lead = number_lead number short refl in
     let names : all_names (made_lines number) ≡ known_names (size_by short) = ap (λ (p : Place). p.known) (front_past later ∙ lead.past) in
-    ap (λ ns. are_sound ns start_place 0 (made_lines number)) names
-    ∙ front_sound short later
-    ∙ lead.sound
-    ∙ back_sound short
+    cc (front_sound short later, back_sound short)
 
 -- a made source assembles
 pub made_source : (number : ℕ) → HasAssembly number
