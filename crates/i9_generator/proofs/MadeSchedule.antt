@@ -41,13 +41,10 @@ few_made : (number a n : ℕ) → length (events_of (made_lines number (range_wi
 few_made number a zero = refl
 few_made number a (suc n) = let few = few_made number (a + 1) n in omega (arith, few)
 
-counted_made : (number : ℕ) (js : List ℕ) → IsByCounts (events_of (made_lines number js))
-counted_made number [] = tt
-counted_made number (j ∷ js) = (refl, counted_made number js)
-
-version_made : (number : ℕ) (js : List ℕ) → AreOfVersion first_version (events_of (made_lines number js))
-version_made number [] = tt
-version_made number (j ∷ js) = (tt, version_made number js)
+kinds_made : (number : ℕ) (js : List ℕ)
+    → IsByCounts (events_of (made_lines number js)) × AreOfVersion first_version (events_of (made_lines number js))
+kinds_made number [] = (tt, tt)
+kinds_made number (j ∷ js) = let more = kinds_made number js in ((refl, more.0), (tt, more.1))
 
 made_plan : (number : ℕ) → IsPlan (events_of (made_lines number (range_with_len 1 event_number)))
 made_plan number =
@@ -56,7 +53,7 @@ made_plan number =
       each = each_made number 1 event_number (omega arith);
       order = order_made number 0 1 event_number (omega arith);
       few = omega (arith, few);
-      alike = (true, counted_made number (range_with_len 1 event_number));
+      alike = (true, (kinds_made number (range_with_len 1 event_number)).0);
     }
 
 -- the schedule is read as these events
@@ -68,7 +65,7 @@ unfolding generated_schedule heading_text
 made_says number =
     subst (λ (text : List ℕ). IsSchedule (lines_of text) (made_contents number))
     (sym (lines_are number (range_with_len 1 event_number)))
-    (replay first_version (made_lines number (range_with_len 1 event_number)) (inl refl) (made_plan number) (version_made number (range_with_len 1 event_number)))
+    (replay first_version (made_lines number (range_with_len 1 event_number)) (inl refl) (made_plan number) (kinds_made number (range_with_len 1 event_number)).1)
 
 -- a made schedule is read
 pub made_schedule : (number : ℕ) → HasPlan number
@@ -76,7 +73,7 @@ made_schedule number = record {
   events = events_of (made_lines number (range_with_len 1 event_number));
   said = made_says number;
   plan = made_plan number;
-  counted = counted_made number (range_with_len 1 event_number);
+  counted = (kinds_made number (range_with_len 1 event_number)).0;
 }
 
 -- so it is not refused
@@ -86,4 +83,4 @@ schedule_not_refused number fault refused = answers_apart (generated_schedule nu
 -- whatever it is read as stands at counts
 pub schedule_counted : (number : ℕ) (c : Contents) → IsSchedule (lines_of (generated_schedule number)) c → IsByCounts c.events
 schedule_counted number c says =
-    subst (λ (x : Contents). IsByCounts x.events) (one_schedule (generated_schedule number) (made_contents number) c (made_says number) says) (counted_made number (range_with_len 1 event_number))
+    subst (λ (x : Contents). IsByCounts x.events) (one_schedule (generated_schedule number) (made_contents number) c (made_says number) says) (kinds_made number (range_with_len 1 event_number)).0

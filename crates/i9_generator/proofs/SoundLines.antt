@@ -34,15 +34,10 @@ pub record Passes (names : Names) (p : Place) (n : ℕ) (line : List ℕ) (q : P
   pub past : past_line p line ≡ q
   pub count : counted p n line ≡ m
 
-pub passes_sound : (names : Names) (p : Place) (n : ℕ) (line : List ℕ) (q : Place) (m : ℕ) (lines : List (List ℕ))
-    → Passes names p n line q m → are_sound names p n (line ∷ lines) ≡ are_sound names q m lines
-unfolding are_sound
-passes_sound names p n line q m lines h = rw (h.sound, h.past, h.count) refl
-
-pub passes_past : (names : Names) (p : Place) (n : ℕ) (line : List ℕ) (q : Place) (m : ℕ) (lines : List (List ℕ))
-    → Passes names p n line q m → past_lines p (line ∷ lines) ≡ past_lines q lines
-unfolding past_lines
-passes_past names p n line q m lines h = ap (λ x. past_lines x lines) h.past
+pub passes : (names : Names) (p : Place) (n : ℕ) (line : List ℕ) (q : Place) (m : ℕ) (lines : List (List ℕ)) → Passes names p n line q m
+    → (are_sound names p n (line ∷ lines) ≡ are_sound names q m lines) × (past_lines p (line ∷ lines) ≡ past_lines q lines)
+unfolding are_sound past_lines
+passes names p n line q m lines h = rw (h.sound, h.past, h.count) (refl, refl)
 
 -- ---- such lines are not refused
 
