@@ -48,29 +48,19 @@ count_behind size = number_count + 4 + size + 4
 known_names : ℕ → Names
 known_names size = (past_lines (place_behind size) back_lines).known
 
--- the lines before have no fault
-front_sound : (short : Bool) (rest : List (List ℕ))
-    → are_sound (known_names (size_by short)) start_place 0 (front_lines ++ rest)
-    ≡ are_sound (known_names (size_by short)) number_place number_count rest
+-- the lines before lead on, and those behind have no fault
+record Constant (names : Names) (size : ℕ) : Type 0 where
+  front : (rest : List (List ℕ))
+      → are_sound names start_place 0 (front_lines ++ rest) ≡ are_sound names number_place number_count rest
+  past : (rest : List (List ℕ)) → past_lines start_place (front_lines ++ rest) ≡ past_lines number_place rest
+  back : are_sound names (place_behind size) (count_behind size) back_lines ≡ true
+
+constant : (short : Bool) → Constant (known_names (size_by short)) (size_by short)
 unfolding known_names back_lines calls_text past_lines are_sound line_fault front_lines tables_text set_up_text
     code_len labelled item_of is_name decimal_of magnitude value_of number_of register_place fields_of closed spare_of
     statement_of named_by op_named mnemonic instruction_of operand_of target_of address_of address_behind base_of index_of
-front_sound short rest = grind arith
-
-front_past : (rest : List (List ℕ)) → past_lines start_place (front_lines ++ rest) ≡ past_lines number_place rest
-unfolding past_lines front_lines tables_text set_up_text
-    code_len labelled item_of is_name decimal_of magnitude value_of number_of register_place fields_of closed spare_of
-    statement_of named_by op_named mnemonic instruction_of operand_of target_of address_of address_behind base_of index_of
-front_past rest = refl
-
--- and those behind
-back_sound : (short : Bool)
-    → are_sound (known_names (size_by short)) (place_behind (size_by short)) (count_behind (size_by short)) back_lines ≡ true
-unfolding known_names back_lines calls_text past_lines are_sound line_fault
-    code_len labelled item_of is_name decimal_of magnitude value_of number_of register_place fields_of closed spare_of
-    statement_of named_by op_named mnemonic instruction_of operand_of target_of address_of address_behind base_of index_of
-back_sound true = refl
-back_sound false = refl
+constant true = record { front = λ rest. refl; past = λ rest. refl; back = refl }
+constant false = record { front = λ rest. refl; past = λ rest. refl; back = refl }
 
 -- ---- the lines that go by the number
 
@@ -137,8 +127,8 @@ made_sound number =
     let short = ltb (start_of number) 4096 in
     let later = later_lines (rounds_of number) (start_of number) (depth_of number) in
     let lead = number_lead number short refl in
-    let names : all_names (made_lines number) ≡ known_names (size_by short) = ap (λ (p : Place). p.known) (front_past later ∙ lead.past) in
-    cc (front_sound short later, back_sound short)
+    let names : all_names (made_lines number) ≡ known_names (size_by short) = ap (λ (p : Place). p.known) ((constant short).past later ∙ lead.past) in
+    cc ((constant short).front later, (constant short).back)
 
 -- a made source assembles
 pub made_source : (number : ℕ) → HasAssembly number
