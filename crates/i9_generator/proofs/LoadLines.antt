@@ -1,5 +1,5 @@
 -- Lines that load a decimal number into a register: each number of 32 bits, with or without a label before.
-use Rattle.std.proofs.Common.{◌≡◌, ℕ, ◌+◌, ◌*◌, ◌^◌, ◌<◌, ◌≤◌, Bool, true, false, not, cond, ltb, List, [], ◌∷◌, ◌++◌, length, Option, Some, None, refl, sym, ap, ◌∙◌, add-one, arith}
+use Rattle.std.proofs.Common.{◌≡◌, ℕ, ◌+◌, ◌*◌, ◌^◌, ◌<◌, ◌≤◌, Bool, true, false, not, cond, ltb, List, [], ◌∷◌, ◌++◌, length, Option, Some, None, refl, ap, add-one, arith}
 use Rattle.std.specs.Prelude.{codes}
 use Rattle.std.specs.List.{list_all}
 use Rattle.std.specs.Fmt.{decimal}
@@ -19,7 +19,7 @@ use Rattle.i9_statement.specs.Noted.{fine}
 use Rattle.i9_statement.specs.Values.{Names, is_name_byte, value_of}
 use Rattle.i9_statement.proofs.Cutting.{is_free, before-cut, from-cut, all_append, all_by}
 use Rattle.i9_statement.proofs.ReadValues.{has_byte-some, decimal_some, decimal_bytes, value_of-decimal}
-use Rattle.i9_statement.specs.Addresses.{bang, opens, address_behind, address_of, base_of, index_of, valued, front_of, with_base}
+use Rattle.i9_statement.specs.Addresses.{bang, opens, address_behind, address_of, base_of, index_of}
 use Rattle.i9_statement.specs.Fields.{fields_of, join_fields, comma}
 use Rattle.i9_statement.specs.Instructions.{instruction_of}
 use Rattle.i9_statement.specs.Mnemonics.{mnemonic, op_named, named_by}
@@ -50,11 +50,8 @@ number_field : (w : List ℕ) (n : ℕ) → IsNumber w n → IsField w
 number_field w n h = grind (arith, all_by, has_byte-some)
 
 -- where a byte is not in a text, all of the text stands before it
-whole_before : (p : ℕ → Bool) (w : List ℕ) → is_free p w ≡ true → before p w ≡ w
-whole_before p w free = ap (before p) (sym (append-nil w)) ∙ before-cut p w [] free refl
-
-none_from : (p : ℕ → Bool) (w : List ℕ) → is_free p w ≡ true → from p w ≡ []
-none_from p w free = ap (from p) (sym (append-nil w)) ∙ from-cut p w [] free refl
+whole_before : (p : ℕ → Bool) (w : List ℕ) → is_free p w ≡ true → (before p w ≡ w) × (from p w ≡ [])
+whole_before p w free = (cc (append-nil w, before-cut p w [] free refl), cc (append-nil w, from-cut p w [] free refl))
 
 -- an offset, or a displacement where the number is too large for one
 abbrev pub number_address : ℕ → Ea
@@ -64,11 +61,8 @@ address_number : (names : Names) (w : List ℕ) (n : ℕ) → IsNumber w n → a
 unfolding address_of address_behind base_of index_of
 address_number names [] n h = absurd (omega (arith, h.some))
 address_number names (c ∷ w) n h =
-    let free = free_of_opens (c ∷ w) h.bytes in
-    rw (apart_by is_name_byte bang c refl (and_parts (is_name_byte c) _ h.bytes).0)
-    (ap (λ x. with_base false (front_of names x) (base_of (from opens (c ∷ w)))) (whole_before opens (c ∷ w) free)
-    ∙ ap (λ x. with_base false (front_of names (c ∷ w)) (base_of x)) (none_from opens (c ∷ w) free)
-    ∙ ap (λ v. with_base false (valued v) (base_of [])) (h.value names))
+    let whole = whole_before opens (c ∷ w) (free_of_opens (c ∷ w) h.bytes) in
+    rw (apart_by is_name_byte bang c refl (and_parts (is_name_byte c) _ h.bytes).0, whole.0, whole.1, h.value names) refl
 
 -- ---- the statement
 
@@ -95,12 +89,9 @@ load_parts ip names w g hw hg =
     let free : is_free (is_byte open_brace) text ≡ true =
     all_append (λ b. not (is_byte open_brace b)) w (comma ∷ space ∷ g)
     (free_in is_operand_byte open_brace w refl hw.bytes) (free_in is_operand_byte open_brace g refl hg.bytes) in
-    ap (λ t. with_spare (instruction_of ip Lda false names (fields_of t)) (spare_of (from (is_byte open_brace) text)))
-    (whole_before (is_byte open_brace) text free)
-    ∙ ap (λ t. with_spare (instruction_of ip Lda false names (fields_of text)) (spare_of t)) (none_from (is_byte open_brace) text free)
-    ∙ ap (λ t. with_spare (instruction_of ip Lda false names (fields_of t)) (Some 0)) (sym (append-nil text))
-    ∙ ap (λ fs. with_spare (instruction_of ip Lda false names fs) (Some 0)) (fields_of-text (w ∷ g ∷ []) false (hw, (hg, tt)))
-    ∙ zero_spare (load_of ip names w g)
+    let whole = whole_before (is_byte open_brace) text free in
+    let fields : fields_of text ≡ w ∷ g ∷ [] = cc (append-nil text, fields_of-text (w ∷ g ∷ []) false (hw, (hg, tt))) in
+    rw (whole.0, whole.1, fields) (zero_spare (load_of ip names w g))
 
 load_fault : (ip : ℕ) (names : Names) (w g : List ℕ) (n : ℕ) → IsNumber w n → IsTarget g → (load_of ip names w g).fault ≡ None
 unfolding instruction_of
@@ -123,8 +114,7 @@ load_size n = 4 * words_of_mode (number_address n).mode
 load_counts : (ip : ℕ) (w g : List ℕ) (n : ℕ) → IsNumber w n → IsTarget g
     → statement_size (statement_of ip no_names (load_text w g)) ≡ load_size n
 load_counts ip w g n h target =
-    ap statement_size (load_parts ip no_names w g (number_field w n h) target.field)
-    ∙ rw (load_fault ip no_names w g n h target, load_words ip no_names w g n h) refl
+    rw (load_parts ip no_names w g (number_field w n h) target.field, load_fault ip no_names w g n h target, load_words ip no_names w g n h) refl
 
 -- ---- the line
 
@@ -187,18 +177,7 @@ labelled_load n g small target = grind (arith, decimal_field, load_coded, load_a
 abbrev pub further : ℕ → Place → Place
 further size p = record p { location = p.location + size }
 
--- a place and a count in a source with room for so many bytes more
-record HasSpace (q : Place) (count size : ℕ) : Type 0 where
-  inside : q.location + size ≤ 2 ^ 32
-  few : count + size ≤ most_bytes
-
--- where a line with this label stands, which is no name before
-record IsLabel (label : Option (List ℕ)) (p q : Place) : Type 0 where
-  form : is_label label ≡ true
-  past : past_label label p ≡ q
-  fresh : label_fault label p.known ≡ None
-
--- so such a line is passed
+-- such a line is passed where there is room for it, and its label is no name before
 pub load_passes : (names : Names) (p q : Place) (line : List ℕ) (label : Option (List ℕ)) (count size : ℕ)
     → Loads line label size → is_label label ≡ true → past_label label p ≡ q → label_fault label p.known ≡ None
     → q.location + size ≤ 2 ^ 32 → count + size ≤ most_bytes → Passes names p count line (further size q) (count + size)
