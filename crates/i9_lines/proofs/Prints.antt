@@ -13,9 +13,6 @@ use Rattle.i9_lines.specs.Print.{Account, Prints, OnDone, IsCut, OnCut, CountsUp
 use Rattle.i9_lines.proofs.TextLines.{IsClosed, closed_none, closed_join, line_alone}
 use Rattle.i9_outside.proofs.Appending.{Appends-nothing, Appends-then}
 
-front_none : (known : Option (List ℕ)) (text : List ℕ) → AppendsFront known known text
-front_none known text = record { front = []; rest = text; parts = refl; grows = Appends-nothing known }
-
 -- a front of a text is a front of a longer one
 front_more : (a b : Option (List ℕ)) (x y : List ℕ) → AppendsFront a b x → AppendsFront a b (x ++ y)
 front_more a b x y f = record { front = f.front; rest = f.rest ++ y; parts = sym (append_assoc f.front f.rest y) ∙ ap (λ bs. bs ++ y) f.parts; grows = f.grows }
@@ -23,9 +20,6 @@ front_more a b x y f = record { front = f.front; rest = f.rest ++ y; parts = sym
 -- a text and a front of the next are a front of both
 front_after : (a b c : Option (List ℕ)) (x y : List ℕ) → Appends a b x → AppendsFront b c y → AppendsFront a c (x ++ y)
 front_after a b c x y p f = record { front = x ++ f.front; rest = f.rest; parts = append_assoc x f.front f.rest ∙ ap (λ bs. x ++ bs) f.parts; grows = Appends-then a b c x f.front p f.grows }
-
-rose_after : (a b c : ℕ) → b ≡ a → Rose b c → Rose a c
-rose_after a b c same rose = subst (λ m. Rose m c) same rose
 
 -- a sink that is sure of two texts and n bytes more is sure of the first, and then of the second and those
 sure_parts : {K : Type 0} (sure : K → ℕ → Type 0) (s : K) (x y : List ℕ) (n : ℕ) → sure s (length (x ++ y) + n) → sure s (length x + (length y + n))
@@ -44,9 +38,6 @@ counted-then before m (suc n) =
 all_counted : (xs ys : List (List ℕ)) (a b c : ℕ) → b ≡ counted_on a (length xs) → c ≡ counted_on b (length ys) → c ≡ counted_on a (length (xs ++ ys))
 all_counted xs ys a b c p q =
     q ∙ ap (λ n. counted_on n (length ys)) p ∙ counted-then a (length xs) (length ys) ∙ ap (counted_on a) (sym (length-append xs ys))
-
-none_counted : (xs : List (List ℕ)) (a b : ℕ) → b ≡ a → CountsUpTo (length xs) a b
-none_counted xs a b e = record { number = 0; few = omega arith; counted = e }
 
 some_counted : (xs ys : List (List ℕ)) (a b c : ℕ) → b ≡ counted_on a (length xs) → CountsUpTo (length ys) b c → CountsUpTo (length (xs ++ ys)) a c
 some_counted xs ys a b c p q = record {
@@ -88,9 +79,6 @@ module _ {K : Type 0} (taken : K → List (List ℕ) → Type 0) where
     parts = sym (append_assoc p.first ((p.front ++ p.back) ∷ p.left) ys) ∙ ap (λ (ls : List (List ℕ)). ls ++ ys) p.parts;
     takes = p.takes;
   }
-
-  first_none : (s : K) (lines : List (List ℕ)) → TakesFirst taken lines s s
-  first_none s lines = record { first = []; left = lines; parts = refl; takes = takes_none s }
 
   first_then : (xs ys : List (List ℕ)) (a b c : K) → Takes taken xs a b → TakesFirst taken ys b c → TakesFirst taken (xs ++ ys) a c
   first_then xs ys a b c p q = record {
@@ -155,7 +143,14 @@ module _ {K : Type 0} (k : Account K) where
 
   -- memory was refused before anything was printed
   pub prints_refused : (s : K) (text : List ℕ) → Prints Memory k s s text
-  prints_refused s text = record { later = omega arith; leaves = front_none (k.told s) text; cause = refl; lines = none_counted (lines_in text) _ _ refl; pieces = first_none k.pieces s (lines_in text); calm = λ n h. (λ e. cc, refl, tt) }
+  prints_refused s text = record {
+    later = omega arith;
+    leaves = record { front = []; rest = text; parts = refl; grows = Appends-nothing (k.told s) };
+    cause = refl;
+    lines = record { number = 0; few = omega arith; counted = refl };
+    pieces = record { first = []; left = lines_in text; parts = refl; takes = takes_none k.pieces s };
+    calm = λ n h. (λ e. cc, refl, tt);
+  }
 
   -- a text that is spelled in another way
   pub prints_same : (answer : Printed) (a b : K) (x y : List ℕ) → x ≡ y → Prints answer k a b x → Prints answer k a b y
@@ -201,7 +196,7 @@ module _ {K : Type 0} (k : Account K) where
   prints_then Write a b c x y closed p q = record {
     later = omega (arith, p.later, q.later);
     leaves = front_after (k.told a) (k.told b) (k.told c) x y p.leaves q.leaves;
-    cause = rose_after _ _ _ p.cause q.cause;
+    cause = rw p.cause at q.cause;
     lines = rw (closed.apart y) (some_counted (lines_in x) (lines_in y) _ _ _ p.lines q.lines);
     pieces = rw (closed.apart y) (front_then k.pieces (lines_in x) (lines_in y) a b c p.pieces q.pieces);
     calm = then_calm Write a b c x y p q;
