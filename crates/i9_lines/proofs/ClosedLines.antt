@@ -1,10 +1,9 @@
 -- The printed lines, whose last byte is their line feed.
-use Rattle.std.proofs.Common.{◌≡◌, ℕ, List, [], ◌∷◌, ◌++◌, codes, map, flat_map, refl, ap, ◌∙◌}
-use Rattle.std.specs.Fmt.{decimal}
+use Rattle.std.proofs.Common.{◌≡◌, ℕ, List, [], ◌∷◌, ◌++◌, map, flat_map, refl, ap, ◌∙◌, arith}
 use Rattle.std.specs.List.{AllByRecursion}
 use Rattle.i9_text.proofs.WrittenLines.{plain-decimal}
 use Rattle.i9_model.specs.declared.view.View.{View}
-use Rattle.i9_model.specs.PrintedText.{Shown, Out, Drained, Journal, Bytes, Last, words_text, point_text, shown_text, text_of}
+use Rattle.i9_model.specs.PrintedText.{Shown, Out, Drained, Journal, Bytes, Last, point_text, shown_text, text_of}
 use Rattle.i9_machine.specs.declared.line.Line.{Line}
 use Rattle.i9_machine.specs.declared.line.Raw.{Raw}
 use Rattle.i9_machine.specs.Line.{AddsLines, shown_of}
@@ -48,12 +47,8 @@ added-text ls xs e = lines-text ls ∙ ap text_of e
 
 pub closed_view : (v : View) → IsClosed (view_text v)
 unfolding view_text
-closed_view v =
-    closed_three (words_text (codes "#view " ++ decimal v.count) (v.ip ∷ v.ac ∷ v.pc ∷ [])) _ _
-    (line-words _ (v.ip ∷ v.ac ∷ v.pc ∷ []) (plain-decimal v.count)) (line-globals v) (line-locals v)
+closed_view v = grind (arith, closed_join, closed_line, line-words, plain-decimal, line-globals, line-locals)
 
 pub closed_raw : (raw : Raw) → IsClosed (raw_text raw)
 unfolding raw_text
-closed_raw raw =
-    closed_three (words_text (codes "#raw " ++ decimal raw.turn) (raw.busy ∷ [])) _ _
-    (line-words _ (raw.busy ∷ []) (plain-decimal raw.turn)) (line-words (codes "#rg") _ refl) (line-words (codes "#rl") _ refl)
+closed_raw raw = grind (arith, closed_join, closed_line, line-words, plain-decimal)

@@ -61,16 +61,11 @@ line-bytes a bs = line_of (codes "#mem" ++ spaced a ++ flat_map spaced_byte bs) 
 
 pub line-end : (f : End) → IsLine (end_text f)
 unfolding end_text
-line-end (Exit w) = line-words (codes "#end exit") (w ∷ []) refl
-line-end Limit = refl
-line-end (Hazard a) = line-words (codes "#end hazard") (a ∷ []) refl
-line-end (Dead code a) = line-words (codes "#end dead " ++ decimal code) (a ∷ []) (plain-decimal code)
-line-end (Imprecise a) = line-words (codes "#end imprecise") (a ∷ []) refl
+line-end f = grind (arith, line-words, plain-decimal)
 
 pub end_labelled : (f : End) → length (codes "#end ") ≤ length (end_text f)
 unfolding end_text words_text
-end_labelled Limit = omega arith
-end_labelled _ = omega arith
+end_labelled f = grind arith
 
 -- the end of the run that was made from a number
 line-ending : (f : End) → IsLine (ending f)

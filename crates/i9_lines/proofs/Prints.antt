@@ -36,15 +36,10 @@ counted-then before m (suc n) =
 
 -- the same of lines, and then others
 all_counted : (xs ys : List (List ℕ)) (a b c : ℕ) → b ≡ counted_on a (length xs) → c ≡ counted_on b (length ys) → c ≡ counted_on a (length (xs ++ ys))
-all_counted xs ys a b c p q =
-    q ∙ ap (λ n. counted_on n (length ys)) p ∙ counted-then a (length xs) (length ys) ∙ ap (counted_on a) (sym (length-append xs ys))
+all_counted xs ys a b c p q = grind (arith, counted-then, length-append)
 
 some_counted : (xs ys : List (List ℕ)) (a b c : ℕ) → b ≡ counted_on a (length xs) → CountsUpTo (length ys) b c → CountsUpTo (length (xs ++ ys)) a c
-some_counted xs ys a b c p q = record {
-  number = length xs + q.number;
-  few = omega (arith, q.few, length-append xs ys);
-  counted = q.counted ∙ ap (λ n. counted_on n q.number) p ∙ counted-then a (length xs) q.number;
-}
+some_counted xs ys a b c p q = grind (arith, length-append, counted-then)
 
 fewer_counted : (xs ys : List (List ℕ)) (a b : ℕ) → CountsUpTo (length xs) a b → CountsUpTo (length (xs ++ ys)) a b
 fewer_counted xs ys a b p = record { number = p.number; few = omega (arith, p.few, length-append xs ys); counted = p.counted }
@@ -71,14 +66,7 @@ module _ {K : Type 0} (taken : K → List (List ℕ) → Type 0) where
   }
 
   front_goes_on : (xs ys : List (List ℕ)) (a b : K) → TakesFront taken xs a b → TakesFront taken (xs ++ ys) a b
-  front_goes_on xs ys a b p = record {
-    first = p.first;
-    front = p.front;
-    back = p.back;
-    left = p.left ++ ys;
-    parts = sym (append_assoc p.first ((p.front ++ p.back) ∷ p.left) ys) ∙ ap (λ (ls : List (List ℕ)). ls ++ ys) p.parts;
-    takes = p.takes;
-  }
+  front_goes_on xs ys a b p = grind (arith, append_assoc)
 
   first_then : (xs ys : List (List ℕ)) (a b c : K) → Takes taken xs a b → TakesFirst taken ys b c → TakesFirst taken (xs ++ ys) a c
   first_then xs ys a b c p q = record {
@@ -89,12 +77,7 @@ module _ {K : Type 0} (taken : K → List (List ℕ) → Type 0) where
   }
 
   first_goes_on : (xs ys : List (List ℕ)) (a b : K) → TakesFirst taken xs a b → TakesFirst taken (xs ++ ys) a b
-  first_goes_on xs ys a b p = record {
-    first = p.first;
-    left = p.left ++ ys;
-    parts = sym (append_assoc p.first p.left ys) ∙ ap (λ (ls : List (List ℕ)). ls ++ ys) p.parts;
-    takes = p.takes;
-  }
+  first_goes_on xs ys a b p = grind (arith, append_assoc)
 
 -- ---- texts of items
 
@@ -117,24 +100,16 @@ flat_map-split text items i = sym (flat_map-append text (take (i + 1) items) (dr
 -- ---- where printing stopped
 
 pub not_done : (answer : Printed) → IsCut answer → answer ≢ Done
-not_done Done cut = absurd cut
-not_done Write cut = λ e. cc
-not_done Memory cut = λ e. cc
+not_done answer cut = grind arith
 
 pub on_cut : (answer : Printed) (P : Type 0) → P → OnCut answer P
-on_cut Done P p = tt
-on_cut Write P p = p
-on_cut Memory P p = p
+on_cut answer P p = grind arith
 
 pub of_cut : (answer : Printed) (P : Type 0) → IsCut answer → OnCut answer P → P
-of_cut Done P cut p = absurd cut
-of_cut Write P cut p = p
-of_cut Memory P cut p = p
+of_cut answer P cut p = grind arith
 
 pub cut_whole : (answer : Printed) (P : Type 0) → IsCut answer → OnDone answer P
-cut_whole Done P cut = absurd cut
-cut_whole Write P cut = tt
-cut_whole Memory P cut = tt
+cut_whole answer P cut = grind arith
 
 module _ {K : Type 0} (k : Account K) where
   -- no text at all is printed whole by doing nothing
@@ -143,14 +118,7 @@ module _ {K : Type 0} (k : Account K) where
 
   -- memory was refused before anything was printed
   pub prints_refused : (s : K) (text : List ℕ) → Prints Memory k s s text
-  prints_refused s text = record {
-    later = omega arith;
-    leaves = record { front = []; rest = text; parts = refl; grows = Appends-nothing (k.told s) };
-    cause = refl;
-    lines = record { number = 0; few = omega arith; counted = refl };
-    pieces = record { first = []; left = lines_in text; parts = refl; takes = takes_none k.pieces s };
-    calm = λ n h. (λ e. cc, refl, tt);
-  }
+  prints_refused s text = grind (arith, append-nil)
 
   -- a text that is spelled in another way
   pub prints_same : (answer : Printed) (a b : K) (x y : List ℕ) → x ≡ y → Prints answer k a b x → Prints answer k a b y
@@ -226,14 +194,7 @@ module _ {K : Type 0} (k : Account K) where
       → k.faults b ≡ k.faults a → k.writes b ≡ one_more (k.writes a) → TakesPiece k.pieces writes.Ok piece a b
       → ((n : ℕ) → k.sure a (length piece + n) → (writes.Ok ≡ writes.Ok) × (k.faults b ≡ k.faults a) × k.sure b n)
       → Prints Done k a b piece
-  piece_printed a b piece line later leaves cause once took calm = record {
-    later = later;
-    leaves = leaves;
-    cause = cause;
-    lines = rw line once;
-    pieces = rw line took;
-    calm = λ n h. let q = calm n h in (λ e. cc, q.1, q.2);
-  }
+  piece_printed a b piece line later leaves cause once took calm = grind arith
 
   -- or a front of it
   pub piece_cut : (a b : K) (piece : List ℕ) → IsPiece piece → k.faults a ≤ k.faults b → AppendsFront (k.told a) (k.told b) piece
