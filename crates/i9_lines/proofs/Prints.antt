@@ -105,9 +105,6 @@ not_done answer cut = grind arith
 pub on_cut : (answer : Printed) (P : Type 0) → P → OnCut answer P
 on_cut answer P p = grind arith
 
-pub of_cut : (answer : Printed) (P : Type 0) → IsCut answer → OnCut answer P → P
-of_cut answer P cut p = grind arith
-
 pub cut_whole : (answer : Printed) (P : Type 0) → IsCut answer → OnDone answer P
 cut_whole answer P cut = grind arith
 
