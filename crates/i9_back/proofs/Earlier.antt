@@ -1,7 +1,7 @@
 -- Each number of instructions of a run has one earlier state.
-use Rattle.std.proofs.Common.{◌≡◌, ℕ, ◌+◌, ◌<◌, ◌≤◌, List, [], ◌∷◌, ◌++◌, Some, refl, sym, ap, ◌∙◌, subst, ◌⊎◌, inl, inr, arith}
+use Rattle.std.proofs.Common.{◌≡◌, ℕ, ◌+◌, ◌<◌, ◌≤◌, List, [], ◌∷◌, ◌++◌, Some, sym, ap, ◌∙◌, subst, ◌⊎◌, inl, inr, arith}
 use Rattle.i9_past.proofs.Ends.{boot_count}
-use Rattle.i9_model.specs.Run.{Given, Kind, Instruction, Faulted, Record, counts_of, state_after, Finish}
+use Rattle.i9_model.specs.Run.{Given, Kind, Record, counts_of, state_after, Finish}
 use Rattle.i9_past.proofs.Left.{counts_after}
 use Rattle.i9_course.specs.Course.{event_ahead}
 use Rattle.i9_course.specs.PipelinedRun.{steps, IsPipelinedPast, finish_after}
@@ -20,9 +20,7 @@ record_after g rs r late =
 
 -- a record counts one or none
 pub one_or_none : (k : Kind) → (counts_of k ≡ 1) ⊎ (counts_of k ≡ 0)
-one_or_none (Instruction i) = inl refl
-one_or_none (Faulted inst fault) = inl refl
-one_or_none _ = inr refl
+one_or_none k = grind arith
 
 -- no records count none
 pub none_done : (g : Given) → (state_after g []).count ≡ 0
@@ -38,8 +36,7 @@ rises g (z ∷ zs) rs late =
 
 -- the count of an earlier state
 pub earlier_count : (g : Given) (c : ℕ) (rs : List Record) → EndsAt c rs → (state_after g rs).count ≡ c
-earlier_count g c [] last = none_done g ∙ sym last
-earlier_count g c (r ∷ rs) last = last.1
+earlier_count g c rs last = grind (arith, none_done)
 
 -- ---- there is one
 

@@ -56,30 +56,14 @@ rewound_stands pairs length sets m old plan stands turn first is =
 
 module _ (g : Given) where
   pub going_begins : (from to : ℕ) (m : Machine) (plan : Plan) → from ≤ to → (s : StandsEarlier g from m plan) → GoingAt g s.records from to m plan
-  going_begins from to m plan le s = record {
-    stands = s.stands;
-    follows = s.follows;
-    count = earlier_count g from s.records s.earlier.last;
-    within = le;
-    there = λ same. (subst (λ (n : ℕ). EndsAt n s.records) same s.earlier.last, s.turn);
-  }
+  going_begins from to m plan le s = grind (arith, earlier_count)
 
   module _ (rs : List Record) (done to : ℕ) (m : Machine) (plan : Plan) (s : GoingAt g rs done to m plan) where
     pub earlier_there : to ≤ done → IsEarlier g to rs
-    earlier_there le =
-        let within = s.within in
-        record { past = s.stands.past; last = (s.there (omega (arith, le, within))).0 }
+    earlier_there le = grind arith
 
     pub going_there : to ≤ done → StandsEarlier g to m plan
-    going_there le =
-        let within = s.within in
-        record {
-          records = rs;
-          earlier = earlier_there le;
-          turn = (s.there (omega (arith, le, within))).1;
-          stands = s.stands;
-          follows = s.follows;
-        }
+    going_there le = grind (arith, earlier_there)
 
     pub under_way : IsUnderWay m plan
     under_way = record { given = g; items = steps rs; stands = s.stands; follows = s.follows }
@@ -88,32 +72,11 @@ module _ (g : Given) where
       (before m : Machine) (plan : Plan) (old new : List Line) where
     -- an event or an entry
     pub on_goes : done < to → (d : Comes g (steps rs) answers.On (progress before old_plan old) (progress m plan new)) → GoingAt g (d.done ∷ rs) done to m plan
-    on_goes below d =
-        let none = on_counts d.done.kind d.done.before d.tells in
-        let count = (record_after g rs d.done d.stands.past).1 in
-        let so_far = s.count in
-        record {
-          stands = d.stands;
-          follows = d.follows;
-          count = omega (arith, count, none, so_far);
-          within = s.within;
-          there = λ same. absurd (omega (arith, below, same));
-        }
+    on_goes below d = grind (arith, on_counts, record_after)
 
     -- an instruction
     pub issued_goes : done < to → (t : Issued) → (d : Comes g (steps rs) (answers.Issued t) (progress before old_plan old) (progress m plan new)) → GoingAt g (d.done ∷ rs) (done + 1) to m plan
-    issued_goes below t d =
-        let one = issued_counts d.done.kind d.done.before t d.tells in
-        let count = (record_after g rs d.done d.stands.past).1 in
-        let so_far = s.count in
-        let after : d.done.after.count ≡ done + 1 = omega (arith, count, one, so_far) in
-        record {
-          stands = d.stands;
-          follows = d.follows;
-          count = after;
-          within = omega (arith, below);
-          there = λ same. ((one, after ∙ same), d.turn ∙ sym d.now ∙ sym (record_issues g rs d.done d.stands.past));
-        }
+    issued_goes below t d = grind (arith, issued_counts, record_after, record_issues)
 
     -- no end comes before
     pub no_end : done < to → HasInstructions g to → (f : End) → Comes g (steps rs) (answers.End f) (progress before old_plan old) (progress m plan new) → ⊥
@@ -124,5 +87,4 @@ module _ (g : Given) where
 
     -- the events of the schedule stay
     pub same_events : (answer : Turn) → Comes g (steps rs) answer (progress before old_plan old) (progress m plan new) → plan.events ≡ old_plan.events
-    same_events answers.On d = d.follows.events ∙ sym s.follows.events
-    same_events _ d = d.follows.events ∙ sym s.follows.events
+    same_events answer d = grind arith

@@ -1,10 +1,10 @@
 -- A machine that goes on to a later state, and the last change of a byte on the way.
-use Rattle.std.proofs.Common.{◌≡◌, ℕ, ◌+◌, ◌<◌, ◌≤◌, Bool, false, cond, List, [], ◌∷◌, ◌++◌, Option, Some, None, Result, Ok, Err, IfOk, refl, sym, ap, ◌∙◌, arith}
+use Rattle.std.proofs.Common.{◌≡◌, ℕ, ◌+◌, ◌<◌, ◌≤◌, Bool, false, cond, List, [], ◌∷◌, ◌++◌, Option, Some, None, Result, IfOk, refl, sym, ap, ◌∙◌, arith}
 use Rattle.std.specs.Prelude.{not}
 use Rattle.std.proofs.lemmas.List.{append-nil}
 use Rattle.i9_model.specs.Overlay.{overlay}
 use Rattle.i9_model.specs.State.{State}
-use Rattle.i9_model.specs.Run.{Given, Kind, Instruction, Faulted, Record, counts_of, state_after}
+use Rattle.i9_model.specs.Run.{Given, Kind, Record, counts_of, state_after}
 use Rattle.i9_schedule.specs.Plan.{Plan}
 use Rattle.i9_course.specs.Course.{records_of}
 use Rattle.i9_course.specs.PipelinedRun.{steps}
@@ -34,9 +34,7 @@ changed_by a r x y one before after = rw (before, after, one) refl
 
 -- what is told of an instruction is its address
 issued_address : (kind : Kind) (s : State) (t : Issued) → TellsRecord kind s (answers.Issued t) → t.address ≡ s.ip
-issued_address (Instruction i) s t h = h.place
-issued_address (Faulted inst fault) s t h = h.place
-issued_address _ s t h = absurd h
+issued_address kind s t h = grind arith
 
 not_cond : {A : Type 0} (b : Bool) (x y : A) → cond b x y ≡ cond (not b) y x
 not_cond b x y = grind arith
@@ -66,16 +64,7 @@ module _ (g : Given) (a : ℕ) where
 
   pub watching_there : (older : List Record) (done to : ℕ) (found : Option (ℕ × ℕ)) (byte : Option ℕ) (m : Machine) (plan : Plan) → to ≤ done
       → Watching g older done to a found byte m plan → Watched g older to a found m plan
-  watching_there older done to found byte m plan le w =
-      let within = w.going.within in
-      record {
-        newer = w.newer;
-        earlier = earlier_there g (w.newer ++ older) done to m plan w.going le;
-        is = w.is;
-        turn = (w.going.there (omega (arith, le, within))).1;
-        stands = w.going.stands;
-        follows = w.going.follows;
-      }
+  watching_there older done to found byte m plan le w = grind (arith, earlier_there)
 
   module _ (older : List Record) (done to : ℕ) (found : Option (ℕ × ℕ)) (byte : Option ℕ) (was : Machine) (old_plan : Plan)
       (w : Watching g older done to a found byte was old_plan) (before m : Machine) (plan : Plan) (old new : List Line) (below : done < to)
@@ -114,9 +103,7 @@ module _ (g : Given) (a : ℕ) where
 -- nothing stands before the newer records
 pub answered_whole : {E : Type 0} (r : Result (Option (ℕ × ℕ)) E) (g : Given) (to a : ℕ) (m : Machine) (plan : Plan)
     → IfOk r (λ o. Watched g [] to a o m plan) → IfOk r (λ o. IsLastChange g to a o plan)
-answered_whole (Ok o) g to a m plan w =
-    record { records = w.newer ++ []; earlier = w.earlier; is = w.is ∙ ap (last_change a) (sym (append-nil w.newer)); follows = w.follows }
-answered_whole (Err e) g to a m plan w = tt
+answered_whole r g to a m plan w = grind (arith, append-nil)
 
 -- the bytes of records are those of their items
 pub shown_steps : (g : Given) (m : Machine) (a : ℕ) (x : Option ℕ)

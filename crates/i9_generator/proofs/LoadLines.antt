@@ -1,28 +1,25 @@
 -- Lines that load a decimal number into a register: each number of 32 bits, with or without a label before.
-use Rattle.std.proofs.Common.{◌≡◌, ℕ, ◌+◌, ◌*◌, ◌%◌, ◌^◌, ◌<◌, ◌≤◌, Bool, true, false, not, cond, ltb, List, [], ◌∷◌, ◌++◌, length, Option, Some, None, refl, sym, ap, ◌∙◌, add-one, arith}
+use Rattle.std.proofs.Common.{◌≡◌, ℕ, ◌+◌, ◌*◌, ◌^◌, ◌<◌, ◌≤◌, Bool, true, false, not, cond, ltb, List, [], ◌∷◌, ◌++◌, length, Option, Some, None, refl, ap, add-one, arith}
 use Rattle.std.specs.Prelude.{codes}
 use Rattle.std.specs.List.{list_all}
 use Rattle.std.specs.Fmt.{decimal}
-use Rattle.std.specs.Int.Bits.{bit_and}
-use Rattle.std.proofs.lemmas.Bool.{and_parts, eq-eqb, lt-ltb, le-ltb}
+use Rattle.std.proofs.lemmas.Bool.{and_parts, lt-ltb}
 use Rattle.std.proofs.lemmas.List.{append-nil}
-use Rattle.std.proofs.lemmas.Nat.{and_le_l}
 use Rattle.i9_isa.specs.declared.op.Op.TheVariants.{Lda}
 use Rattle.i9_isa.specs.declared.inst.Mode.TheVariants.{Offset, Disp}
 use Rattle.i9_isa.specs.declared.inst.Ea.{Ea}
 use Rattle.i9_isa.specs.declared.inst.Inst.{Inst}
 use Rattle.i9_isa.specs.Words.{words_of_mode, words_of}
 use Rattle.i9_isa.specs.declared.format.Use.TheVariants.{Load}
-use Rattle.i9_decode.specs.Ignored.{ignored_bits}
-use Rattle.i9_text.specs.Text.{space, is_in_word}
+use Rattle.i9_text.specs.Text.{space}
 use Rattle.i9_statement.specs.declared.fault.Noted.{Noted}
 use Rattle.i9_statement.specs.declared.values.Value.TheVariants.{Number}
 use Rattle.i9_statement.specs.Cut.{before, from, is_byte}
-use Rattle.i9_statement.specs.Noted.{fine, least}
+use Rattle.i9_statement.specs.Noted.{fine}
 use Rattle.i9_statement.specs.Values.{Names, is_name_byte, value_of}
 use Rattle.i9_statement.proofs.Cutting.{is_free, before-cut, from-cut, all_append, all_by}
 use Rattle.i9_statement.proofs.ReadValues.{has_byte-some, decimal_some, decimal_bytes, value_of-decimal}
-use Rattle.i9_statement.specs.Addresses.{bang, opens, address_behind, address_of, base_of, index_of, valued, front_of, with_base}
+use Rattle.i9_statement.specs.Addresses.{bang, opens, address_behind, address_of, base_of, index_of}
 use Rattle.i9_statement.specs.Fields.{fields_of, join_fields, comma}
 use Rattle.i9_statement.specs.Instructions.{instruction_of}
 use Rattle.i9_statement.specs.Mnemonics.{mnemonic, op_named, named_by}
@@ -33,10 +30,10 @@ use Rattle.i9_statement.proofs.ReadAddresses.{ea, free_of_opens}
 use Rattle.i9_statement.proofs.ReadFields.{fields_of-text}
 use Rattle.i9_statement.proofs.StatementBytes.{is_statement_byte, operand_statement, low_statement}
 use Rattle.i9_asm.specs.Lines.{Instruction, Labelled, code_of, code_len, without_comment, labelled, item_by, item_of, label_of}
-use Rattle.i9_asm.specs.Places.{Place, location_count, address_at, no_names, is_ascii, is_label, statement_size, past_label, past_line}
+use Rattle.i9_asm.specs.Places.{Place, no_names, is_ascii, is_label, statement_size, past_label}
 use Rattle.i9_asm.specs.Source.{most_bytes, label_fault, line_fault}
 use Rattle.i9_asm.proofs.ReadLines.{NoTail, without_comment-tail}
-use Rattle.i9_generator.proofs.SoundLines.{standing, Passes}
+use Rattle.i9_generator.proofs.SoundLines.{Passes}
 
 -- ---- the number as an address
 
@@ -47,21 +44,14 @@ record IsNumber (w : List ℕ) (n : ℕ) : Type 0 where
   value : (names : Names) → value_of names w ≡ Some (Number n)
 
 decimal_number : (n : ℕ) → n < 2 ^ 32 → IsNumber (decimal n) n
-decimal_number n small =
-    record { some = decimal_some n small; bytes = decimal_bytes n small; value = λ names. value_of-decimal names n small }
+decimal_number n small = grind (arith, decimal_some, decimal_bytes, value_of-decimal)
 
 number_field : (w : List ℕ) (n : ℕ) → IsNumber w n → IsField w
-number_field w n h = record {
-  bytes = all_by is_name_byte is_operand_byte (λ b in_q. rw in_q refl) w h.bytes;
-  some = has_byte-some w h.some;
-}
+number_field w n h = grind (arith, all_by, has_byte-some)
 
 -- where a byte is not in a text, all of the text stands before it
-whole_before : (p : ℕ → Bool) (w : List ℕ) → is_free p w ≡ true → before p w ≡ w
-whole_before p w free = ap (before p) (sym (append-nil w)) ∙ before-cut p w [] free refl
-
-none_from : (p : ℕ → Bool) (w : List ℕ) → is_free p w ≡ true → from p w ≡ []
-none_from p w free = ap (from p) (sym (append-nil w)) ∙ from-cut p w [] free refl
+whole_before : (p : ℕ → Bool) (w : List ℕ) → is_free p w ≡ true → (before p w ≡ w) × (from p w ≡ [])
+whole_before p w free = (cc (append-nil w, before-cut p w [] free refl), cc (append-nil w, from-cut p w [] free refl))
 
 -- an offset, or a displacement where the number is too large for one
 abbrev pub number_address : ℕ → Ea
@@ -71,11 +61,8 @@ address_number : (names : Names) (w : List ℕ) (n : ℕ) → IsNumber w n → a
 unfolding address_of address_behind base_of index_of
 address_number names [] n h = absurd (omega (arith, h.some))
 address_number names (c ∷ w) n h =
-    let free = free_of_opens (c ∷ w) h.bytes in
-    rw (apart_by is_name_byte bang c refl (and_parts (is_name_byte c) _ h.bytes).0)
-    (ap (λ x. with_base false (front_of names x) (base_of (from opens (c ∷ w)))) (whole_before opens (c ∷ w) free)
-    ∙ ap (λ x. with_base false (front_of names (c ∷ w)) (base_of x)) (none_from opens (c ∷ w) free)
-    ∙ ap (λ v. with_base false (valued v) (base_of [])) (h.value names))
+    let whole = whole_before opens (c ∷ w) (free_of_opens (c ∷ w) h.bytes) in
+    rw (apart_by is_name_byte bang c refl (and_parts (is_name_byte c) _ h.bytes).0, whole.0, whole.1, h.value names) refl
 
 -- ---- the statement
 
@@ -91,12 +78,8 @@ load_text w g = codes "lda" ++ fields_text (w ∷ g ∷ [])
 abbrev load_of : ℕ → Names → List ℕ → List ℕ → Noted Inst
 load_of ip names w g = instruction_of ip Lda false names (w ∷ g ∷ [])
 
--- bits that are ignored ones
-same_spare : (n : Noted Inst) (bits : ℕ) → bit_and bits (ignored_bits n.value) ≡ bits → with_spare n (Some bits) ≡ joined n (fine bits)
-same_spare n bits h = rw (eq-eqb (bit_and bits (ignored_bits n.value)) bits h) refl
-
 zero_spare : (n : Noted Inst) → with_spare n (Some 0) ≡ joined n (fine 0)
-zero_spare n = same_spare n 0 (omega (arith, and_le_l 0 (ignored_bits n.value)))
+zero_spare n = grind arith
 
 load_parts : (ip : ℕ) (names : Names) (w g : List ℕ) → IsField w → IsField g
     → statement_of ip names (load_text w g) ≡ joined (load_of ip names w g) (fine 0)
@@ -106,12 +89,9 @@ load_parts ip names w g hw hg =
     let free : is_free (is_byte open_brace) text ≡ true =
     all_append (λ b. not (is_byte open_brace b)) w (comma ∷ space ∷ g)
     (free_in is_operand_byte open_brace w refl hw.bytes) (free_in is_operand_byte open_brace g refl hg.bytes) in
-    ap (λ t. with_spare (instruction_of ip Lda false names (fields_of t)) (spare_of (from (is_byte open_brace) text)))
-    (whole_before (is_byte open_brace) text free)
-    ∙ ap (λ t. with_spare (instruction_of ip Lda false names (fields_of text)) (spare_of t)) (none_from (is_byte open_brace) text free)
-    ∙ ap (λ t. with_spare (instruction_of ip Lda false names (fields_of t)) (Some 0)) (sym (append-nil text))
-    ∙ ap (λ fs. with_spare (instruction_of ip Lda false names fs) (Some 0)) (fields_of-text (w ∷ g ∷ []) false (hw, (hg, tt)))
-    ∙ zero_spare (load_of ip names w g)
+    let whole = whole_before (is_byte open_brace) text free in
+    let fields : fields_of text ≡ w ∷ g ∷ [] = cc (append-nil text, fields_of-text (w ∷ g ∷ []) false (hw, (hg, tt))) in
+    rw (whole.0, whole.1, fields) (zero_spare (load_of ip names w g))
 
 load_fault : (ip : ℕ) (names : Names) (w g : List ℕ) (n : ℕ) → IsNumber w n → IsTarget g → (load_of ip names w g).fault ≡ None
 unfolding instruction_of
@@ -125,8 +105,7 @@ load_words ip names w g n h = ap (λ a. words_of_mode a.value.mode) (address_num
 load_sound : (ip : ℕ) (names : Names) (w g : List ℕ) (n : ℕ) → IsNumber w n → IsTarget g
     → (statement_of ip names (load_text w g)).fault ≡ None
 load_sound ip names w g n h target =
-    ap (λ s. s.fault) (load_parts ip names w g (number_field w n h) target.field)
-    ∙ ap (λ f. least f None) (load_fault ip names w g n h target)
+    cc (load_parts ip names w g (number_field w n h) target.field, load_fault ip names w g n h target)
 
 -- how many bytes it has
 abbrev pub load_size : ℕ → ℕ
@@ -135,8 +114,7 @@ load_size n = 4 * words_of_mode (number_address n).mode
 load_counts : (ip : ℕ) (w g : List ℕ) (n : ℕ) → IsNumber w n → IsTarget g
     → statement_size (statement_of ip no_names (load_text w g)) ≡ load_size n
 load_counts ip w g n h target =
-    ap statement_size (load_parts ip no_names w g (number_field w n h) target.field)
-    ∙ rw (load_fault ip no_names w g n h target, load_words ip no_names w g n h) refl
+    rw (load_parts ip no_names w g (number_field w n h) target.field, load_fault ip no_names w g n h target, load_words ip no_names w g n h) refl
 
 -- ---- the line
 
@@ -151,8 +129,7 @@ pub record Loads (line : List ℕ) (label : Option (List ℕ)) (size : ℕ) : Ty
 
 load_bytes : (w g : List ℕ) → IsField w → IsField g → list_all is_statement_byte (load_text w g) ≡ true
 unfolding join_fields
-load_bytes w g hw hg =
-    all_append is_statement_byte w (comma ∷ space ∷ g) (operand_statement w hw.bytes) (operand_statement g hg.bytes)
+load_bytes w g hw hg = grind (arith, all_append, operand_statement)
 
 load_ascii : (w g : List ℕ) → IsField w → IsField g → list_all is_ascii (load_text w g) ≡ true
 load_ascii w g hw hg =
@@ -160,9 +137,7 @@ load_ascii w g hw hg =
 
 load_clean : (w g : List ℕ) → IsField w → IsField g → without_comment (load_text w g) ≡ load_text w g
 load_clean w g hw hg =
-    ap without_comment (sym (append-nil (load_text w g)))
-    ∙ without_comment-tail (load_text w g) NoTail (load_bytes w g hw hg)
-    ∙ append-nil (load_text w g)
+    cc (append-nil (load_text w g), without_comment-tail (load_text w g) NoTail (load_bytes w g hw hg))
 
 -- by its code, which is the statement behind the label
 load_coded : (n : ℕ) (g line : List ℕ) (label : Option (List ℕ)) → n < 2 ^ 32 → IsTarget g → list_all is_ascii line ≡ true
@@ -184,11 +159,7 @@ decimal_field n small = number_field (decimal n) n (decimal_number n small)
 
 pub unlabelled_load : (n : ℕ) (g : List ℕ) → n < 2 ^ 32 → IsTarget g → Loads (load_text (decimal n) g) None (load_size n)
 unfolding labelled
-unlabelled_load n g small target =
-    let field = decimal_field n small in
-    let line = load_text (decimal n) g in
-    load_coded n g line None small target (load_ascii (decimal n) g field target.field)
-    (ap (λ s. labelled (from is_in_word s)) (load_clean (decimal n) g field target.field))
+unlabelled_load n g small target = grind (arith, decimal_field, load_coded, load_ascii, load_clean)
 
 -- a label and a blank before a text
 behind_label : (s : List ℕ) → without_comment (codes "loop: " ++ s) ≡ codes "loop: " ++ without_comment s
@@ -198,11 +169,7 @@ behind_label s = simp add-one refl
 pub labelled_load : (n : ℕ) (g : List ℕ) → n < 2 ^ 32 → IsTarget g
     → Loads (codes "loop: " ++ load_text (decimal n) g) (Some (codes "loop")) (load_size n)
 unfolding labelled
-labelled_load n g small target =
-    let field = decimal_field n small in
-    let line = load_text (decimal n) g in
-    load_coded n g (codes "loop: " ++ line) (Some (codes "loop")) small target (load_ascii (decimal n) g field target.field)
-    (ap (λ s. labelled (from is_in_word s)) (behind_label line ∙ ap (λ s. codes "loop: " ++ s) (load_clean (decimal n) g field target.field)))
+labelled_load n g small target = grind (arith, decimal_field, load_coded, load_ascii, behind_label, load_clean)
 
 -- ---- the places and the faults
 
@@ -210,40 +177,9 @@ labelled_load n g small target =
 abbrev pub further : ℕ → Place → Place
 further size p = record p { location = p.location + size }
 
--- a place and a count in a source with room for so many bytes more
-record HasSpace (q : Place) (count size : ℕ) : Type 0 where
-  inside : q.location + size ≤ 2 ^ 32
-  few : count + size ≤ most_bytes
-
--- where a line with this label stands, which is no name before
-record IsLabel (label : Option (List ℕ)) (p q : Place) : Type 0 where
-  form : is_label label ≡ true
-  past : past_label label p ≡ q
-  fresh : label_fault label p.known ≡ None
-
-load_past : (p q : Place) (line : List ℕ) (label : Option (List ℕ)) (count size : ℕ)
-    → Loads line label size → IsLabel label p q → HasSpace q count size → past_line p line ≡ further size q
-load_past p q line label count size h named space =
-    let next : (q.location + size) % location_count ≡ q.location + size = omega (arith, space.inside) in
-    rw (h.ascii, h.named, named.form, h.item, named.past, h.counts (address_at q), next) refl
-
-load_line_sound : (names : Names) (p q : Place) (line : List ℕ) (label : Option (List ℕ)) (count size : ℕ)
-    → Loads line label size → IsLabel label p q → HasSpace q count size → line_fault names (standing p count) line ≡ None
-unfolding line_fault
-load_line_sound names p q line label count size h named space =
-    let inside : ltb (2 ^ 32) (q.location + size) ≡ false = le-ltb _ _ space.inside in
-    let small : ltb most_bytes (count + size) ≡ false = le-ltb _ _ space.few in
-    rw (h.ascii, h.named, named.fresh, h.item, named.past, h.sound (address_at q) names, h.counts (address_at q), inside, small) refl
-
--- so such a line is passed
+-- such a line is passed where there is room for it, and its label is no name before
 pub load_passes : (names : Names) (p q : Place) (line : List ℕ) (label : Option (List ℕ)) (count size : ℕ)
     → Loads line label size → is_label label ≡ true → past_label label p ≡ q → label_fault label p.known ≡ None
     → q.location + size ≤ 2 ^ 32 → count + size ≤ most_bytes → Passes names p count line (further size q) (count + size)
-load_passes names p q line label count size h form past fresh inside few =
-    let named : IsLabel label p q = record { form = form; past = past; fresh = fresh } in
-    let space : HasSpace q count size = record { inside = inside; few = few } in
-    record {
-      sound = load_line_sound names p q line label count size h named space;
-      past = load_past p q line label count size h named space;
-      count = rw (h.named, h.item, past, h.counts (address_at q)) refl;
-    }
+unfolding line_fault
+load_passes names p q line label count size h form past fresh inside few = grind arith

@@ -1,7 +1,6 @@
 -- A made schedule is read as a plan whose events stand at counts.
-use Rattle.std.proofs.Common.{◌≡◌, ℕ, zero, suc, ◌+◌, ◌*◌, ◌%◌, ◌≤◌, true, List, [], ◌∷◌, ◌++◌, length, refl, sym, ap, ◌∙◌, subst, append_assoc, codes, inl, arith}
-use Rattle.std.specs.List.{flat_map, range_with_len, join_with_byte, AllByRecursion}
-use Rattle.std.specs.Fmt.{decimal}
+use Rattle.std.proofs.Common.{◌≡◌, ℕ, zero, suc, ◌+◌, ◌*◌, ◌%◌, ◌≤◌, true, List, [], ◌∷◌, length, refl, sym, subst, append_assoc, inl, arith}
+use Rattle.std.specs.List.{flat_map, range_with_len, AllByRecursion}
 use Rattle.i9_text.specs.Text.{lines_of}
 use Rattle.i9_model.specs.declared.event.Event.TheVariants.{Pin}
 use Rattle.i9_model.specs.Events.{journal_text}
@@ -21,32 +20,18 @@ abbrev made_lines : ℕ → List ℕ → List Shown
 made_lines number [] = []
 made_lines number (j ∷ js) = Journal (100 * j) (Pin (pin_of number j)) ∷ made_lines number js
 
-words_are : (ds xs : List ℕ) → codes "at " ++ ds ++ codes " pin " ++ xs ++ codes "\n"
-    ≡ join_with_byte 32 (codes "at" ∷ ds ∷ codes "pin" ∷ xs ∷ []) ++ 10 ∷ []
-words_are ds xs =
-    append_assoc (codes "at " ++ ds ++ codes " pin ") xs (codes "\n")
-    ∙ append_assoc (codes "at " ++ ds) (codes " pin ") (xs ++ codes "\n")
-    ∙ ap (λ (rest : List ℕ). 97 ∷ 116 ∷ 32 ∷ rest) (sym (append_assoc ds (32 ∷ 112 ∷ 105 ∷ 110 ∷ 32 ∷ xs) (10 ∷ [])))
-
 line_is : (k x : ℕ) → pin_line k x ≡ event_text k (Pin x)
 unfolding event_text journal_text
-line_is k x = words_are (decimal k) (decimal x)
+line_is k x = grind (arith, append_assoc)
 
 lines_are : (number : ℕ) (js : List ℕ) → flat_map (event_line number) js ≡ text_of (made_lines number js)
 lines_are number [] = refl
-lines_are number (j ∷ js) =
-    ap (λ (t : List ℕ). t ++ flat_map (event_line number) js) (line_is (100 * j) (pin_of number j))
-    ∙ ap (λ (t : List ℕ). event_text (100 * j) (Pin (pin_of number j)) ++ t) (lines_are number js)
-
-pin_small : (n : ℕ) → n % 8 ≤ 7
-pin_small n = omega arith
+lines_are number (j ∷ js) = cc (line_is (100 * j) (pin_of number j), lines_are number js)
 
 -- so many events from a place on
 each_made : (number a n : ℕ) → a + n ≤ 2001 → AllByRecursion IsTimedInRange (events_of (made_lines number (range_with_len a n)))
 each_made number a zero le = tt
-each_made number a (suc n) le =
-    let small = pin_small (drawn number (3 + a)) in
-    (record { time = omega (arith, le); event = small }, each_made number (a + 1) n (omega (arith, le)))
+each_made number a (suc n) le = grind (arith, each_made number (a + 1) n (omega (arith, le)))
 
 order_made : (number time a n : ℕ) → time ≤ 100 * a → InOrder time (events_of (made_lines number (range_with_len a n)))
 order_made number time a zero le = tt
@@ -56,13 +41,10 @@ few_made : (number a n : ℕ) → length (events_of (made_lines number (range_wi
 few_made number a zero = refl
 few_made number a (suc n) = let few = few_made number (a + 1) n in omega (arith, few)
 
-counted_made : (number : ℕ) (js : List ℕ) → IsByCounts (events_of (made_lines number js))
-counted_made number [] = tt
-counted_made number (j ∷ js) = (refl, counted_made number js)
-
-version_made : (number : ℕ) (js : List ℕ) → AreOfVersion first_version (events_of (made_lines number js))
-version_made number [] = tt
-version_made number (j ∷ js) = (tt, version_made number js)
+kinds_made : (number : ℕ) (js : List ℕ)
+    → IsByCounts (events_of (made_lines number js)) × AreOfVersion first_version (events_of (made_lines number js))
+kinds_made number [] = (tt, tt)
+kinds_made number (j ∷ js) = let more = kinds_made number js in ((refl, more.0), (tt, more.1))
 
 made_plan : (number : ℕ) → IsPlan (events_of (made_lines number (range_with_len 1 event_number)))
 made_plan number =
@@ -71,7 +53,7 @@ made_plan number =
       each = each_made number 1 event_number (omega arith);
       order = order_made number 0 1 event_number (omega arith);
       few = omega (arith, few);
-      alike = (true, counted_made number (range_with_len 1 event_number));
+      alike = (true, (kinds_made number (range_with_len 1 event_number)).0);
     }
 
 -- the schedule is read as these events
@@ -83,7 +65,7 @@ unfolding generated_schedule heading_text
 made_says number =
     subst (λ (text : List ℕ). IsSchedule (lines_of text) (made_contents number))
     (sym (lines_are number (range_with_len 1 event_number)))
-    (replay first_version (made_lines number (range_with_len 1 event_number)) (inl refl) (made_plan number) (version_made number (range_with_len 1 event_number)))
+    (replay first_version (made_lines number (range_with_len 1 event_number)) (inl refl) (made_plan number) (kinds_made number (range_with_len 1 event_number)).1)
 
 -- a made schedule is read
 pub made_schedule : (number : ℕ) → HasPlan number
@@ -91,7 +73,7 @@ made_schedule number = record {
   events = events_of (made_lines number (range_with_len 1 event_number));
   said = made_says number;
   plan = made_plan number;
-  counted = counted_made number (range_with_len 1 event_number);
+  counted = (kinds_made number (range_with_len 1 event_number)).0;
 }
 
 -- so it is not refused
@@ -101,4 +83,4 @@ schedule_not_refused number fault refused = answers_apart (generated_schedule nu
 -- whatever it is read as stands at counts
 pub schedule_counted : (number : ℕ) (c : Contents) → IsSchedule (lines_of (generated_schedule number)) c → IsByCounts c.events
 schedule_counted number c says =
-    subst (λ (x : Contents). IsByCounts x.events) (one_schedule (generated_schedule number) (made_contents number) c (made_says number) says) (counted_made number (range_with_len 1 event_number))
+    subst (λ (x : Contents). IsByCounts x.events) (one_schedule (generated_schedule number) (made_contents number) c (made_says number) says) (kinds_made number (range_with_len 1 event_number)).0

@@ -1,7 +1,6 @@
 -- A made source assembles without a fault.
 use Rattle.std.proofs.Common.{◌≡◌, ℕ, ◌+◌, ◌%◌, ◌^◌, ◌<◌, ◌≤◌, Bool, true, false, ltb, List, ◌∷◌, ◌++◌, None, refl, sym, ap, subst, ◌∙◌, arith}
 use Rattle.std.specs.Prelude.{codes, Some, if◌then◌else◌}
-use Rattle.std.proofs.lemmas.Bool.{lt-ltb}
 use Rattle.i9_text.specs.Text.{lines_of, number_of}
 use Rattle.i9_statement.specs.Cut.{closed}
 use Rattle.i9_statement.specs.Registers.{register_place}
@@ -20,7 +19,7 @@ use Rattle.i9_asm.specs.Laws.{IsAssembly, IsRefusedSource}
 use Rattle.i9_asm.proofs.Once.{never_both_answers}
 use Rattle.i9_generator.specs.Generator.{drawn, rounds_of, start_of, depth_of, tables_text, set_up_text, calls_text, generated_source}
 use Rattle.i9_generator.specs.Accepted.{HasAssembly}
-use Rattle.i9_generator.proofs.SoundLines.{are_sound, passes_sound, passes_past, sound_assembles}
+use Rattle.i9_generator.proofs.SoundLines.{are_sound, passes, sound_assembles}
 use Rattle.i9_generator.proofs.LoadLines.{load_size, IsTarget, Loads, unlabelled_load, labelled_load, further, load_passes}
 use Rattle.i9_generator.proofs.MadeText.{front_lines, rounds_line, start_line, depth_line, back_lines, later_lines, made_lines, made_text}
 
@@ -49,49 +48,34 @@ count_behind size = number_count + 4 + size + 4
 known_names : ℕ → Names
 known_names size = (past_lines (place_behind size) back_lines).known
 
--- the lines before have no fault
-front_sound : (short : Bool) (rest : List (List ℕ))
-    → are_sound (known_names (size_by short)) start_place 0 (front_lines ++ rest)
-    ≡ are_sound (known_names (size_by short)) number_place number_count rest
+-- the lines before lead on, and those behind have no fault
+record Constant (names : Names) (size : ℕ) : Type 0 where
+  front : (rest : List (List ℕ))
+      → are_sound names start_place 0 (front_lines ++ rest) ≡ are_sound names number_place number_count rest
+  past : (rest : List (List ℕ)) → past_lines start_place (front_lines ++ rest) ≡ past_lines number_place rest
+  back : are_sound names (place_behind size) (count_behind size) back_lines ≡ true
+
+constant : (short : Bool) → Constant (known_names (size_by short)) (size_by short)
 unfolding known_names back_lines calls_text past_lines are_sound line_fault front_lines tables_text set_up_text
     code_len labelled item_of is_name decimal_of magnitude value_of number_of register_place fields_of closed spare_of
     statement_of named_by op_named mnemonic instruction_of operand_of target_of address_of address_behind base_of index_of
-front_sound true rest = refl
-front_sound false rest = refl
-
-front_past : (rest : List (List ℕ)) → past_lines start_place (front_lines ++ rest) ≡ past_lines number_place rest
-unfolding past_lines front_lines tables_text set_up_text
-    code_len labelled item_of is_name decimal_of magnitude value_of number_of register_place fields_of closed spare_of
-    statement_of named_by op_named mnemonic instruction_of operand_of target_of address_of address_behind base_of index_of
-front_past rest = refl
-
--- and those behind
-back_sound : (short : Bool)
-    → are_sound (known_names (size_by short)) (place_behind (size_by short)) (count_behind (size_by short)) back_lines ≡ true
-unfolding known_names back_lines calls_text past_lines are_sound line_fault
-    code_len labelled item_of is_name decimal_of magnitude value_of number_of register_place fields_of closed spare_of
-    statement_of named_by op_named mnemonic instruction_of operand_of target_of address_of address_behind base_of index_of
-back_sound true = refl
-back_sound false = refl
+constant true = record { front = λ rest. refl; past = λ rest. refl; back = refl }
+constant false = record { front = λ rest. refl; past = λ rest. refl; back = refl }
 
 -- ---- the lines that go by the number
 
 -- the registers
-target6 : IsTarget (codes "g6")
+targets : IsTarget (codes "g6") × IsTarget (codes "g7") × IsTarget (codes "g0")
 unfolding operand_of register_place
-target6 = record { field = record { bytes = refl; some = refl }; read = λ names. refl }
-
-target7 : IsTarget (codes "g7")
-unfolding operand_of register_place
-target7 = record { field = record { bytes = refl; some = refl }; read = λ names. refl }
-
-target0 : IsTarget (codes "g0")
-unfolding operand_of register_place
-target0 = record { field = record { bytes = refl; some = refl }; read = λ names. refl }
+targets = (
+  record { field = record { bytes = refl; some = refl }; read = λ names. refl },
+  record { field = record { bytes = refl; some = refl }; read = λ names. refl },
+  record { field = record { bytes = refl; some = refl }; read = λ names. refl },
+)
 
 -- a number below 4096 takes one word
 short_size : (n : ℕ) → n < 4096 → load_size n ≡ 4
-short_size n h = rw (lt-ltb n 4096 h) refl
+short_size n h = grind arith
 
 -- the three lines have no fault, and lead on
 record Lead (names : Names) (rounds start depth size : ℕ) : Type 0 where
@@ -106,9 +90,9 @@ loads_lead names rounds start depth size rounds_small start_small depth_small is
     let s = start_line start in
     let d = depth_line depth in
     let label = Some (codes "loop") in
-    let r_load = subst (Loads r None) (short_size rounds rounds_small) (unlabelled_load rounds (codes "g6") (omega arith) target6) in
-    let s_load = subst (Loads s None) is (unlabelled_load start (codes "g7") start_small target7) in
-    let d_load = subst (Loads d label) (short_size depth depth_small) (labelled_load depth (codes "g0") (omega arith) target0) in
+    let r_load = subst (Loads r None) (short_size rounds rounds_small) (unlabelled_load rounds (codes "g6") (omega arith) targets.0) in
+    let s_load = subst (Loads s None) is (unlabelled_load start (codes "g7") start_small targets.1) in
+    let d_load = subst (Loads d label) (short_size depth depth_small) (labelled_load depth (codes "g0") (omega arith) targets.2) in
     let p = further 4 number_place in
     let q = further size p in
     let m = number_count + 4 in
@@ -117,24 +101,15 @@ loads_lead names rounds start depth size rounds_small start_small depth_small is
     let r_pass = load_passes names number_place number_place r None number_count 4 r_load refl refl refl (omega arith) (omega arith) in
     let s_pass = load_passes names p p s None m size s_load refl refl refl (omega arith) (omega arith) in
     let d_pass = load_passes names q (past_label label q) d label n 4 d_load refl refl refl (omega arith) (omega arith) in
-    record {
-      sound = passes_sound names number_place number_count r p m (s ∷ d ∷ back_lines) r_pass
-          ∙ passes_sound names p m s q n (d ∷ back_lines) s_pass
-          ∙ passes_sound names q n d end (n + 4) back_lines d_pass;
-      past = passes_past names number_place number_count r p m (s ∷ d ∷ back_lines) r_pass
-          ∙ passes_past names p m s q n (d ∷ back_lines) s_pass
-          ∙ passes_past names q n d end (n + 4) back_lines d_pass;
-    }
+    let first = passes names number_place number_count r p m (s ∷ d ∷ back_lines) r_pass in
+    let second = passes names p m s q n (d ∷ back_lines) s_pass in
+    let third = passes names q n d end (n + 4) back_lines d_pass in
+    record { sound = first.0 ∙ second.0 ∙ third.0; past = first.1 ∙ second.1 ∙ third.1 }
 
 -- ---- the whole
 
-size_low : (short : Bool) → size_by short ≤ 8
-size_low true = omega arith
-size_low false = omega arith
-
-size_is : (n : ℕ) (short : Bool) → ltb n 4096 ≡ short → load_size n ≡ size_by short
-size_is n true h = rw h refl
-size_is n false h = rw h refl
+size_is : (n : ℕ) (short : Bool) → ltb n 4096 ≡ short → (load_size n ≡ size_by short) × (size_by short ≤ 8)
+size_is n short h = grind arith
 
 start_small : (number : ℕ) → start_of number < 2 ^ 32
 unfolding drawn
@@ -143,8 +118,8 @@ start_small number = omega arith
 number_lead : (number : ℕ) (short : Bool) → ltb (start_of number) 4096 ≡ short
     → Lead (known_names (size_by short)) (rounds_of number) (start_of number) (depth_of number) (size_by short)
 number_lead number short h =
-    loads_lead (known_names (size_by short)) (rounds_of number) (start_of number) (depth_of number) (size_by short)
-    (omega arith) (start_small number) (omega arith) (size_is (start_of number) short h) (size_low short)
+    let size = size_is (start_of number) short h in
+    loads_lead _ (rounds_of number) _ (depth_of number) _ (omega arith) (start_small number) (omega arith) size.0 size.1
 
 made_sound : (number : ℕ) → are_sound (all_names (made_lines number)) start_place 0 (made_lines number) ≡ true
 unfolding known_names
@@ -152,11 +127,8 @@ made_sound number =
     let short = ltb (start_of number) 4096 in
     let later = later_lines (rounds_of number) (start_of number) (depth_of number) in
     let lead = number_lead number short refl in
-    let names : all_names (made_lines number) ≡ known_names (size_by short) = ap (λ (p : Place). p.known) (front_past later ∙ lead.past) in
-    ap (λ ns. are_sound ns start_place 0 (made_lines number)) names
-    ∙ front_sound short later
-    ∙ lead.sound
-    ∙ back_sound short
+    let names : all_names (made_lines number) ≡ known_names (size_by short) = ap (λ (p : Place). p.known) ((constant short).past later ∙ lead.past) in
+    cc ((constant short).front later, (constant short).back)
 
 -- a made source assembles
 pub made_source : (number : ℕ) → HasAssembly number

@@ -1,6 +1,5 @@
 -- Lines none of which has a fault are a source that assembles; that none has one is a test that computes.
-use Rattle.std.proofs.Common.{◌≡◌, ℕ, ◌+◌, Bool, true, not, ◌&&◌, List, [], ◌∷◌, ◌++◌, Option, Some, None, refl, sym, ap, ◌∙◌, inl, inr}
-use Rattle.i9_asm.proofs.TakenLines.{begun_total}
+use Rattle.std.proofs.Common.{◌≡◌, ℕ, ◌+◌, Bool, true, not, ◌&&◌, List, [], ◌∷◌, ◌++◌, Option, None, refl, sym, ap, ◌∙◌, inl, inr, arith}
 use Rattle.std.specs.Prelude.{is_some}
 use Rattle.std.specs.Option.{option_map}
 use Rattle.std.proofs.lemmas.Bool.{and_parts}
@@ -10,8 +9,8 @@ use Rattle.i9_statement.specs.declared.fault.Fault.{Fault}
 use Rattle.i9_statement.specs.Noted.{kind_of}
 use Rattle.i9_statement.specs.Values.{Names}
 use Rattle.i9_asm.specs.Lines.{item_of, label_of}
-use Rattle.i9_asm.specs.Places.{Place, start_place, past_label, past_line, past_lines, size_of, moved_to, all_names}
-use Rattle.i9_asm.specs.Source.{Source, start_source, labelled_source, line_fault, fault_of, Assembles}
+use Rattle.i9_asm.specs.Places.{Place, start_place, past_label, past_line, past_lines, size_of, all_names}
+use Rattle.i9_asm.specs.Source.{Source, start_source, line_fault, fault_of, Assembles}
 use Rattle.i9_asm.specs.Laws.{IsAssembly}
 use Rattle.i9_asm.proofs.SomeAnswer.{some_answer}
 
@@ -35,38 +34,26 @@ pub record Passes (names : Names) (p : Place) (n : ℕ) (line : List ℕ) (q : P
   pub past : past_line p line ≡ q
   pub count : counted p n line ≡ m
 
-pub passes_sound : (names : Names) (p : Place) (n : ℕ) (line : List ℕ) (q : Place) (m : ℕ) (lines : List (List ℕ))
-    → Passes names p n line q m → are_sound names p n (line ∷ lines) ≡ are_sound names q m lines
-unfolding are_sound
-passes_sound names p n line q m lines h = rw (h.sound, h.past, h.count) refl
-
-pub passes_past : (names : Names) (p : Place) (n : ℕ) (line : List ℕ) (q : Place) (m : ℕ) (lines : List (List ℕ))
-    → Passes names p n line q m → past_lines p (line ∷ lines) ≡ past_lines q lines
-unfolding past_lines
-passes_past names p n line q m lines h = ap (λ x. past_lines x lines) h.past
+pub passes : (names : Names) (p : Place) (n : ℕ) (line : List ℕ) (q : Place) (m : ℕ) (lines : List (List ℕ)) → Passes names p n line q m
+    → (are_sound names p n (line ∷ lines) ≡ are_sound names q m lines) × (past_lines p (line ∷ lines) ≡ past_lines q lines)
+unfolding are_sound past_lines
+passes names p n line q m lines h = rw (h.sound, h.past, h.count) (refl, refl)
 
 -- ---- such lines are not refused
 
 none_by : (o : Option Fault) → not (is_some o) ≡ true → o ≡ None
-none_by None h = refl
-none_by (Some f) h = absurd cc
+none_by o h = grind arith
 
 -- faults go by the place and the count alone
 first_sound : (names : Names) (s : Source) (line : List ℕ) (lines : List (List ℕ))
     → are_sound names s.place s.total (line ∷ lines) ≡ true → line_fault names s line ≡ None
 unfolding are_sound line_fault
-first_sound names s line lines h =
-    none_by (line_fault names s line) (and_parts (not (is_some (line_fault names s line))) _ h).0
+first_sound names s line lines h = grind (arith, none_by, and_parts)
 
 rest_sound : (names : Names) (s t : Source) (line : List ℕ) (lines : List (List ℕ))
     → Assembles names s line t → are_sound names s.place s.total (line ∷ lines) ≡ true → are_sound names t.place t.total lines ≡ true
 unfolding are_sound
-rest_sound names s t line lines a h =
-    let l = labelled_source (label_of line) s in
-    let place : t.place ≡ past_line s.place line = ap (λ (x : Source). x.place) a.after in
-    let total : t.total ≡ counted s.place s.total line = ap (λ (x : Source). x.total) a.after
-    ∙ ap (λ n. n + size_of l.place (item_of line)) (begun_total (moved_to l.place (item_of line)) l) in
-    rw (place, total) (and_parts (not (is_some (line_fault names (standing s.place s.total) line))) _ h).1
+rest_sound names s t line lines a h = grind arith
 
 line_sound : (names : Names) (r s : Source) (front : List (List ℕ)) (line : List ℕ) (back : List (List ℕ))
     → are_sound names r.place r.total (front ++ line ∷ back) ≡ true → SaysAll (Assembles names) r front s → line_fault names s line ≡ None

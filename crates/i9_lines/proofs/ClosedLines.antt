@@ -1,16 +1,16 @@
 -- The printed lines, whose last byte is their line feed.
-use Rattle.std.proofs.Common.{◌≡◌, ℕ, List, [], ◌∷◌, ◌++◌, codes, map, flat_map, refl, ap, ◌∙◌}
-use Rattle.std.specs.Fmt.{decimal}
+use Rattle.std.proofs.Common.{◌≡◌, ℕ, List, [], ◌∷◌, ◌++◌, map, flat_map, refl, ap, ◌∙◌, arith}
 use Rattle.std.specs.List.{AllByRecursion}
+use Rattle.i9_text.proofs.WrittenLines.{plain-decimal}
 use Rattle.i9_model.specs.declared.view.View.{View}
-use Rattle.i9_model.specs.PrintedText.{Shown, Out, Drained, Journal, Bytes, Last, words_text, point_text, shown_text, text_of}
+use Rattle.i9_model.specs.PrintedText.{Shown, Out, Drained, Journal, Bytes, Last, point_text, shown_text, text_of}
 use Rattle.i9_machine.specs.declared.line.Line.{Line}
 use Rattle.i9_machine.specs.declared.line.Raw.{Raw}
 use Rattle.i9_machine.specs.Line.{AddsLines, shown_of}
 use Rattle.i9_lines.specs.Print.{IsLine, line_text}
 use Rattle.i9_lines.specs.PlaceText.{view_text, raw_text}
 use Rattle.i9_lines.proofs.TextLines.{IsClosed, closed_none, closed_line, closed_join}
-use Rattle.i9_lines.proofs.LineCounts.{line-out, line-point, line-event, line-bytes, line-end, line-view, line-raw, line-raw_globals, line-raw_locals, line-globals, line-locals}
+use Rattle.i9_lines.proofs.LineCounts.{line-out, line-point, line-event, line-bytes, line-end, line-words, line-globals, line-locals}
 
 -- ---- what is shown of a run
 
@@ -47,12 +47,8 @@ added-text ls xs e = lines-text ls ∙ ap text_of e
 
 pub closed_view : (v : View) → IsClosed (view_text v)
 unfolding view_text
-closed_view v =
-    closed_three (words_text (codes "#view " ++ decimal v.count) (v.ip ∷ v.ac ∷ v.pc ∷ [])) _ _
-    (line-view v.count (v.ip ∷ v.ac ∷ v.pc ∷ [])) (line-globals v) (line-locals v)
+closed_view v = grind (arith, closed_join, closed_line, line-words, plain-decimal, line-globals, line-locals)
 
 pub closed_raw : (raw : Raw) → IsClosed (raw_text raw)
 unfolding raw_text
-closed_raw raw =
-    closed_three (words_text (codes "#raw " ++ decimal raw.turn) (raw.busy ∷ [])) _ _
-    (line-raw raw.turn (raw.busy ∷ [])) (line-raw_globals _) (line-raw_locals _)
+closed_raw raw = grind (arith, closed_join, closed_line, line-words, plain-decimal)

@@ -61,19 +61,11 @@ line-bytes a bs = line_of (codes "#mem" ++ spaced a ++ flat_map spaced_byte bs) 
 
 pub line-end : (f : End) → IsLine (end_text f)
 unfolding end_text
-line-end (Exit w) = line-words (codes "#end exit") (w ∷ []) refl
-line-end Limit = refl
-line-end (Hazard a) = line-words (codes "#end hazard") (a ∷ []) refl
-line-end (Dead code a) = line-words (codes "#end dead " ++ decimal code) (a ∷ []) (plain-decimal code)
-line-end (Imprecise a) = line-words (codes "#end imprecise") (a ∷ []) refl
+line-end f = grind (arith, line-words, plain-decimal)
 
 pub end_labelled : (f : End) → length (codes "#end ") ≤ length (end_text f)
 unfolding end_text words_text
-end_labelled (Exit w) = omega arith
-end_labelled Limit = omega arith
-end_labelled (Hazard a) = omega arith
-end_labelled (Dead code a) = omega arith
-end_labelled (Imprecise a) = omega arith
+end_labelled f = grind arith
 
 -- the end of the run that was made from a number
 line-ending : (f : End) → IsLine (ending f)
@@ -119,18 +111,6 @@ pub ruleset line_rules = (line_alone, line-generated, line-elf)
 pub line-turn : (t k : ℕ) → IsLine (turn_text t k)
 unfolding turn_text
 line-turn t k = line_of (codes "#turn " ++ decimal t ++ codes " " ++ decimal k) (search (rules, plain_rules))
-
-pub line-view : (n : ℕ) (ws : List ℕ) → IsLine (words_text (codes "#view " ++ decimal n) ws)
-line-view n ws = line-words (codes "#view " ++ decimal n) ws (plain-decimal n)
-
-pub line-raw : (n : ℕ) (ws : List ℕ) → IsLine (words_text (codes "#raw " ++ decimal n) ws)
-line-raw n ws = line-words (codes "#raw " ++ decimal n) ws (plain-decimal n)
-
-pub line-raw_globals : (ws : List ℕ) → IsLine (words_text (codes "#rg") ws)
-line-raw_globals ws = line-words (codes "#rg") ws refl
-
-pub line-raw_locals : (ws : List ℕ) → IsLine (words_text (codes "#rl") ws)
-line-raw_locals ws = line-words (codes "#rl") ws refl
 
 pub line-held : (n : ℕ) (fs : List Frame) → IsLine (held_text n fs)
 unfolding held_text

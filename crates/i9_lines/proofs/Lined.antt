@@ -1,5 +1,5 @@
 -- A text that is printed line by line, cut at its first line feed each time.
-use Rattle.std.proofs.Common.{◌≡◌, ℕ, suc, ◌+◌, ◌<◌, List, [], ◌∷◌, ◌++◌, length, take, drop, Some, None, refl, ap, ◌∙◌, subst, inl, inr, arith, append_assoc}
+use Rattle.std.proofs.Common.{◌≡◌, ℕ, suc, ◌+◌, ◌<◌, List, [], ◌∷◌, ◌++◌, length, take, drop, Some, None, refl, ap, ◌∙◌, inl, inr, arith, append_assoc}
 use Rattle.std.specs.List.{position, position_or_len}
 use Rattle.std.proofs.lemmas.Bool.{cases_Bool}
 use Rattle.std.proofs.lemmas.List.{take-append-drop}
@@ -24,9 +24,7 @@ first_line (b ∷ bs) h = elim (cases_Bool (is_line_feed b)) [
 ]
 
 pub line_found : (text : List ℕ) (i : ℕ) → Some i ≡ position is_line_feed text → IsLine (take (i + 1) text)
-line_found text i e =
-    let f = position_or_len-found is_line_feed text i e in
-    subst (λ (n : ℕ). IsLine (take (n + 1) text)) f.0 (first_line text (omega (arith, f.0, f.1)))
+line_found text i e = grind (arith, position_or_len-found, first_line)
 
 -- what has no line feed is one line, where it is something
 pub rest_found : (text : List ℕ) → None ≡ position is_line_feed text → 0 < length text → IsPiece text

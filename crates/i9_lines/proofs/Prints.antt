@@ -13,9 +13,6 @@ use Rattle.i9_lines.specs.Print.{Account, Prints, OnDone, IsCut, OnCut, CountsUp
 use Rattle.i9_lines.proofs.TextLines.{IsClosed, closed_none, closed_join, line_alone}
 use Rattle.i9_outside.proofs.Appending.{Appends-nothing, Appends-then}
 
-front_none : (known : Option (List ℕ)) (text : List ℕ) → AppendsFront known known text
-front_none known text = record { front = []; rest = text; parts = refl; grows = Appends-nothing known }
-
 -- a front of a text is a front of a longer one
 front_more : (a b : Option (List ℕ)) (x y : List ℕ) → AppendsFront a b x → AppendsFront a b (x ++ y)
 front_more a b x y f = record { front = f.front; rest = f.rest ++ y; parts = sym (append_assoc f.front f.rest y) ∙ ap (λ bs. bs ++ y) f.parts; grows = f.grows }
@@ -23,9 +20,6 @@ front_more a b x y f = record { front = f.front; rest = f.rest ++ y; parts = sym
 -- a text and a front of the next are a front of both
 front_after : (a b c : Option (List ℕ)) (x y : List ℕ) → Appends a b x → AppendsFront b c y → AppendsFront a c (x ++ y)
 front_after a b c x y p f = record { front = x ++ f.front; rest = f.rest; parts = append_assoc x f.front f.rest ∙ ap (λ bs. x ++ bs) f.parts; grows = Appends-then a b c x f.front p f.grows }
-
-rose_after : (a b c : ℕ) → b ≡ a → Rose b c → Rose a c
-rose_after a b c same rose = subst (λ m. Rose m c) same rose
 
 -- a sink that is sure of two texts and n bytes more is sure of the first, and then of the second and those
 sure_parts : {K : Type 0} (sure : K → ℕ → Type 0) (s : K) (x y : List ℕ) (n : ℕ) → sure s (length (x ++ y) + n) → sure s (length x + (length y + n))
@@ -42,18 +36,10 @@ counted-then before m (suc n) =
 
 -- the same of lines, and then others
 all_counted : (xs ys : List (List ℕ)) (a b c : ℕ) → b ≡ counted_on a (length xs) → c ≡ counted_on b (length ys) → c ≡ counted_on a (length (xs ++ ys))
-all_counted xs ys a b c p q =
-    q ∙ ap (λ n. counted_on n (length ys)) p ∙ counted-then a (length xs) (length ys) ∙ ap (counted_on a) (sym (length-append xs ys))
-
-none_counted : (xs : List (List ℕ)) (a b : ℕ) → b ≡ a → CountsUpTo (length xs) a b
-none_counted xs a b e = record { number = 0; few = omega arith; counted = e }
+all_counted xs ys a b c p q = grind (arith, counted-then, length-append)
 
 some_counted : (xs ys : List (List ℕ)) (a b c : ℕ) → b ≡ counted_on a (length xs) → CountsUpTo (length ys) b c → CountsUpTo (length (xs ++ ys)) a c
-some_counted xs ys a b c p q = record {
-  number = length xs + q.number;
-  few = omega (arith, q.few, length-append xs ys);
-  counted = q.counted ∙ ap (λ n. counted_on n q.number) p ∙ counted-then a (length xs) q.number;
-}
+some_counted xs ys a b c p q = grind (arith, length-append, counted-then)
 
 fewer_counted : (xs ys : List (List ℕ)) (a b : ℕ) → CountsUpTo (length xs) a b → CountsUpTo (length (xs ++ ys)) a b
 fewer_counted xs ys a b p = record { number = p.number; few = omega (arith, p.few, length-append xs ys); counted = p.counted }
@@ -80,17 +66,7 @@ module _ {K : Type 0} (taken : K → List (List ℕ) → Type 0) where
   }
 
   front_goes_on : (xs ys : List (List ℕ)) (a b : K) → TakesFront taken xs a b → TakesFront taken (xs ++ ys) a b
-  front_goes_on xs ys a b p = record {
-    first = p.first;
-    front = p.front;
-    back = p.back;
-    left = p.left ++ ys;
-    parts = sym (append_assoc p.first ((p.front ++ p.back) ∷ p.left) ys) ∙ ap (λ (ls : List (List ℕ)). ls ++ ys) p.parts;
-    takes = p.takes;
-  }
-
-  first_none : (s : K) (lines : List (List ℕ)) → TakesFirst taken lines s s
-  first_none s lines = record { first = []; left = lines; parts = refl; takes = takes_none s }
+  front_goes_on xs ys a b p = grind (arith, append_assoc)
 
   first_then : (xs ys : List (List ℕ)) (a b c : K) → Takes taken xs a b → TakesFirst taken ys b c → TakesFirst taken (xs ++ ys) a c
   first_then xs ys a b c p q = record {
@@ -101,12 +77,7 @@ module _ {K : Type 0} (taken : K → List (List ℕ) → Type 0) where
   }
 
   first_goes_on : (xs ys : List (List ℕ)) (a b : K) → TakesFirst taken xs a b → TakesFirst taken (xs ++ ys) a b
-  first_goes_on xs ys a b p = record {
-    first = p.first;
-    left = p.left ++ ys;
-    parts = sym (append_assoc p.first p.left ys) ∙ ap (λ (ls : List (List ℕ)). ls ++ ys) p.parts;
-    takes = p.takes;
-  }
+  first_goes_on xs ys a b p = grind (arith, append_assoc)
 
 -- ---- texts of items
 
@@ -129,24 +100,13 @@ flat_map-split text items i = sym (flat_map-append text (take (i + 1) items) (dr
 -- ---- where printing stopped
 
 pub not_done : (answer : Printed) → IsCut answer → answer ≢ Done
-not_done Done cut = absurd cut
-not_done Write cut = λ e. cc
-not_done Memory cut = λ e. cc
+not_done answer cut = grind arith
 
 pub on_cut : (answer : Printed) (P : Type 0) → P → OnCut answer P
-on_cut Done P p = tt
-on_cut Write P p = p
-on_cut Memory P p = p
-
-pub of_cut : (answer : Printed) (P : Type 0) → IsCut answer → OnCut answer P → P
-of_cut Done P cut p = absurd cut
-of_cut Write P cut p = p
-of_cut Memory P cut p = p
+on_cut answer P p = grind arith
 
 pub cut_whole : (answer : Printed) (P : Type 0) → IsCut answer → OnDone answer P
-cut_whole Done P cut = absurd cut
-cut_whole Write P cut = tt
-cut_whole Memory P cut = tt
+cut_whole answer P cut = grind arith
 
 module _ {K : Type 0} (k : Account K) where
   -- no text at all is printed whole by doing nothing
@@ -155,7 +115,7 @@ module _ {K : Type 0} (k : Account K) where
 
   -- memory was refused before anything was printed
   pub prints_refused : (s : K) (text : List ℕ) → Prints Memory k s s text
-  prints_refused s text = record { later = omega arith; leaves = front_none (k.told s) text; cause = refl; lines = none_counted (lines_in text) _ _ refl; pieces = first_none k.pieces s (lines_in text); calm = λ n h. (λ e. cc, refl, tt) }
+  prints_refused s text = grind (arith, append-nil)
 
   -- a text that is spelled in another way
   pub prints_same : (answer : Printed) (a b : K) (x y : List ℕ) → x ≡ y → Prints answer k a b x → Prints answer k a b y
@@ -201,7 +161,7 @@ module _ {K : Type 0} (k : Account K) where
   prints_then Write a b c x y closed p q = record {
     later = omega (arith, p.later, q.later);
     leaves = front_after (k.told a) (k.told b) (k.told c) x y p.leaves q.leaves;
-    cause = rose_after _ _ _ p.cause q.cause;
+    cause = rw p.cause at q.cause;
     lines = rw (closed.apart y) (some_counted (lines_in x) (lines_in y) _ _ _ p.lines q.lines);
     pieces = rw (closed.apart y) (front_then k.pieces (lines_in x) (lines_in y) a b c p.pieces q.pieces);
     calm = then_calm Write a b c x y p q;
@@ -231,14 +191,7 @@ module _ {K : Type 0} (k : Account K) where
       → k.faults b ≡ k.faults a → k.writes b ≡ one_more (k.writes a) → TakesPiece k.pieces writes.Ok piece a b
       → ((n : ℕ) → k.sure a (length piece + n) → (writes.Ok ≡ writes.Ok) × (k.faults b ≡ k.faults a) × k.sure b n)
       → Prints Done k a b piece
-  piece_printed a b piece line later leaves cause once took calm = record {
-    later = later;
-    leaves = leaves;
-    cause = cause;
-    lines = rw line once;
-    pieces = rw line took;
-    calm = λ n h. let q = calm n h in (λ e. cc, q.1, q.2);
-  }
+  piece_printed a b piece line later leaves cause once took calm = grind arith
 
   -- or a front of it
   pub piece_cut : (a b : K) (piece : List ℕ) → IsPiece piece → k.faults a ≤ k.faults b → AppendsFront (k.told a) (k.told b) piece

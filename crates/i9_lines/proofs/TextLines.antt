@@ -25,10 +25,7 @@ line_alone text h = ap lines_in (sym (append-nil text)) ∙ feed_line text [] h
 -- so is what has no line feed, where it is something
 pub rest_alone : (text : List ℕ) → length text ≤ position_or_len is_line_feed text → 0 < length text → IsPiece text
 rest_alone [] none some = absurd (omega (arith, some))
-rest_alone (b ∷ []) none some = elim (cases_Bool (is_line_feed b)) [
-  | inl e ↦ rw e refl
-  | inr e ↦ rw e refl
-]
+rest_alone (b ∷ []) none some = grind (arith, cases_Bool)
 rest_alone (b ∷ c ∷ cs) none some = elim (cases_Bool (is_line_feed b)) [
   | inl e ↦ absurd (let j = rw e at none in omega (arith, j))
   | inr e ↦
@@ -46,42 +43,26 @@ pub closed_none : IsClosed []
 closed_none = record { apart = λ behind. refl }
 
 pub closed_line : (text : List ℕ) → IsLine text → IsClosed text
-closed_line text h = record {
-  apart = λ behind. feed_line text behind h ∙ ap (λ (ls : List (List ℕ)). ls ++ lines_in behind) (sym (line_alone text h));
-}
+closed_line text h = grind (arith, feed_line, line_alone)
 
 pub closed_join : (x y : List ℕ) → IsClosed x → IsClosed y → IsClosed (x ++ y)
-closed_join x y h k = record {
-  apart = λ behind.
-      ap lines_in (append_assoc x y behind) ∙ h.apart (y ++ behind) ∙ ap (λ (ls : List (List ℕ)). lines_in x ++ ls) (k.apart behind)
-      ∙ sym (append_assoc (lines_in x) (lines_in y) (lines_in behind)) ∙ ap (λ (ls : List (List ℕ)). ls ++ lines_in behind) (sym (h.apart y));
-}
+closed_join x y h k = grind (arith, append_assoc)
 
 -- ---- a text that ends with a line feed
 
 some_first : (b : ℕ) (lines : List (List ℕ)) → 0 < length (onto_first b lines)
-some_first b [] = omega arith
-some_first b (line ∷ lines) = omega arith
+some_first b lines = grind arith
 
 some_line : (front : List ℕ) → 0 < length (lines_in (front ++ 10 ∷ []))
 some_line [] = omega arith
-some_line (b ∷ bs) = elim (cases_Bool (is_line_feed b)) [
-  | inl e ↦ rw e (omega arith)
-  | inr e ↦ rw e (some_first b (lines_in (bs ++ 10 ∷ [])))
-]
+some_line (b ∷ bs) = grind (arith, cases_Bool, some_first)
 
 first_apart : (b : ℕ) (lines later : List (List ℕ)) → 0 < length lines → onto_first b (lines ++ later) ≡ onto_first b lines ++ later
-first_apart b [] later some = absurd (omega (arith, some))
-first_apart b (line ∷ lines) later some = refl
+first_apart b lines later some = grind arith
 
 feed_apart : (front behind : List ℕ) → lines_in ((front ++ 10 ∷ []) ++ behind) ≡ lines_in (front ++ 10 ∷ []) ++ lines_in behind
 feed_apart [] behind = refl
-feed_apart (b ∷ bs) behind = elim (cases_Bool (is_line_feed b)) [
-  | inl e ↦ rw e (ap (λ (ls : List (List ℕ)). (b ∷ []) ∷ ls) (feed_apart bs behind))
-  | inr e ↦
-      rw e (ap (onto_first b) (feed_apart bs behind)
-      ∙ first_apart b (lines_in (bs ++ 10 ∷ [])) (lines_in behind) (some_line bs))
-]
+feed_apart (b ∷ bs) behind = grind (arith, cases_Bool, first_apart, some_line, feed_apart bs behind)
 
 pub closed_feed : (front : List ℕ) → IsClosed (front ++ 10 ∷ [])
 closed_feed front = record { apart = feed_apart front }

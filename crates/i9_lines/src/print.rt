@@ -34,6 +34,7 @@ pub fn print_piece<K: Sink>(piece: &[u8], out: &mut K) -> Printed
 }
 
 /// The place of the first line feed of a text.
+#[tactic(auto, using(crate::proofs::Feeds::feed_position))]
 fn feed_place(text: &[u8]) -> Option<usize>
     ensures { result ≡ position is_line_feed text.now }
 {

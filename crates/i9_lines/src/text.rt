@@ -307,7 +307,7 @@ fn behind_label(line: &[u8]) -> &[u8]
 
 /// The line of the run that was made from a number: its instructions, its events, and what the line of its end has
 /// behind `#end `.
-#[tactic(auto, unfolding(crate::specs::Lines::generated_line))]
+#[tactic(auto, using(crate::proofs::LineCounts::end_labelled), unfolding(crate::specs::Lines::generated_line, crate::specs::Lines::ending))]
 pub(crate) fn generated_line(
     alloc: Global,
     number: u32,

@@ -1,4 +1,4 @@
-use Rattle.std.proofs.Common.{◌≡◌, ℕ, ◌+◌, ap, ◌∙◌, arith}
+use Rattle.std.proofs.Common.{◌≡◌, ◌+◌, arith}
 use Rattle.i9_generator.specs.Generator.{drawn}
 use Rattle.i9_generator.proofs.Drawing.{drawn-next, schedule_grows, schedule_ends}
 use Rattle.i9_generator.proofs.generator.schedule_of.Goals as goal
@@ -8,8 +8,7 @@ loop-place-preserved c =
     let number = c.args.number in
     let place = c.loop-place.place in
     let next : 3 + place + 1 ≡ 3 + (place + 1) = omega arith in
-    let last : c.draw-last-in-loop-place.result ≡ drawn number (3 + (place + 1)) =
-    c.draw-last-in-loop-place.ensures ∙ ap (λ (n : ℕ). drawn n 1) c.loop-place.invariant.0 ∙ drawn-next number (3 + place) ∙ ap (drawn number) next in
+    let last : c.draw-last-in-loop-place.result ≡ drawn number (3 + (place + 1)) = cc (drawn-next number (3 + place)) in
     (last, schedule_grows number place _ _ _ c.loop-place.invariant.1 last c.in_ok-add_pin.ensures)
 
 pub returns : goal.returns

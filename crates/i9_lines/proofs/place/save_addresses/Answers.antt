@@ -1,4 +1,4 @@
-use Rattle.std.proofs.Common.{◌≡◌, ℕ, ◌+◌, ◌≤◌, List, [], ◌∷◌, ◌++◌, length, map, reverse, take, Some, None, refl, sym, ◌∙◌, inl, inr, arith}
+use Rattle.std.proofs.Common.{◌≡◌, ℕ, ◌+◌, ◌≤◌, List, [], ◌∷◌, ◌++◌, length, map, reverse, take, Some, None, refl, sym, arith}
 use Rattle.std.specs.List.{slice_get}
 use Rattle.std.proofs.lemmas.List.{map-append, take_more, length-reverse}
 use Rattle.std.proofs.lemmas.Option.{slice_get_within, slice_get_cases, get_or_from_slice_get, none-some}
@@ -11,10 +11,7 @@ mapped_more f xs k x is =
     rw (take_more xs k x (slice_get_within xs k x is), map-append, get_or_from_slice_get xs k x x is) refl
 
 none_past : {A : Type 0} (xs : List A) (k : ℕ) → slice_get xs k ≡ None → length xs ≤ k
-none_past xs k is = elim (slice_get_cases xs k).1 [
-  | inl here ↦ absurd (none-some here.0 (sym is ∙ here.2))
-  | inr past ↦ past.0
-]
+none_past xs k is = grind (arith, slice_get_cases, none-some)
 
 pub loop-k-preserved : goal.loop-k-preserved
 loop-k-preserved c =

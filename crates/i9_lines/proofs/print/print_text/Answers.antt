@@ -1,4 +1,4 @@
-use Rattle.std.proofs.Common.{◌≡◌, ◌+◌, ◌<◌, ◌∙◌, length, sym, arith, rules, Some}
+use Rattle.std.proofs.Common.{◌≡◌, ◌+◌, ◌∙◌, sym, arith, Some}
 use Rattle.std.specs.List.{position}
 use Rattle.i9_text.specs.Text.{is_line_feed}
 use Rattle.i9_text.proofs.Cuts.{position_or_len-found}
@@ -12,9 +12,7 @@ pub loop-place-init : goal.loop-place-init
 loop-place-init g c = text_begins _ _ _
 
 pub print_piece-requires : goal.print_piece-requires
-print_piece-requires g c =
-    let found : Some c.in-Some.place ≡ position is_line_feed c.loop-place.rest.now = sym c.in-Some.is ∙ c.feed_place.ensures in
-    record { line = rw c.split_at.ensures.front (line_alone _ (line_found c.loop-place.rest.now c.in-Some.place found)) }
+print_piece-requires g c = grind (arith, line_alone, line_found)
 
 pub returns-in-Write-clause-prints : goal.returns-in-Write-clause-prints
 returns-in-Write-clause-prints g c =
@@ -23,20 +21,13 @@ returns-in-Write-clause-prints g c =
     Write (λ e. cc) (prints_same _ _ _ _ _ _ c.split_at.ensures.front c.in-Write.ensures.prints)
 
 pub loop-place-smaller : goal.loop-place-smaller
-loop-place-smaller g c =
-    let found : Some c.in-Some.place ≡ position is_line_feed c.loop-place.rest.now = sym c.in-Some.is ∙ c.feed_place.ensures in
-    omega (arith, c.split_at.ensures.back_len, position_or_len-found is_line_feed c.loop-place.rest.now c.in-Some.place found)
+loop-place-smaller g c = grind (arith, position_or_len-found)
 
 pub loop-place-preserved : goal.loop-place-preserved
-loop-place-preserved g c =
-    let found : Some c.in-Some.place ≡ position is_line_feed c.loop-place.rest.now = sym c.in-Some.is ∙ c.feed_place.ensures in
-    rw c.split_at.ensures.back (text_goes_on _ _ _ _ _ c.loop-place.rest.now (c.in-Some.place + 1) c.loop-place.invariant
-    (line_found c.loop-place.rest.now c.in-Some.place found) (prints_same _ _ _ _ _ _ c.split_at.ensures.front c.in-Done.ensures.prints))
+loop-place-preserved g c = grind (arith, text_goes_on, line_found, prints_same)
 
 pub print_piece-requires-else-is_empty : goal.print_piece-requires-else-is_empty
-print_piece-requires-else-is_empty g c =
-    let some : 0 < length c.loop-place.rest.now = search rules in
-    record { line = rest_found c.loop-place.rest.now (sym c.in_default.is ∙ c.feed_place.ensures) some }
+print_piece-requires-else-is_empty g c = grind (arith, rest_found)
 
 pub returns-else-is_empty-clause-prints : goal.returns-else-is_empty-clause-prints
 returns-else-is_empty-clause-prints g c = rest_printed _ _ _ _ _ _ c.loop-place.rest.now c.loop-place.invariant c.print_piece-else-is_empty.ensures.prints

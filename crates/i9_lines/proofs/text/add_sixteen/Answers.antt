@@ -4,7 +4,6 @@ use Rattle.std.proofs.lemmas.List.{append-nil}
 use Rattle.std.proofs.lemmas.List.Folds.{flat_map-map}
 use Rattle.std.proofs.lemmas.List.FromFn.{map-range_with_len_more}
 use Rattle.std.proofs.lemmas.Grind.{flat_map-append}
-use Rattle.i9_model.specs.PrintedText.{spaced_register}
 use Rattle.i9_lines.proofs.text.add_sixteen.Goals as goal
 
 one_more : (f : ℕ → List ℕ) (a k : ℕ) → flat_map f (range_with_len a (k + 1)) ≡ flat_map f (range_with_len a k) ++ f (a + k)
@@ -13,9 +12,7 @@ one_more f a k =
     rw (← all (range_with_len a (k + 1)), map-range_with_len_more f a k (a + k) refl, flat_map-append, all (range_with_len a k), append-nil) refl
 
 pub loop-k-preserved : goal.loop-k-preserved
-loop-k-preserved c =
-    let one = spaced_register c.args.view.now in
-    rw (one_more one c.args.first c.loop-k.k, ← append_assoc, ← c.loop-k.invariant) c.in_ok-add_register.ensures
+loop-k-preserved c = grind (arith, one_more, append_assoc)
 
 pub returns : goal.returns
 returns c = let all : c.loop-k.k ≡ 16 = omega arith in rw all at c.loop-k.invariant
