@@ -1,14 +1,14 @@
 -- Frames along a run without hazards: live frames stay apart, and their bytes stay soft.
-use Rattle.std.proofs.Common.{◌≡◌, ℕ, Bool, true, false, cond, List, [], ◌∷◌, Option, Some, None, drop, refl, sym, ap, ◌∙◌}
-use Rattle.std.specs.Prelude.{◌==◌, ◌&&◌, ◌||◌, not}
+use Rattle.std.proofs.Common.{◌≡◌, ℕ, Bool, true, false, cond, List, [], ◌∷◌, Option, Some, None, drop, refl, ap, arith}
+use Rattle.std.specs.Prelude.{◌==◌, ◌&&◌, not}
 use Rattle.std.specs.List.{list_any, find}
-use Rattle.std.proofs.lemmas.Bool.{and_parts, eqb-true, or_right}
+use Rattle.std.proofs.lemmas.Bool.{eqb-true}
 use Rattle.i9_model.specs.declared.layout.TheConstants.{FRAME_SIZE}
 use Rattle.i9_model.specs.Memory.{in_port_page}
 use Rattle.i9_model.specs.State.{Frames}
 use Rattle.i9_model.specs.Writes.{places_of}
 use Rattle.i9_model.specs.Frames.{places, in_bytes, in_frames, no_frames, has, saved, with_marked, returned, flushed, is_put, wrote, softened}
-use Rattle.i9_model.specs.Hazards.{least, read_hazard, write_hazard, writes_hazard, port_hazard, or_else, save_hazard, return_place}
+use Rattle.i9_model.specs.Hazards.{least, read_hazard, write_hazard, writes_hazard, port_hazard, or_else, save_hazard}
 use Rattle.i9_model.specs.Sound.{AreApart, in_returns, IsSound}
 use Rattle.i9_model.proofs.Among.{return-inside}
 
@@ -18,15 +18,11 @@ pub if_none : (b : Bool) (y : ℕ) (o : Option ℕ) → cond b (Some y) o ≡ No
 if_none true y o e = absurd (cc)
 if_none false y o e = (refl, e)
 
-here_or_later : (test : ℕ → Bool) (x y : ℕ) (here later : Bool) → (x == y) ≡ here → test y ≡ false → (later ≡ true → test x ≡ false) → (here || later) ≡ true → test x ≡ false
-here_or_later test x y true later e fails h t = ap test (eqb-true x y e) ∙ fails
-here_or_later test x y false later e fails h t = h t
-
 none_found : (test : ℕ → Bool) (ys : List ℕ) (x : ℕ) → find test ys ≡ None → list_any (λ (y : ℕ). x == y) ys ≡ true → test x ≡ false
 none_found test [] x none t = absurd (cc)
 none_found test (y ∷ ys) x none t =
     let both = if_none (test y) y (find test ys) none in
-    here_or_later test x y (x == y) (list_any (λ (z : ℕ). x == z) ys) refl both.0 (none_found test ys x both.1) t
+    grind (arith, eqb-true x y, none_found test ys x both.1, both, t)
 
 -- where no byte of an access passes, none of its bytes does
 pub least-none : (test : ℕ → Bool) (a n x : ℕ) → least test a n ≡ None → in_bytes a n x ≡ true → test x ≡ false
@@ -71,33 +67,15 @@ apart_rest (f ∷ live) apart = apart.1
 pub apart-returned : (s : Frames) → AreApart s.live → AreApart (returned s).live
 apart-returned s apart = apart_rest s.live apart
 
--- ---- marks
-
-unmarked : (m live : Bool) → live ≡ false → (m ≡ true → live ≡ true) → m ≡ false
-unmarked false live l h = refl
-unmarked true live l h = let no : false ≡ true = sym l ∙ h refl in absurd (cc no)
-
-by_either : {P : Type 0} (here later : Bool) → (here ≡ true → P) → (later ≡ true → P) → (here || later) ≡ true → P
-by_either true later h k t = h refl
-by_either false later h k t = k t
+-- ---- frames are sound
 
 returns_rest : (live : List ℕ) (x : ℕ) → in_returns (drop 1 live) x ≡ true → in_returns live x ≡ true
 returns_rest [] x t = t
-returns_rest (f ∷ live) x t = or_right (in_bytes (return_place f) 4 x) (in_returns live x) t
-
--- ---- frames are sound
+returns_rest (f ∷ live) x t = grind (arith, t)
 
 in_rest : (live : List ℕ) (x : ℕ) → in_frames (drop 1 live) x ≡ true → in_frames live x ≡ true
 in_rest [] x t = t
-in_rest (f ∷ live) x t = or_right (in_bytes f FRAME_SIZE x) (in_frames live x) t
-
-either_soft : (here live soft : Bool) → (live ≡ true → soft ≡ true) → (here || live) ≡ true → (here || soft) ≡ true
-either_soft true live soft h t = refl
-either_soft false live soft h t = h t
-
-still_soft : (live soft here : Bool) → live ≡ true → (live ≡ true → soft ≡ true) → (here ≡ true → live ≡ false) → (soft && not here) ≡ true
-still_soft live soft true l s h = absurd (cc (h refl))
-still_soft live soft false l s h = ap (λ (b : Bool). b && true) (s l)
+in_rest (f ∷ live) x t = grind arith
 
 pub sound-none : IsSound no_frames
 sound-none = record { apart = tt; soft = λ x t. absurd (cc); outside = λ x t. absurd (cc); within = λ x t. absurd (cc); known = λ x t. refl }
@@ -107,10 +85,10 @@ sound-saved s a sound none =
     let safe = save_hazard-none s a none in
     record {
       apart = apart-saved s a sound.apart none;
-      soft = λ x t. either_soft (in_bytes a FRAME_SIZE x) (in_frames s.live x) (s.soft x) (sound.soft x) t;
-      outside = λ x t. by_either (in_bytes a FRAME_SIZE x) (in_frames s.live x) (port_hazard-none a FRAME_SIZE x safe.1) (sound.outside x) t;
-      within = λ x t. or_right (in_bytes a FRAME_SIZE x) (in_frames s.live x) (sound.within x t);
-      known = λ x t. by_either (in_bytes (return_place a) 4 x) (in_returns s.live x) (λ r. unmarked (s.marked x) (in_frames s.live x) (write_hazard-none s a FRAME_SIZE x safe.0 (return-inside a x r)) (sound.within x)) (sound.known x) t;
+      soft = λ x t. grind (arith, sound.soft x, t);
+      outside = λ x t. grind (arith, port_hazard-none a FRAME_SIZE x safe.1, sound.outside x, t);
+      within = λ x t. grind (arith, sound.within);
+      known = λ x t. grind (arith, return-inside a x, write_hazard-none s a FRAME_SIZE x safe.0, sound.within x, sound.known x, t);
     }
 
 pub sound-returned : (s : Frames) → IsSound s → IsSound (returned s)
@@ -118,8 +96,8 @@ sound-returned s sound = record {
   apart = apart-returned s sound.apart;
   soft = λ x t. sound.soft x (in_rest s.live x t);
   outside = λ x t. sound.outside x (in_rest s.live x t);
-  within = λ x t. (and_parts (s.marked x) (in_frames (drop 1 s.live) x) t).1;
-  known = λ x t. ap (λ (b : Bool). b && in_frames (drop 1 s.live) x) (sound.known x (returns_rest s.live x t));
+  within = λ x t. grind (arith, t);
+  known = λ x t. grind (arith, sound.known x (returns_rest s.live x t));
 }
 
 pub sound-flushed : (s : Frames) → IsSound s → IsSound (flushed s)
@@ -128,7 +106,7 @@ sound-flushed s sound = record { apart = tt; soft = λ x t. absurd (cc); outside
 pub sound-wrote : (s : Frames) (ps : List (ℕ × ℕ)) → IsSound s → writes_hazard s ps ≡ None → IsSound (wrote s ps)
 sound-wrote s ps sound none = record {
   apart = sound.apart;
-  soft = λ x t. still_soft (in_frames s.live x) (s.soft x) (is_put ps x) t (sound.soft x) (writes_hazard-none s ps x none);
+  soft = λ x t. grind (arith, sound.soft x, writes_hazard-none s ps x none);
   outside = sound.outside;
   within = sound.within;
   known = sound.known;
@@ -138,7 +116,7 @@ sound-wrote s ps sound none = record {
 pub sound-softened : (s : Frames) (stale : List ℕ) → IsSound s → IsSound (softened s stale)
 sound-softened s stale sound = record {
   apart = sound.apart;
-  soft = λ x t. or_right (has stale x) (s.soft x) (sound.soft x t);
+  soft = λ x t. grind (arith, sound.soft x t);
   outside = sound.outside;
   within = sound.within;
   known = sound.known;
@@ -150,13 +128,9 @@ sound-marked s lost inside sound = record {
   apart = sound.apart;
   soft = sound.soft;
   outside = sound.outside;
-  within = λ x t. by_either (has lost x) (s.marked x) (λ l. (inside x l).0) (sound.within x) t;
-  known = λ x t. neither (has lost x) (s.marked x) (in_returns s.live x) (λ l. (inside x l).1) t (sound.known x t);
+  within = λ x t. grind (arith, inside x, sound.within x, t);
+  known = λ x t. grind (arith, inside x, sound.known x t, t);
 }
-  where
-    neither : (l m r : Bool) → (l ≡ true → r ≡ false) → r ≡ true → m ≡ false → (l || m) ≡ false
-    neither false m r h t n = n
-    neither true m r h t n = let no : true ≡ false = sym t ∙ h refl in absurd (cc no)
 
 pub none_wrote : (f : Frames) → wrote f [] ≡ f
 unfolding is_put
