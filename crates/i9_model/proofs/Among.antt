@@ -3,7 +3,6 @@ use Rattle.std.proofs.Common.{◌≡◌, ℕ, zero, suc, ◌+◌, ◌<◌, Bool,
 use Rattle.std.specs.Prelude.{◌==◌, ◌||◌, nat_le}
 use Rattle.std.specs.List.{list_any}
 use Rattle.std.proofs.lemmas.Bool.{eqb-true, eq-eqb, or_left, or_right}
-use Rattle.std.proofs.lemmas.Bool.Decides.{nat_tests}
 use Rattle.i9_model.specs.declared.layout.TheConstants.{FRAME_SIZE}
 use Rattle.i9_model.specs.Writes.{address_count, wrapped}
 use Rattle.i9_model.specs.Frames.{places, in_bytes}
@@ -50,10 +49,7 @@ among-bytes a n x h = ap (in_bytes a n) h.2 ∙ in_bytes-has a n h.0 h.1
 
 -- no address is past the last one
 pub among-address : (a n x : ℕ) → IsAmong a n x → nat_le address_count x ≡ false
-among-address a n x h = let e = h.2 in below x (omega (arith, e))
-  where
-    below : (y : ℕ) → y < address_count → nat_le address_count y ≡ false
-    below y l = grind (arith, nat_tests, l)
+among-address a n x h = grind arith
 
 -- ---- return addresses
 

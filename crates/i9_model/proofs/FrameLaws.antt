@@ -1,6 +1,6 @@
 -- Frames along a run without hazards: live frames stay apart, and their bytes stay soft.
-use Rattle.std.proofs.Common.{◌≡◌, ℕ, Bool, true, false, cond, List, [], ◌∷◌, Option, Some, None, drop, refl, ap, arith}
-use Rattle.std.specs.Prelude.{◌==◌, ◌&&◌, not}
+use Rattle.std.proofs.Common.{◌≡◌, ℕ, Bool, true, false, cond, List, [], ◌∷◌, Option, Some, None, refl, arith}
+use Rattle.std.specs.Prelude.{◌==◌, not}
 use Rattle.std.specs.List.{list_any, find}
 use Rattle.std.proofs.lemmas.Bool.{eqb-true}
 use Rattle.i9_model.specs.declared.layout.TheConstants.{FRAME_SIZE}
@@ -8,15 +8,14 @@ use Rattle.i9_model.specs.Memory.{in_port_page}
 use Rattle.i9_model.specs.State.{Frames}
 use Rattle.i9_model.specs.Writes.{places_of}
 use Rattle.i9_model.specs.Frames.{places, in_bytes, in_frames, no_frames, has, saved, with_marked, returned, flushed, is_put, wrote, softened}
-use Rattle.i9_model.specs.Hazards.{least, read_hazard, write_hazard, writes_hazard, port_hazard, or_else, save_hazard}
+use Rattle.i9_model.specs.Hazards.{least, read_hazard, write_hazard, writes_hazard, port_hazard, save_hazard}
 use Rattle.i9_model.specs.Sound.{AreApart, in_returns, IsSound}
 use Rattle.i9_model.proofs.Among.{return-inside}
 
 -- ---- accesses without a hazard
 
 pub if_none : (b : Bool) (y : ℕ) (o : Option ℕ) → cond b (Some y) o ≡ None → (b ≡ false) × (o ≡ None)
-if_none true y o e = absurd (cc)
-if_none false y o e = (refl, e)
+if_none b y o e = grind arith
 
 none_found : (test : ℕ → Bool) (ys : List ℕ) (x : ℕ) → find test ys ≡ None → list_any (λ (y : ℕ). x == y) ys ≡ true → test x ≡ false
 none_found test [] x none t = absurd (cc)
@@ -47,97 +46,44 @@ pub port_hazard-none : (a n x : ℕ) → port_hazard a n ≡ None → in_bytes a
 unfolding port_hazard
 port_hazard-none a n x none t = least-none in_port_page a n x none t
 
-both_none : (o p : Option ℕ) → or_else o p ≡ None → (o ≡ None) × (p ≡ None)
-both_none None p e = (refl, e)
-both_none (Some a) p e = absurd (cc)
-
 -- a save without a hazard writes no byte of a live frame, and none in the port page
 pub save_hazard-none : (s : Frames) (a : ℕ) → save_hazard s a ≡ None → (write_hazard s a FRAME_SIZE ≡ None) × (port_hazard a FRAME_SIZE ≡ None)
-save_hazard-none s a none = both_none (write_hazard s a FRAME_SIZE) (port_hazard a FRAME_SIZE) none
+save_hazard-none s a none = grind arith
 
 -- ---- live frames are apart
 
 pub apart-saved : (s : Frames) (a : ℕ) → AreApart s.live → save_hazard s a ≡ None → AreApart (saved s a).live
 apart-saved s a apart none = ((λ x t. write_hazard-none s a FRAME_SIZE x (save_hazard-none s a none).0 t), apart)
 
-apart_rest : (live : List ℕ) → AreApart live → AreApart (drop 1 live)
-apart_rest [] apart = tt
-apart_rest (f ∷ live) apart = apart.1
-
 pub apart-returned : (s : Frames) → AreApart s.live → AreApart (returned s).live
-apart-returned s apart = apart_rest s.live apart
+apart-returned s apart = grind arith
 
 -- ---- frames are sound
-
-returns_rest : (live : List ℕ) (x : ℕ) → in_returns (drop 1 live) x ≡ true → in_returns live x ≡ true
-returns_rest [] x t = t
-returns_rest (f ∷ live) x t = grind (arith, t)
-
-in_rest : (live : List ℕ) (x : ℕ) → in_frames (drop 1 live) x ≡ true → in_frames live x ≡ true
-in_rest [] x t = t
-in_rest (f ∷ live) x t = grind arith
 
 pub sound-none : IsSound no_frames
 sound-none = record { apart = tt; soft = λ x t. absurd (cc); outside = λ x t. absurd (cc); within = λ x t. absurd (cc); known = λ x t. refl }
 
 pub sound-saved : (s : Frames) (a : ℕ) → IsSound s → save_hazard s a ≡ None → IsSound (saved s a)
 sound-saved s a sound none =
-    let safe = save_hazard-none s a none in
-    record {
-      apart = apart-saved s a sound.apart none;
-      soft = λ x t. grind (arith, sound.soft x, t);
-      outside = λ x t. grind (arith, port_hazard-none a FRAME_SIZE x safe.1, sound.outside x, t);
-      within = λ x t. grind (arith, sound.within);
-      known = λ x t. grind (arith, return-inside a x, write_hazard-none s a FRAME_SIZE x safe.0, sound.within x, sound.known x, t);
-    }
+    grind (arith, save_hazard-none, apart-saved, port_hazard-none, return-inside, write_hazard-none)
 
 pub sound-returned : (s : Frames) → IsSound s → IsSound (returned s)
-sound-returned s sound = record {
-  apart = apart-returned s sound.apart;
-  soft = λ x t. sound.soft x (in_rest s.live x t);
-  outside = λ x t. sound.outside x (in_rest s.live x t);
-  within = λ x t. grind (arith, t);
-  known = λ x t. grind (arith, sound.known x (returns_rest s.live x t));
-}
+sound-returned s sound = grind arith
 
 pub sound-flushed : (s : Frames) → IsSound s → IsSound (flushed s)
 sound-flushed s sound = record { apart = tt; soft = λ x t. absurd (cc); outside = λ x t. absurd (cc); within = λ x t. absurd (cc); known = λ x t. refl }
 
 pub sound-wrote : (s : Frames) (ps : List (ℕ × ℕ)) → IsSound s → writes_hazard s ps ≡ None → IsSound (wrote s ps)
-sound-wrote s ps sound none = record {
-  apart = sound.apart;
-  soft = λ x t. grind (arith, sound.soft x, writes_hazard-none s ps x none);
-  outside = sound.outside;
-  within = sound.within;
-  known = sound.known;
-}
+sound-wrote s ps sound none = grind (arith, writes_hazard-none)
 
 -- bytes that are soft again
 pub sound-softened : (s : Frames) (stale : List ℕ) → IsSound s → IsSound (softened s stale)
-sound-softened s stale sound = record {
-  apart = sound.apart;
-  soft = λ x t. grind (arith, sound.soft x t);
-  outside = sound.outside;
-  within = sound.within;
-  known = sound.known;
-}
+sound-softened s stale sound = grind arith
 
 -- marks of live frames beside their return addresses
 pub sound-marked : (s : Frames) (lost : List ℕ) → ((x : ℕ) → has lost x ≡ true → (in_frames s.live x ≡ true) × (in_returns s.live x ≡ false)) → IsSound s → IsSound (with_marked s lost)
-sound-marked s lost inside sound = record {
-  apart = sound.apart;
-  soft = sound.soft;
-  outside = sound.outside;
-  within = λ x t. grind (arith, inside x, sound.within x, t);
-  known = λ x t. grind (arith, inside x, sound.known x t, t);
-}
+sound-marked s lost inside sound = grind arith
 
 pub none_wrote : (f : Frames) → wrote f [] ≡ f
 unfolding is_put
-none_wrote f =
-    let soft : ◌≡◌ {A = ℕ → Bool} (λ x. f.soft x && not (is_put [] x)) f.soft = λ i x. and_true (f.soft x) i in
-    ap (λ (g : ℕ → Bool). record f { soft = g }) soft
-  where
-    and_true : (b : Bool) → (b && true) ≡ b
-    and_true true = refl
-    and_true false = refl
+none_wrote f = grind arith
