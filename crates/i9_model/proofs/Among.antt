@@ -19,9 +19,7 @@ pub in_bytes-has : (a n k : ℕ) → k < n → in_bytes a n (wrapped (a + k)) �
 unfolding in_bytes
 in_bytes-has a zero k h = absurd (omega arith)
 in_bytes-has a (suc n) zero h = or_left _ _ (eq-eqb (wrapped (a + 0)) (wrapped a) (here_first a))
-in_bytes-has a (suc n) (suc k) h =
-    ap (λ (x : ℕ). in_bytes a (suc n) x) (sym (here_later a k))
-    ∙ or_right (wrapped (a + 1 + k) == wrapped a) (in_bytes (a + 1) n (wrapped (a + 1 + k))) (in_bytes-has (a + 1) n k (omega arith))
+in_bytes-has a (suc n) (suc k) h = grind (arith, here_later, or_right, in_bytes-has (a + 1) n k (omega arith))
 
 -- a place among so many from a number on
 abbrev pub IsAmong : ℕ → ℕ → ℕ → Type 0

@@ -1,6 +1,6 @@
 -- A byte of a frame that lies over memory, as a byte of one of its words.
 use Rattle.std.proofs.Common.{◌≡◌, ℕ, zero, suc, ◌+◌, ◌-◌, ◌*◌, ◌<◌, Bool, false, cond, List, [], ◌∷◌, length, get_or, refl, sym, ap, ◌∙◌, inl, arith}
-use Rattle.std.specs.Prelude.{not, ◌==◌}
+use Rattle.std.specs.Prelude.{not}
 use Rattle.std.proofs.lemmas.List.{get_or_append_left, get_or-append_right}
 use Rattle.std.proofs.lemmas.Bool.{or_from, eq-eqb, ne_eqb}
 use Rattle.i9_model.specs.declared.layout.TheConstants.{LOCALS}
@@ -19,14 +19,7 @@ use Rattle.i9_model.proofs.Storing.{stored_kept, words_as_bytes}
 not_later : (a n j : ℕ) → n + j < address_count → in_bytes (a + 1 + j) n (wrapped a) ≡ false
 unfolding in_bytes
 not_later a zero j h = refl
-not_later a (suc n) j h =
-    let next : a + 1 + (j + 1) ≡ a + 1 + j + 1 = omega arith in
-    or_from (wrapped a == wrapped (a + 1 + j)) (in_bytes (a + 1 + j + 1) n (wrapped a))
-    (ne_eqb (wrapped a) (wrapped (a + 1 + j)) (λ (e : wrapped a ≡ wrapped (a + 1 + j)). far a j e (omega arith)))
-    (ap (λ (b : ℕ). in_bytes b n (wrapped a)) (sym next) ∙ not_later a n (j + 1) (omega arith))
-  where
-    far : (a j : ℕ) → wrapped a ≡ wrapped (a + 1 + j) → j + 1 < address_count → ⊥
-    far a j e h = omega arith
+not_later a (suc n) j h = grind (arith, or_from, ne_eqb, not_later a n (j + 1) (omega arith))
 
 one_put : (g : ℕ → ℕ) (y b : ℕ) → in_port_page y ≡ false → stored g ((y, b) ∷ []) y ≡ b
 unfolding written
@@ -53,11 +46,7 @@ stored_at g a (b ∷ bs) (suc k) h few port =
 pub byte_of_words : (m : Memory) (a : ℕ) (ws : List ℕ) (i j : ℕ) → a < address_count → i < length ws → j < 4 → get_or (bytes_of_words m a ws) (4 * i + j) 0 ≡ get_or (word_bytes m (wrapped (a + 4 * i)) (get_or ws i 0)) j 0
 unfolding bytes_of_words
 byte_of_words m a [] i j h k l = absurd (omega arith)
-byte_of_words m a (w ∷ ws) zero j h k l =
-    let four = four_bytes m a w in
-    let here : wrapped (a + 4 * 0) ≡ a = omega arith in
-    let none : 4 * 0 + j ≡ j = omega arith in
-    cc (get_or_append_left (word_bytes m a w) (bytes_of_words m (wrapped (a + 4)) ws) 0 j (omega (arith, four)))
+byte_of_words m a (w ∷ ws) zero j h k l = grind (arith, four_bytes, get_or_append_left)
 byte_of_words m a (w ∷ ws) (suc i) j h k l =
     let less : 4 * suc i + j - 4 ≡ 4 * i + j = omega arith in
     let place : wrapped (wrapped (a + 4) + 4 * i) ≡ wrapped (a + 4 * suc i) = omega arith in

@@ -16,13 +16,8 @@ or_none o p q = grind arith
 pub last_append : (ps qs : List (ℕ × ℕ)) (x : ℕ) → last_put (ps ++ qs) x ≡ or_earlier (last_put qs x) (last_put ps x)
 unfolding last_put
 last_append [] [] x = refl
-last_append [] (q ∷ qs) x = none_last (or_earlier (last_put qs x) (cond (x == q.0) (Some q.1) None))
-  where
-    none_last : (o : Option ℕ) → o ≡ or_earlier o None
-    none_last None = refl
-    none_last (Some v) = refl
-last_append (p ∷ ps) qs x =
-    cc (last_append ps qs x, or_none (last_put qs x) (last_put ps x) (cond (x == p.0) (Some p.1) None))
+last_append [] (q ∷ qs) x = grind arith
+last_append (p ∷ ps) qs x = grind (arith, or_none, last_append ps qs x)
 
 -- ---- beside a group and a frame
 

@@ -28,10 +28,7 @@ two_bytes m a v = grind arith
 pub words_long : (m : Memory) (a : ℕ) (ws : List ℕ) → length (bytes_of_words m a ws) ≡ 4 * length ws
 unfolding bytes_of_words
 words_long m a [] = refl
-words_long m a (w ∷ ws) =
-    let rest = words_long m (wrapped (a + 4)) ws in
-    let first = four_bytes m a w in
-    length-append (word_bytes m a w) (bytes_of_words m (wrapped (a + 4)) ws) ∙ omega (arith, first, rest)
+words_long m a (w ∷ ws) = grind (arith, four_bytes, length-append, words_long m (wrapped (a + 4)) ws)
 
 -- a store has the bytes of its size
 pub stored_long : (size : Size) (s : State) (o : Operand) (a : ℕ) → length (stored_of size s o a) ≡ byte_count size

@@ -25,9 +25,7 @@ top_cases true x n small =
     let swap : x + 2 ^ n ≡ 1 * 2 ^ n + x = omega arith in
     let none : n - n ≡ 0 = omega arith in
     ap (λ (y : ℕ). bit_at y n) swap ∙ bit_at_cat_high 1 n x n small (omega arith) ∙ ap (bit_at 1) none
-top_cases false x n small =
-    let swap : x + 0 ≡ x = omega arith in
-    ap (λ (y : ℕ). bit_at y n) swap ∙ bit_at_above x n n small (omega arith)
+top_cases false x n small = grind (arith, bit_at_above)
 
 pub set_bits : (n k : ℕ) (p : ℕ → Bool) → k < n → bit_at (set_below n p) k ≡ from_bool (p k)
 unfolding set_below

@@ -1,5 +1,5 @@
 -- Writes one after the other, and what is known of a place after them.
-use Rattle.std.proofs.Common.{◌≡◌, ℕ, Bool, cond, eqb, List, [], ◌∷◌, ◌++◌, Option, Some, None, unwrap_or, refl, sym, ap, ◌∙◌, arith}
+use Rattle.std.proofs.Common.{◌≡◌, ℕ, Bool, cond, eqb, List, [], ◌∷◌, ◌++◌, Option, Some, None, unwrap_or, refl, ◌∙◌, arith}
 use Rattle.i9_model.specs.Writes.{put, written, or_earlier, last_put}
 use Rattle.i9_model.specs.Memory.{Memory, stored, with_writes}
 
@@ -16,8 +16,7 @@ stored-cons m p ps = grind arith
 pub stored-append : (m : ℕ → ℕ) (ps qs : List (ℕ × ℕ)) → stored m (ps ++ qs) ≡ stored (stored m ps) qs
 unfolding written
 stored-append m [] qs = refl
-stored-append m (p ∷ ps) qs =
-    stored-cons m p (ps ++ qs) ∙ stored-append (stored m (p ∷ [])) ps qs ∙ ap (λ (n : ℕ → ℕ). stored n qs) (sym (stored-cons m p ps))
+stored-append m (p ∷ ps) qs = grind (arith, stored-cons, stored-append (stored m (p ∷ [])) ps qs)
 
 unwrap-earlier : (later : Option ℕ) (b : Bool) (v d : ℕ) → unwrap_or later (cond b v d) ≡ unwrap_or (or_earlier later (cond b (Some v) None)) d
 unwrap-earlier later b v d = grind arith

@@ -1,5 +1,5 @@
 -- Writes: which bytes they leave, and what they make of memories that differ elsewhere.
-use Rattle.std.proofs.Common.{◌≡◌, ℕ, suc, ◌+◌, true, false, List, [], ◌∷◌, ◌++◌, length, refl, ap, ◌∙◌, arith}
+use Rattle.std.proofs.Common.{◌≡◌, ℕ, ◌+◌, true, false, List, [], ◌∷◌, ◌++◌, length, refl, ap, arith}
 use Rattle.std.specs.Prelude.{◌==◌, ◌⊎◌}
 use Rattle.std.proofs.lemmas.Bool.{or_from}
 use Rattle.i9_model.specs.Writes.{wrapped, written, upwards}
@@ -58,9 +58,7 @@ stored_words_same m bytes a (w ∷ ws) = ap (λ bs. word_bytes m a w ++ bs) (sto
 
 upwards_append : (a : ℕ) (xs ys : List ℕ) → upwards a (xs ++ ys) ≡ upwards a xs ++ upwards (a + length xs) ys
 upwards_append a [] ys = let none : a ≡ a + 0 = omega arith in ap (λ (b : ℕ). upwards b ys) none
-upwards_append a (x ∷ xs) ys =
-    let next : a + 1 + length xs ≡ a + suc (length xs) = omega arith in
-    ap (λ (ps : List (ℕ × ℕ)). (wrapped a, x) ∷ ps) (upwards_append (a + 1) xs ys ∙ ap (λ (b : ℕ). upwards (a + 1) xs ++ upwards b ys) next)
+upwards_append a (x ∷ xs) ys = grind (arith, upwards_append (a + 1) xs ys)
 
 -- bytes behind four others
 behind_four : (m : Memory) (a : ℕ) (xs bs : List ℕ) → length xs ≡ 4 → with_bytes (with_bytes m a xs) (wrapped (a + 4)) bs ≡ with_bytes m a (xs ++ bs)

@@ -27,8 +27,7 @@ value_at a b bs x here later k few t e = grind (arith, nat_tests, slice_get_past
 pub last_put-upwards : (a : ℕ) (bs : List ℕ) (x : ℕ) → x < 2 ^ 32 → length bs ≤ 2 ^ 32 → last_put (upwards a bs) x ≡ slice_get bs ((x + (2 ^ 32 - a % 2 ^ 32)) % 2 ^ 32)
 unfolding last_put
 last_put-upwards a [] x k few = refl
-last_put-upwards a (b ∷ bs) x k few =
-    value_at a b bs x (eqb x (wrapped a)) (last_put (upwards (a + 1) bs) x) k (omega arith) refl (last_put-upwards (a + 1) bs x k (omega arith))
+last_put-upwards a (b ∷ bs) x k few = grind (arith, value_at, last_put-upwards (a + 1) bs x k (omega arith))
 
 pub last_put-from : (a : ℕ) (bs : List ℕ) (x : ℕ) → a < 2 ^ 32 → x < 2 ^ 32 → length bs ≤ 2 ^ 32 → last_put (upwards a bs) x ≡ slice_get bs ((x + (2 ^ 32 - a)) % 2 ^ 32)
 last_put-from a bs x h k few = grind (arith, last_put-upwards)

@@ -13,10 +13,7 @@ use Rattle.i9_model.specs.Step.{bytes_of_words}
 words_then : (m : Memory) (a : ℕ) (ws : List ℕ) (w : ℕ) → a < 2 ^ 32 → bytes_of_words m a (ws ++ w ∷ []) ≡ bytes_of_words m a ws ++ word_bytes m (wrapped (a + 4 * length ws)) w
 unfolding bytes_of_words
 words_then m a [] w h = let here : a ≡ wrapped (a + 0) = omega arith in append-nil (word_bytes m a w) ∙ ap (λ (x : ℕ). word_bytes m x w) here
-words_then m a (v ∷ ws) w h =
-    let next : wrapped (wrapped (a + 4) + 4 * length ws) ≡ wrapped (a + 4 * suc (length ws)) = omega arith in
-    cc (words_then m (wrapped (a + 4)) ws w (omega arith),
-        append_assoc (word_bytes m a v) (bytes_of_words m (wrapped (a + 4)) ws) (word_bytes m (wrapped (wrapped (a + 4) + 4 * length ws)) w))
+words_then m a (v ∷ ws) w h = grind (arith, append_assoc, words_then m (wrapped (a + 4)) ws w (omega arith))
 
 pub listed_more : (m : Memory) (a : ℕ) (ws : List ℕ) (k : ℕ) → a < 2 ^ 32 → k < length ws → bytes_of_words m a (take (k + 1) ws) ≡ bytes_of_words m a (take k ws) ++ word_bytes m (wrapped (a + 4 * k)) (get_or ws k 0)
 listed_more m a ws k h few =
