@@ -3,7 +3,6 @@ use Rattle.std.proofs.Common.{◌≡◌, ℕ, zero, suc, ◌+◌, ◌<◌, Bool,
 use Rattle.std.specs.Prelude.{◌==◌, ◌||◌, nat_le}
 use Rattle.std.specs.List.{list_any}
 use Rattle.std.proofs.lemmas.Bool.{eqb-true, eq-eqb, or_left, or_right}
-use Rattle.std.proofs.lemmas.Bool.Decides.{nat_tests}
 use Rattle.i9_model.specs.declared.layout.TheConstants.{FRAME_SIZE}
 use Rattle.i9_model.specs.Writes.{address_count, wrapped}
 use Rattle.i9_model.specs.Frames.{places, in_bytes}
@@ -20,9 +19,7 @@ pub in_bytes-has : (a n k : ℕ) → k < n → in_bytes a n (wrapped (a + k)) �
 unfolding in_bytes
 in_bytes-has a zero k h = absurd (omega arith)
 in_bytes-has a (suc n) zero h = or_left _ _ (eq-eqb (wrapped (a + 0)) (wrapped a) (here_first a))
-in_bytes-has a (suc n) (suc k) h =
-    ap (λ (x : ℕ). in_bytes a (suc n) x) (sym (here_later a k))
-    ∙ or_right (wrapped (a + 1 + k) == wrapped a) (in_bytes (a + 1) n (wrapped (a + 1 + k))) (in_bytes-has (a + 1) n k (omega arith))
+in_bytes-has a (suc n) (suc k) h = grind (arith, here_later, or_right, in_bytes-has (a + 1) n k (omega arith))
 
 -- a place among so many from a number on
 abbrev pub IsAmong : ℕ → ℕ → ℕ → Type 0
@@ -50,10 +47,7 @@ among-bytes a n x h = ap (in_bytes a n) h.2 ∙ in_bytes-has a n h.0 h.1
 
 -- no address is past the last one
 pub among-address : (a n x : ℕ) → IsAmong a n x → nat_le address_count x ≡ false
-among-address a n x h = let e = h.2 in below x (omega (arith, e))
-  where
-    below : (y : ℕ) → y < address_count → nat_le address_count y ≡ false
-    below y l = grind (arith, nat_tests, l)
+among-address a n x h = grind arith
 
 -- ---- return addresses
 

@@ -1,32 +1,27 @@
 -- Frames along a run without hazards: live frames stay apart, and their bytes stay soft.
-use Rattle.std.proofs.Common.{◌≡◌, ℕ, Bool, true, false, cond, List, [], ◌∷◌, Option, Some, None, drop, refl, sym, ap, ◌∙◌}
-use Rattle.std.specs.Prelude.{◌==◌, ◌&&◌, ◌||◌, not}
+use Rattle.std.proofs.Common.{◌≡◌, ℕ, Bool, true, false, cond, List, [], ◌∷◌, Option, Some, None, refl, arith}
+use Rattle.std.specs.Prelude.{◌==◌, not}
 use Rattle.std.specs.List.{list_any, find}
-use Rattle.std.proofs.lemmas.Bool.{and_parts, eqb-true, or_right}
+use Rattle.std.proofs.lemmas.Bool.{eqb-true}
 use Rattle.i9_model.specs.declared.layout.TheConstants.{FRAME_SIZE}
 use Rattle.i9_model.specs.Memory.{in_port_page}
 use Rattle.i9_model.specs.State.{Frames}
 use Rattle.i9_model.specs.Writes.{places_of}
 use Rattle.i9_model.specs.Frames.{places, in_bytes, in_frames, no_frames, has, saved, with_marked, returned, flushed, is_put, wrote, softened}
-use Rattle.i9_model.specs.Hazards.{least, read_hazard, write_hazard, writes_hazard, port_hazard, or_else, save_hazard, return_place}
+use Rattle.i9_model.specs.Hazards.{least, read_hazard, write_hazard, writes_hazard, port_hazard, save_hazard}
 use Rattle.i9_model.specs.Sound.{AreApart, in_returns, IsSound}
 use Rattle.i9_model.proofs.Among.{return-inside}
 
 -- ---- accesses without a hazard
 
 pub if_none : (b : Bool) (y : ℕ) (o : Option ℕ) → cond b (Some y) o ≡ None → (b ≡ false) × (o ≡ None)
-if_none true y o e = absurd (cc)
-if_none false y o e = (refl, e)
-
-here_or_later : (test : ℕ → Bool) (x y : ℕ) (here later : Bool) → (x == y) ≡ here → test y ≡ false → (later ≡ true → test x ≡ false) → (here || later) ≡ true → test x ≡ false
-here_or_later test x y true later e fails h t = ap test (eqb-true x y e) ∙ fails
-here_or_later test x y false later e fails h t = h t
+if_none b y o e = grind arith
 
 none_found : (test : ℕ → Bool) (ys : List ℕ) (x : ℕ) → find test ys ≡ None → list_any (λ (y : ℕ). x == y) ys ≡ true → test x ≡ false
 none_found test [] x none t = absurd (cc)
 none_found test (y ∷ ys) x none t =
     let both = if_none (test y) y (find test ys) none in
-    here_or_later test x y (x == y) (list_any (λ (z : ℕ). x == z) ys) refl both.0 (none_found test ys x both.1) t
+    grind (arith, eqb-true x y, none_found test ys x both.1, both, t)
 
 -- where no byte of an access passes, none of its bytes does
 pub least-none : (test : ℕ → Bool) (a n x : ℕ) → least test a n ≡ None → in_bytes a n x ≡ true → test x ≡ false
@@ -51,119 +46,44 @@ pub port_hazard-none : (a n x : ℕ) → port_hazard a n ≡ None → in_bytes a
 unfolding port_hazard
 port_hazard-none a n x none t = least-none in_port_page a n x none t
 
-both_none : (o p : Option ℕ) → or_else o p ≡ None → (o ≡ None) × (p ≡ None)
-both_none None p e = (refl, e)
-both_none (Some a) p e = absurd (cc)
-
 -- a save without a hazard writes no byte of a live frame, and none in the port page
 pub save_hazard-none : (s : Frames) (a : ℕ) → save_hazard s a ≡ None → (write_hazard s a FRAME_SIZE ≡ None) × (port_hazard a FRAME_SIZE ≡ None)
-save_hazard-none s a none = both_none (write_hazard s a FRAME_SIZE) (port_hazard a FRAME_SIZE) none
+save_hazard-none s a none = grind arith
 
 -- ---- live frames are apart
 
 pub apart-saved : (s : Frames) (a : ℕ) → AreApart s.live → save_hazard s a ≡ None → AreApart (saved s a).live
 apart-saved s a apart none = ((λ x t. write_hazard-none s a FRAME_SIZE x (save_hazard-none s a none).0 t), apart)
 
-apart_rest : (live : List ℕ) → AreApart live → AreApart (drop 1 live)
-apart_rest [] apart = tt
-apart_rest (f ∷ live) apart = apart.1
-
 pub apart-returned : (s : Frames) → AreApart s.live → AreApart (returned s).live
-apart-returned s apart = apart_rest s.live apart
-
--- ---- marks
-
-unmarked : (m live : Bool) → live ≡ false → (m ≡ true → live ≡ true) → m ≡ false
-unmarked false live l h = refl
-unmarked true live l h = let no : false ≡ true = sym l ∙ h refl in absurd (cc no)
-
-by_either : {P : Type 0} (here later : Bool) → (here ≡ true → P) → (later ≡ true → P) → (here || later) ≡ true → P
-by_either true later h k t = h refl
-by_either false later h k t = k t
-
-returns_rest : (live : List ℕ) (x : ℕ) → in_returns (drop 1 live) x ≡ true → in_returns live x ≡ true
-returns_rest [] x t = t
-returns_rest (f ∷ live) x t = or_right (in_bytes (return_place f) 4 x) (in_returns live x) t
+apart-returned s apart = grind arith
 
 -- ---- frames are sound
-
-in_rest : (live : List ℕ) (x : ℕ) → in_frames (drop 1 live) x ≡ true → in_frames live x ≡ true
-in_rest [] x t = t
-in_rest (f ∷ live) x t = or_right (in_bytes f FRAME_SIZE x) (in_frames live x) t
-
-either_soft : (here live soft : Bool) → (live ≡ true → soft ≡ true) → (here || live) ≡ true → (here || soft) ≡ true
-either_soft true live soft h t = refl
-either_soft false live soft h t = h t
-
-still_soft : (live soft here : Bool) → live ≡ true → (live ≡ true → soft ≡ true) → (here ≡ true → live ≡ false) → (soft && not here) ≡ true
-still_soft live soft true l s h = absurd (cc (h refl))
-still_soft live soft false l s h = ap (λ (b : Bool). b && true) (s l)
 
 pub sound-none : IsSound no_frames
 sound-none = record { apart = tt; soft = λ x t. absurd (cc); outside = λ x t. absurd (cc); within = λ x t. absurd (cc); known = λ x t. refl }
 
 pub sound-saved : (s : Frames) (a : ℕ) → IsSound s → save_hazard s a ≡ None → IsSound (saved s a)
 sound-saved s a sound none =
-    let safe = save_hazard-none s a none in
-    record {
-      apart = apart-saved s a sound.apart none;
-      soft = λ x t. either_soft (in_bytes a FRAME_SIZE x) (in_frames s.live x) (s.soft x) (sound.soft x) t;
-      outside = λ x t. by_either (in_bytes a FRAME_SIZE x) (in_frames s.live x) (port_hazard-none a FRAME_SIZE x safe.1) (sound.outside x) t;
-      within = λ x t. or_right (in_bytes a FRAME_SIZE x) (in_frames s.live x) (sound.within x t);
-      known = λ x t. by_either (in_bytes (return_place a) 4 x) (in_returns s.live x) (λ r. unmarked (s.marked x) (in_frames s.live x) (write_hazard-none s a FRAME_SIZE x safe.0 (return-inside a x r)) (sound.within x)) (sound.known x) t;
-    }
+    grind (arith, save_hazard-none, apart-saved, port_hazard-none, return-inside, write_hazard-none)
 
 pub sound-returned : (s : Frames) → IsSound s → IsSound (returned s)
-sound-returned s sound = record {
-  apart = apart-returned s sound.apart;
-  soft = λ x t. sound.soft x (in_rest s.live x t);
-  outside = λ x t. sound.outside x (in_rest s.live x t);
-  within = λ x t. (and_parts (s.marked x) (in_frames (drop 1 s.live) x) t).1;
-  known = λ x t. ap (λ (b : Bool). b && in_frames (drop 1 s.live) x) (sound.known x (returns_rest s.live x t));
-}
+sound-returned s sound = grind arith
 
 pub sound-flushed : (s : Frames) → IsSound s → IsSound (flushed s)
 sound-flushed s sound = record { apart = tt; soft = λ x t. absurd (cc); outside = λ x t. absurd (cc); within = λ x t. absurd (cc); known = λ x t. refl }
 
 pub sound-wrote : (s : Frames) (ps : List (ℕ × ℕ)) → IsSound s → writes_hazard s ps ≡ None → IsSound (wrote s ps)
-sound-wrote s ps sound none = record {
-  apart = sound.apart;
-  soft = λ x t. still_soft (in_frames s.live x) (s.soft x) (is_put ps x) t (sound.soft x) (writes_hazard-none s ps x none);
-  outside = sound.outside;
-  within = sound.within;
-  known = sound.known;
-}
+sound-wrote s ps sound none = grind (arith, writes_hazard-none)
 
 -- bytes that are soft again
 pub sound-softened : (s : Frames) (stale : List ℕ) → IsSound s → IsSound (softened s stale)
-sound-softened s stale sound = record {
-  apart = sound.apart;
-  soft = λ x t. or_right (has stale x) (s.soft x) (sound.soft x t);
-  outside = sound.outside;
-  within = sound.within;
-  known = sound.known;
-}
+sound-softened s stale sound = grind arith
 
 -- marks of live frames beside their return addresses
 pub sound-marked : (s : Frames) (lost : List ℕ) → ((x : ℕ) → has lost x ≡ true → (in_frames s.live x ≡ true) × (in_returns s.live x ≡ false)) → IsSound s → IsSound (with_marked s lost)
-sound-marked s lost inside sound = record {
-  apart = sound.apart;
-  soft = sound.soft;
-  outside = sound.outside;
-  within = λ x t. by_either (has lost x) (s.marked x) (λ l. (inside x l).0) (sound.within x) t;
-  known = λ x t. neither (has lost x) (s.marked x) (in_returns s.live x) (λ l. (inside x l).1) t (sound.known x t);
-}
-  where
-    neither : (l m r : Bool) → (l ≡ true → r ≡ false) → r ≡ true → m ≡ false → (l || m) ≡ false
-    neither false m r h t n = n
-    neither true m r h t n = let no : true ≡ false = sym t ∙ h refl in absurd (cc no)
+sound-marked s lost inside sound = grind arith
 
 pub none_wrote : (f : Frames) → wrote f [] ≡ f
 unfolding is_put
-none_wrote f =
-    let soft : ◌≡◌ {A = ℕ → Bool} (λ x. f.soft x && not (is_put [] x)) f.soft = λ i x. and_true (f.soft x) i in
-    ap (λ (g : ℕ → Bool). record f { soft = g }) soft
-  where
-    and_true : (b : Bool) → (b && true) ≡ b
-    and_true true = refl
-    and_true false = refl
+none_wrote f = grind arith

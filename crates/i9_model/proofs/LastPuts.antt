@@ -11,20 +11,13 @@ use Rattle.i9_model.specs.Step.{frame_sets, push_sets}
 -- ---- several after others
 
 pub or_none : (o p q : Option ℕ) → or_earlier (or_earlier o p) q ≡ or_earlier o (or_earlier p q)
-or_none None p q = refl
-or_none (Some v) p q = refl
+or_none o p q = grind arith
 
 pub last_append : (ps qs : List (ℕ × ℕ)) (x : ℕ) → last_put (ps ++ qs) x ≡ or_earlier (last_put qs x) (last_put ps x)
 unfolding last_put
 last_append [] [] x = refl
-last_append [] (q ∷ qs) x = none_last (or_earlier (last_put qs x) (cond (x == q.0) (Some q.1) None))
-  where
-    none_last : (o : Option ℕ) → o ≡ or_earlier o None
-    none_last None = refl
-    none_last (Some v) = refl
-last_append (p ∷ ps) qs x =
-    ap (λ (o : Option ℕ). or_earlier o (cond (x == p.0) (Some p.1) None)) (last_append ps qs x)
-    ∙ or_none (last_put qs x) (last_put ps x) (cond (x == p.0) (Some p.1) None)
+last_append [] (q ∷ qs) x = grind arith
+last_append (p ∷ ps) qs x = grind (arith, or_none, last_append ps qs x)
 
 -- ---- beside a group and a frame
 
@@ -38,11 +31,7 @@ group_beside r k (v ∷ vs) h =
 
 pub frame_beside : (ws : List ℕ) (fp k : ℕ) → length ws ≡ 16 → is_in_frame k ≡ false → last_put (frame_sets ws fp) k ≡ None
 unfolding last_put
-frame_beside ws fp k whole h =
-    let parts = or_parts (is_in_group 0 16 k) (k == 31) h in
-    last_append (pairs_at (λ r. r) 0 ws) ((31, fp) ∷ []) k
-    ∙ ap (λ (o : Option ℕ). or_earlier o (last_put (pairs_at (λ r. r) 0 ws) k)) (cond-false (k == 31) (Some fp) None parts.1)
-    ∙ group_beside 0 k ws (ap (λ (n : ℕ). is_in_group 0 n k) whole ∙ parts.0)
+frame_beside ws fp k whole h = grind (arith, or_parts, last_append, cond-false, group_beside)
 
 pub push_beside : (p : Push) (k : ℕ) → is_in_frame k ≡ false → last_put (push_sets p) k ≡ None
 push_beside p k h = frame_beside (p.pfp ∷ p.sp ∷ replicate 14 0) p.frame k refl h

@@ -1,9 +1,8 @@
 -- A read that meets no soft byte finds memory as it is, however soft bytes are read.
-use Rattle.std.proofs.Common.{◌≡◌, ℕ, ◌+◌, ◌*◌, ◌^◌, ◌<◌, Bool, false, cond, List, None, refl, sym, ap, ◌∙◌, arith}
+use Rattle.std.proofs.Common.{◌≡◌, ℕ, ◌+◌, ◌*◌, ◌^◌, ◌<◌, Bool, false, cond, None, ap, arith}
 use Rattle.std.specs.Prelude.{if◌then◌else◌}
-use Rattle.std.specs.Int.{w16, from_le_bytes, from_be_bytes}
 use Rattle.i9_model.specs.Writes.{wrapped}
-use Rattle.i9_model.specs.Memory.{Memory, region_of, is_big, half_in, word_in, words_in}
+use Rattle.i9_model.specs.Memory.{Memory, half_in, word_in, words_in}
 use Rattle.i9_model.specs.State.{Frames}
 use Rattle.i9_model.specs.Hazards.{read_hazard}
 use Rattle.i9_model.proofs.FrameLaws.{read_hazard-none}
@@ -18,27 +17,19 @@ pub byte_as : (m : Memory) (f : Frames) (reading : ℕ → ℕ) (x : ℕ) → f.
 byte_as m f reading x hard = ap (λ (b : Bool). cond b (reading (m.bytes x)) (m.bytes x)) hard
 
 bytes_as : (m : Memory) (f : Frames) (reading : ℕ → ℕ) (a n : ℕ) → read_hazard f a n ≡ None → SameBytes m (read_as m f reading).bytes a n
-bytes_as m f reading a n none = λ k h.
-    let x = wrapped (a + k) in byte_as m f reading x (read_hazard-none f a n x none (among-bytes a n x (k, h, refl)))
+bytes_as m f reading a n none = grind (arith, byte_as, read_hazard-none, among-bytes)
 
 first_place : (a : ℕ) → a < 2 ^ 32 → wrapped (a + 0) ≡ a
 first_place a low = omega arith
 
 pub half_as : (m : Memory) (f : Frames) (reading : ℕ → ℕ) (a : ℕ) → a < 2 ^ 32 → read_hazard f a 2 ≡ None → half_in (read_as m f reading) a ≡ half_in m a
 unfolding half_in
-half_as m f reading a low none =
-    let bytes = (read_as m f reading).bytes in
-    let same = bytes_as m f reading a 2 none in
-    let here = first_place a low in
-    two (λ (bs : List ℕ). cond (is_big m (region_of a)) (from_be_bytes w16 bs) (from_le_bytes w16 bs)) (bytes a) (bytes (wrapped (a + 1))) (m.bytes a) (m.bytes (wrapped (a + 1)))
-    (ap bytes (sym here) ∙ same 0 (omega arith) ∙ ap m.bytes here) (same 1 (omega arith))
+half_as m f reading a low none = grind (arith, byte_as, read_hazard-none, among-bytes, two)
 
 pub word_as : (m : Memory) (f : Frames) (reading : ℕ → ℕ) (a : ℕ) → a < 2 ^ 32 → read_hazard f a 4 ≡ None → word_in (read_as m f reading) a ≡ word_in m a
 word_as m f reading a low none =
     let here = first_place a low in
-    ap (word_in (read_as m f reading)) (sym here)
-    ∙ inner_word_same m (read_as m f reading).bytes a 4 0 (bytes_as m f reading a 4 none) (omega arith)
-    ∙ ap (word_in m) here
+    cc (inner_word_same m (read_as m f reading).bytes a 4 0 (bytes_as m f reading a 4 none) (omega arith))
 
 pub words_as : (m : Memory) (f : Frames) (reading : ℕ → ℕ) (a n : ℕ) → read_hazard f a (4 * n) ≡ None → words_in (read_as m f reading) a n ≡ words_in m a n
 words_as m f reading a n none = words_same m (read_as m f reading).bytes a (4 * n) n (bytes_as m f reading a (4 * n) none) (omega arith)

@@ -1,19 +1,14 @@
 -- Addresses in a row: what one more of them adds, and how far above the first the others lie.
-use Rattle.std.proofs.Common.{◌≡◌, ℕ, zero, suc, ◌+◌, ◌-◌, ◌%◌, ◌^◌, ◌<◌, ◌≤◌, Bool, true, false, nat_lt, [], ◌∷◌, ◌++◌, refl, sym, ap, ◌∙◌, add-one, arith}
+use Rattle.std.proofs.Common.{◌≡◌, ℕ, zero, suc, ◌+◌, ◌-◌, ◌%◌, ◌^◌, ◌<◌, ◌≤◌, false, nat_lt, [], ◌∷◌, ◌++◌, refl, sym, ◌∙◌, add-one, arith}
 use Rattle.std.specs.Prelude.{◌==◌, ◌||◌}
-use Rattle.std.specs.List.{list_any}
 use Rattle.std.proofs.lemmas.List.Folds.{list_any-append}
 use Rattle.std.proofs.lemmas.List.FromFn.{map-range_with_len_more}
-use Rattle.std.proofs.lemmas.Bool.{eqb-true, eq-eqb}
 use Rattle.std.proofs.lemmas.Bool.Decides.{nat_tests}
 use Rattle.i9_model.specs.Writes.{wrapped}
 use Rattle.i9_model.specs.Frames.{places, in_bytes}
 
 pub places-more : (a n : ℕ) → places a (n + 1) ≡ places a n ++ wrapped (a + n) ∷ []
 places-more a n = map-range_with_len_more wrapped a n (a + n) refl
-
-or_false : (b c : Bool) → (b || (c || false)) ≡ (b || c)
-or_false b c = grind arith
 
 pub in_bytes-none : (a x : ℕ) → in_bytes a 0 x ≡ false
 unfolding in_bytes
@@ -22,26 +17,10 @@ in_bytes-none a x = refl
 -- one more byte
 pub in_bytes-more : (a n x : ℕ) → in_bytes a (n + 1) x ≡ (in_bytes a n x || x == wrapped (a + n))
 unfolding in_bytes
-in_bytes-more a n x =
-    ap (list_any (λ (y : ℕ). x == y)) (places-more a n)
-    ∙ list_any-append (λ (y : ℕ). x == y) (places a n) (wrapped (a + n) ∷ [])
-    ∙ or_false (in_bytes a n x) (x == wrapped (a + n))
-
-same_test : (b c : Bool) → (b ≡ true → c ≡ true) → (c ≡ true → b ≡ true) → b ≡ c
-same_test true true f g = refl
-same_test false false f g = refl
-same_test true false f g = sym (f refl)
-same_test false true f g = g refl
-
--- a byte is the one n above an address if it lies n above it
-above-this : (a n x : ℕ) → a < 2 ^ 32 → x < 2 ^ 32 → n < 2 ^ 32 → x ≡ wrapped (a + n) → (x + (2 ^ 32 - a)) % 2 ^ 32 ≡ n
-above-this a n x h k few e = omega arith
-
-this-above : (a n x : ℕ) → a < 2 ^ 32 → x < 2 ^ 32 → (x + (2 ^ 32 - a)) % 2 ^ 32 ≡ n → x ≡ wrapped (a + n)
-this-above a n x h k e = omega arith
+in_bytes-more a n x = grind (arith, places-more, list_any-append)
 
 above-test : (a n x : ℕ) → a < 2 ^ 32 → x < 2 ^ 32 → n < 2 ^ 32 → (x == wrapped (a + n)) ≡ ((x + (2 ^ 32 - a)) % 2 ^ 32 == n)
-above-test a n x h k few = same_test _ _ (λ t. eq-eqb _ _ (above-this a n x h k few (eqb-true _ _ t))) (λ t. eq-eqb _ _ (this-above a n x h k (eqb-true _ _ t)))
+above-test a n x h k few = grind arith
 
 lt-zero : (d : ℕ) → nat_lt d 0 ≡ false
 lt-zero d = grind (arith, nat_tests)
@@ -54,9 +33,5 @@ pub in_bytes-above : (a n x : ℕ) → a < 2 ^ 32 → x < 2 ^ 32 → n ≤ 2 ^ 3
 in_bytes-above a zero x h k few = in_bytes-none a x ∙ sym (lt-zero ((x + (2 ^ 32 - a)) % 2 ^ 32))
 in_bytes-above a (suc n) x h k few =
     let d = (x + (2 ^ 32 - a)) % 2 ^ 32 in
-    ap (λ (m : ℕ). in_bytes a m x) (sym (add-one n))
-    ∙ in_bytes-more a n x
-    ∙ ap (λ (b : Bool). b || x == wrapped (a + n)) (in_bytes-above a n x h k (omega arith))
-    ∙ ap (λ (b : Bool). nat_lt d n || b) (above-test a n x h k (omega arith))
-    ∙ sym (lt-suc d n)
-    ∙ ap (nat_lt d) (add-one n)
+    cc (add-one n, in_bytes-more a n x, in_bytes-above a n x h k (omega arith), above-test a n x h k (omega arith),
+        lt-suc d n)

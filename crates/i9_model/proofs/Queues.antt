@@ -27,9 +27,7 @@ take-due u w ws h = (cond-true _ _ _ (le-leb w.due u h), cond-true _ _ _ (le-leb
 
 pub none-due : (u : ℕ) (ws : List Wait) → AllByRecursion (λ v. u < v.due) ws → (due_puts u ws ≡ []) × (left_waiting u ws ≡ ws)
 none-due u [] h = (refl, refl)
-none-due u (w ∷ ws) h =
-    let r = none-due u ws h.1 in
-    (cond-false _ _ _ (lt-leb w.due u h.0) ∙ r.0, cond-false _ _ _ (lt-leb w.due u h.0) ∙ ap (λ vs. w ∷ vs) r.1)
+none-due u (w ∷ ws) h = grind (arith, cond-false, lt-leb, none-due u ws h.1)
 
 pub all-later : (u d : ℕ) (ws : List Wait) → u < d → AllByRecursion (λ v. d ≤ v.due) ws → AllByRecursion (λ v. u < v.due) ws
 all-later u d [] lt h = tt

@@ -17,9 +17,7 @@ pub use Rattle.i9_model.proofs.Among.{in_bytes-has}
 
 -- a byte of a read
 pub byte_same : (f : Frames) (m : Memory) (bytes : ℕ → ℕ) (a n k : ℕ) → AgreeWhere (is_hard f) m bytes → read_hazard f a n ≡ None → k < n → bytes (wrapped (a + k)) ≡ m.bytes (wrapped (a + k))
-byte_same f m bytes a n k same none h =
-    let x = wrapped (a + k) in
-    same x (or_right (is_beyond x) (not (f.soft x)) (not_from_false (f.soft x) (read_hazard-none f a n x none (in_bytes-has a n k h))))
+byte_same f m bytes a n k same none h = grind (arith, or_right, not_from_false, read_hazard-none, in_bytes-has)
 
 is_wrapped : (a : ℕ) → a < address_count → wrapped (a + 0) ≡ a
 is_wrapped a h = omega arith
@@ -49,10 +47,6 @@ read_same f m bytes a n same none = λ k h. byte_same f m bytes a n k same none 
 pub next_place : (a k j : ℕ) → wrapped (wrapped (a + k) + j) ≡ wrapped (a + (k + j))
 next_place a k j = omega arith
 
-at_place : (m : Memory) (bytes : ℕ → ℕ) (a n k j : ℕ) → SameBytes m bytes a n → k + j < n → bytes (wrapped (wrapped (a + k) + j)) ≡ m.bytes (wrapped (wrapped (a + k) + j))
-at_place m bytes a n k j same h =
-    ap bytes (next_place a k j) ∙ same (k + j) h ∙ ap m.bytes (sym (next_place a k j))
-
 pub four : (m : Memory) (a p q r s v w x y : ℕ) → p ≡ v → q ≡ w → r ≡ x → s ≡ y → ordered_word m a (p ∷ q ∷ r ∷ s ∷ []) ≡ ordered_word m a (v ∷ w ∷ x ∷ y ∷ [])
 four m a p q r s v w x y h i j k = rw (h, i, j, k) refl
 
@@ -80,13 +74,7 @@ word_same f m bytes a n same none h =
 -- a word within a read
 pub inner_word_same : (m : Memory) (bytes : ℕ → ℕ) (a n k : ℕ) → SameBytes m bytes a n → k + 4 ≤ n → word_in (with_other m bytes) (wrapped (a + k)) ≡ word_in m (wrapped (a + k))
 unfolding word_in
-inner_word_same m bytes a n k same h =
-    let x = wrapped (a + k) in
-    four m x (bytes x) (bytes (wrapped (x + 1))) (bytes (wrapped (x + 2))) (bytes (wrapped (x + 3))) (m.bytes x) (m.bytes (wrapped (x + 1))) (m.bytes (wrapped (x + 2))) (m.bytes (wrapped (x + 3)))
-    (same k (omega arith))
-    (at_place m bytes a n k 1 same (omega arith))
-    (at_place m bytes a n k 2 same (omega arith))
-    (at_place m bytes a n k 3 same (omega arith))
+inner_word_same m bytes a n k same h = grind (arith, four, next_place)
 
 -- ---- words in a row
 
@@ -104,6 +92,4 @@ map_below f g n same = map_same f g 0 n (λ k h. let e : 0 + k ≡ k = omega ari
 
 -- so many words from an address on
 pub words_same : (m : Memory) (bytes : ℕ → ℕ) (a n c : ℕ) → SameBytes m bytes a n → 4 * c ≤ n → words_in (with_other m bytes) a c ≡ words_in m a c
-words_same m bytes a n c same h =
-    map_below (λ (k : ℕ). word_in (with_other m bytes) (wrapped (a + 4 * k))) (λ (k : ℕ). word_in m (wrapped (a + 4 * k))) c
-    (λ k l. inner_word_same m bytes a n (4 * k) same (omega arith))
+words_same m bytes a n c same h = grind (arith, map_below, inner_word_same)

@@ -1,5 +1,5 @@
 -- Where the marked bytes of a saved frame are: in its save area, and not in its return address.
-use Rattle.std.proofs.Common.{◌≡◌, ℕ, zero, suc, ◌+◌, ◌<◌, Bool, true, false, cond, List, [], ◌∷◌, length, refl, sym, ap, ◌∙◌, arith}
+use Rattle.std.proofs.Common.{◌≡◌, ℕ, suc, ◌+◌, ◌<◌, Bool, true, false, cond, List, [], ◌∷◌, length, refl, sym, ap, ◌∙◌, arith}
 use Rattle.std.specs.Prelude.{◌==◌, ◌||◌, get_or}
 use Rattle.std.proofs.lemmas.Bool.{eqb-true}
 use Rattle.i9_model.specs.declared.layout.TheConstants.{FRAME_SIZE}
@@ -46,29 +46,11 @@ pub record IsLost (a : ℕ) (lost : List ℕ) : Type 0 where
   pub beside : (x : ℕ) → has lost x ≡ true → in_bytes (return_place a) 4 x ≡ false
 
 no_mark : (s : State) (j : ℕ) → j < 4 → get_or (byte_marks (saved_marks s)) (8 + j) false ≡ false
-no_mark s zero l = refl
-no_mark s (suc zero) l = refl
-no_mark s (suc (suc zero)) l = refl
-no_mark s (suc (suc (suc zero))) l = refl
-no_mark s (suc (suc (suc (suc j)))) l = absurd (omega (arith, l))
+no_mark s j l = grind arith
 
 -- bytes 8 to 11 of a frame have no mark
 pub marks-lost : (a : ℕ) (bs : List Bool) → length bs ≡ FRAME_SIZE → ((j : ℕ) → j < 4 → get_or bs (8 + j) false ≡ false) → IsLost a (picked wrapped a bs)
-marks-lost a bs whole known = record {
-  inside = λ x t. let h = picked-among a bs x t in among-bytes a FRAME_SIZE x (h.0, omega (arith, whole, h.1), h.2);
-  beside = λ x t. by_return (in_bytes (return_place a) 4 x) x refl (picked-at a bs x t);
-}
-  where
-    same_place : (k j : ℕ) → k < 64 → j < 4 → wrapped (a + k) ≡ wrapped (wrapped (a + 8) + j) → k ≡ 8 + j
-    same_place k j l m e = omega (arith, l, m, e)
-
-    by_return : (b : Bool) (x : ℕ) → in_bytes (return_place a) 4 x ≡ b → IsPicked a bs x → b ≡ false
-    by_return false x e h = refl
-    by_return true x e h =
-        let r = bytes-among (return_place a) 4 x e in
-        let k : h.0 ≡ 8 + r.0 = same_place h.0 r.0 (omega (arith, whole, h.1)) r.1 (sym h.2 ∙ r.2) in
-        let no : true ≡ false = sym h.3 ∙ ap (λ (j : ℕ). get_or bs j false) k ∙ known r.0 r.1 in
-        absurd (cc no)
+marks-lost a bs whole known = grind (arith, picked-among, among-bytes, picked-at, bytes-among)
 
 -- as of the marks that a push saves
 pub saved-lost : (s : State) (a : ℕ) → IsLost a (picked wrapped a (byte_marks (saved_marks s)))

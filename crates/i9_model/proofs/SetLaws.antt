@@ -1,5 +1,5 @@
 -- Sets of resources as numbers.
-use Rattle.std.proofs.Common.{◌≡◌, ℕ, zero, suc, ◌+◌, ◌-◌, ◌*◌, ◌^◌, ◌<◌, Bool, true, false, cond, sym, ap, ◌∙◌, inl, inr, arith, lit<, ◌≤◌}
+use Rattle.std.proofs.Common.{◌≡◌, ℕ, zero, suc, ◌+◌, ◌-◌, ◌*◌, ◌^◌, ◌<◌, Bool, true, false, cond, sym, ap, ◌∙◌, inl, inr, arith, lit<}
 use Rattle.std.specs.Int.{bit_at, from_bool, IsBitSet}
 use Rattle.std.proofs.lemmas.Bool.{cases_lt}
 use Rattle.std.proofs.lemmas.Nat.Bits.{bit_at_cat_low, bit_at_cat_high, bit_at_above, bit_at-lt, and_pow}
@@ -7,8 +7,7 @@ use Rattle.i9_model.specs.Needs.{set_below}
 use Rattle.std.proofs.Math.Nat.{one-le-pow}
 
 pow_cases : (b : Bool) (x n : ℕ) → x < 2 ^ n → x + cond b (2 ^ n) 0 < 2 ^ suc n
-pow_cases true x n h = omega (arith, h)
-pow_cases false x n h = omega (arith, h)
+pow_cases b x n h = grind arith
 
 pub below_pow : (n : ℕ) (p : ℕ → Bool) → set_below n p < 2 ^ n
 unfolding set_below
@@ -26,9 +25,7 @@ top_cases true x n small =
     let swap : x + 2 ^ n ≡ 1 * 2 ^ n + x = omega arith in
     let none : n - n ≡ 0 = omega arith in
     ap (λ (y : ℕ). bit_at y n) swap ∙ bit_at_cat_high 1 n x n small (omega arith) ∙ ap (bit_at 1) none
-top_cases false x n small =
-    let swap : x + 0 ≡ x = omega arith in
-    ap (λ (y : ℕ). bit_at y n) swap ∙ bit_at_above x n n small (omega arith)
+top_cases false x n small = grind (arith, bit_at_above)
 
 pub set_bits : (n k : ℕ) (p : ℕ → Bool) → k < n → bit_at (set_below n p) k ≡ from_bool (p k)
 unfolding set_below
@@ -44,13 +41,7 @@ set_bits (suc n) k p lt = elim (cases_lt k n) [
 
 -- a bit that is set is 1
 pub set-one : (n k : ℕ) → IsBitSet n k → bit_at n k ≡ 1
-set-one n k h = elim (cases_lt 0 (bit_at n k)) [
-  | inl some ↦ omega (arith, bit_at-lt n k)
-  | inr none ↦ let e : bit_at n k ≡ 0 = omega arith in absurd (h (and_pow n k ∙ ap (λ m. m * 2 ^ k) e ∙ omega arith))
-]
+set-one n k h = grind (arith, cases_lt, bit_at-lt, and_pow)
 
 pub one-set : (n k : ℕ) → bit_at n k ≡ 1 → IsBitSet n k
-one-set n k h e =
-    let p : 1 ≤ 2 ^ k = one-le-pow k 2 (omega arith) in
-    let q : 1 * 2 ^ k ≡ 0 = sym (ap (λ m. m * 2 ^ k) h) ∙ sym (and_pow n k) ∙ e in
-    omega (arith, p, q)
+one-set n k h e = grind (arith, one-le-pow, and_pow)

@@ -1,5 +1,5 @@
 -- Values at places from one address upwards: which value a place gets.
-use Rattle.std.proofs.Common.{◌≡◌, ◌≢◌, ℕ, ◌+◌, ◌-◌, ◌%◌, ◌^◌, ◌<◌, ◌≤◌, Bool, true, false, cond, eqb, List, [], ◌∷◌, length, Option, Some, None, refl, sym, ap, ◌∙◌, add-one, arith}
+use Rattle.std.proofs.Common.{◌≡◌, ℕ, ◌+◌, ◌-◌, ◌%◌, ◌^◌, ◌<◌, ◌≤◌, Bool, cond, eqb, List, [], ◌∷◌, length, Option, Some, None, refl, ap, ◌∙◌, add-one, arith}
 use Rattle.std.specs.List.{slice_get}
 use Rattle.std.proofs.lemmas.Option.{slice_get_past}
 use Rattle.std.proofs.lemmas.Bool.Decides.{nat_tests}
@@ -10,20 +10,10 @@ abbrev pub above : ℕ → ℕ → ℕ
 above a x = (x + (2 ^ 32 - wrapped a)) % 2 ^ 32
 
 pub or_none : (o : Option ℕ) → or_earlier o None ≡ o
-or_none None = refl
-or_none (Some v) = refl
-
-first_place : (a : ℕ) → above a (wrapped a) ≡ 0
-first_place a = omega arith
+or_none o = grind arith
 
 pub before_first : (a : ℕ) → above (a + 1) (wrapped a) ≡ 2 ^ 32 - 1
 before_first a = omega arith
-
-later_place : (a x : ℕ) → x < 2 ^ 32 → x ≢ wrapped a → above a x ≡ above (a + 1) x + 1
-later_place a x k ne = omega arith
-
-past_all : (a : ℕ) (bs : List ℕ) → length bs < 2 ^ 32 → slice_get bs (above (a + 1) (wrapped a)) ≡ None
-past_all a bs few = slice_get_past bs (above (a + 1) (wrapped a)) (omega (arith, before_first a))
 
 pub get_later : (b : ℕ) (bs : List ℕ) (i k : ℕ) → i ≡ k + 1 → slice_get (b ∷ bs) i ≡ slice_get bs k
 get_later b bs i k e = rw (e, add-one) refl
@@ -31,25 +21,16 @@ get_later b bs i k e = rw (e, add-one) refl
 -- the value of a place, by whether it is the first one
 value_at : (a b : ℕ) (bs : List ℕ) (x : ℕ) (here : Bool) (later : Option ℕ) → x < 2 ^ 32 → length bs < 2 ^ 32 → eqb x (wrapped a) ≡ here
     → later ≡ slice_get bs (above (a + 1) x) → or_earlier later (cond here (Some b) None) ≡ slice_get (b ∷ bs) (above a x)
-value_at a b bs x true later k few t e =
-    let same : x ≡ wrapped a = grind (arith, nat_tests, t) in
-    let none : later ≡ None = e ∙ ap (λ (y : ℕ). slice_get bs (above (a + 1) y)) same ∙ past_all a bs few in
-    ap (λ (o : Option ℕ). or_earlier o (Some b)) none ∙ sym (ap (λ (y : ℕ). slice_get (b ∷ bs) (above a y)) same ∙ ap (slice_get (b ∷ bs)) (first_place a))
-value_at a b bs x false later k few t e =
-    let other : x ≢ wrapped a = λ same. grind (arith, nat_tests, t, same) in
-    or_none later ∙ e ∙ sym (get_later b bs (above a x) (above (a + 1) x) (later_place a x k other))
+value_at a b bs x here later k few t e = grind (arith, nat_tests, slice_get_past, before_first, or_none, get_later)
 
 -- the value of a place is the one that lies as far behind the first as the place lies above the address
 pub last_put-upwards : (a : ℕ) (bs : List ℕ) (x : ℕ) → x < 2 ^ 32 → length bs ≤ 2 ^ 32 → last_put (upwards a bs) x ≡ slice_get bs ((x + (2 ^ 32 - a % 2 ^ 32)) % 2 ^ 32)
 unfolding last_put
 last_put-upwards a [] x k few = refl
-last_put-upwards a (b ∷ bs) x k few =
-    value_at a b bs x (eqb x (wrapped a)) (last_put (upwards (a + 1) bs) x) k (omega arith) refl (last_put-upwards (a + 1) bs x k (omega arith))
+last_put-upwards a (b ∷ bs) x k few = grind (arith, value_at, last_put-upwards (a + 1) bs x k (omega arith))
 
 pub last_put-from : (a : ℕ) (bs : List ℕ) (x : ℕ) → a < 2 ^ 32 → x < 2 ^ 32 → length bs ≤ 2 ^ 32 → last_put (upwards a bs) x ≡ slice_get bs ((x + (2 ^ 32 - a)) % 2 ^ 32)
-last_put-from a bs x h k few =
-    let same : a % 2 ^ 32 ≡ a = omega arith in
-    last_put-upwards a bs x k few ∙ ap (λ (n : ℕ). slice_get bs ((x + (2 ^ 32 - n)) % 2 ^ 32)) same
+last_put-from a bs x h k few = grind (arith, last_put-upwards)
 
 -- the address counts modulo 2^32
 pub upwards-wrapped : (a b : ℕ) (vs : List ℕ) → wrapped a ≡ wrapped b → upwards a vs ≡ upwards b vs
