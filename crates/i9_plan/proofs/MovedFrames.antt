@@ -11,7 +11,7 @@ use Rattle.i9_model.specs.Step.{Action, action_by_name}
 use Rattle.i9_model.specs.Traced.{traced_action}
 use Rattle.i9_need.specs.Known.{moves_a_frame}
 use Rattle.i9_course.specs.NeedOf.{moved_frames}
-use Rattle.i9_plan.proofs.Outcomes.{barrier_moves, by_itself}
+use Rattle.i9_plan.proofs.Outcomes.{barrier_kind, by_itself}
 
 one_by : (b : Bool) → (if b then 0 else 1) ≤ 1
 one_by true = omega arith
@@ -39,5 +39,5 @@ named_one n c _ i s moves = absurd cc
 pub moves_one : (n : ℕ) (c : Cache) (i : Inst) (s : State) → moves_a_frame i.op ≡ true
     → moved_frames n c (traced_action i s).move ≤ 1
 moves_one n c i s moves =
-    let named = by_itself i s (barrier_moves i.op (moving_waits i.op moves)) in
+    let named = by_itself i s (barrier_kind i.op (moving_waits i.op moves)).0 in
     subst (λ (a : Action). moved_frames n c a.move ≤ 1) (sym named) (named_one n c i.op i s moves)
