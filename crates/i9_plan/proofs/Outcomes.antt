@@ -1,7 +1,6 @@
 -- What an instruction comes to that raises nothing before it does anything: by its result, by its condition, or by its
 -- access alone.
 use Rattle.std.proofs.Common.{◌≡◌, ℕ, Bool, true, false, cond, ◌&&◌, List, [], replicate, Option, Some, None, Result, Ok, refl, sym, ap, ◌∙◌, subst}
-use Rattle.i9_plan.proofs.MarkBits.{other}
 use Rattle.std.specs.Prelude.{is_some, not, ◌||◌}
 use Rattle.std.specs.Option.{option_map}
 use Rattle.std.proofs.lemmas.Bool.{or_right, and_left, and_from, and_parts, cond-true, cond-false}
