@@ -1,9 +1,9 @@
 -- What a result gives, for names that have one and for those that have none.
-use Rattle.std.proofs.Common.{◌≡◌, ℕ, ◌≤◌, false, List, [], ◌∷◌, length, Option, Some, None, refl, sym, ap, subst, arith}
+use Rattle.std.proofs.Common.{◌≡◌, ℕ, ◌≤◌, false, List, [], ◌∷◌, length, Option, Some, None, refl, sym, ap, arith}
 use Rattle.std.proofs.lemmas.Bool.{false≢true}
 use Rattle.std.specs.Prelude.{is_some, IsNone, IsSome}
 use Rattle.i9_isa.specs.declared.op.Op.{Op}
-use Rattle.i9_isa.specs.declared.op.Op.TheVariants.{Movl, Movt, Movq, Ediv, Modify, Extract}
+use Rattle.i9_isa.specs.declared.op.Op.TheVariants.{Movl}
 use Rattle.i9_isa.specs.declared.inst.Inst.{Inst}
 use Rattle.i9_model.specs.State.{State}
 use Rattle.i9_model.specs.Operands.{source_words, value}
@@ -29,12 +29,7 @@ pub ruleset answer_rules = (none_by, answer_few)
 -- a name that looks at no further words has the same result whatever they are
 by_first : (op : Op) (a b : List ℕ) (x y c ac : ℕ) → reads_more op ≡ false → results_by op (x ∷ 0 ∷ 0 ∷ 0 ∷ []) (y ∷ 0 ∷ []) 0 ac ≡ results_by op (x ∷ a) (y ∷ b) c ac
 by_first Movl a b x y c ac h = absurd (false≢true (sym h))
-by_first Movt a b x y c ac h = absurd (false≢true (sym h))
-by_first Movq a b x y c ac h = absurd (false≢true (sym h))
-by_first Ediv a b x y c ac h = absurd (false≢true (sym h))
-by_first Modify a b x y c ac h = absurd (false≢true (sym h))
-by_first Extract a b x y c ac h = absurd (false≢true (sym h))
-by_first _ a b x y c ac h = refl
+by_first _ a b x y c ac h = cc
 
 pub first_words : (i : Inst) (s : State) (ac : ℕ) → reads_more i.op ≡ false
     → results i (value s i.a ∷ 0 ∷ 0 ∷ 0 ∷ []) (value s i.b ∷ 0 ∷ []) 0 ac ≡ results i (source_words s i.a 4) (source_words s i.b 2) (value s i.c) ac
@@ -45,15 +40,8 @@ pub ruleset source_rules = (first_words)
 -- a name whose sources have one word each has the result of these words, whatever stands behind them
 by_words : (op : Op) (a b : List ℕ) (x y c ac : ℕ) (r : Answer) → result_of op x y c ac ≡ Some r → results_by op (x ∷ a) (y ∷ b) c ac ≡ Some r
 by_words Movl a b x y c ac r e = absurd cc
-by_words Movt a b x y c ac r e = absurd cc
-by_words Movq a b x y c ac r e = absurd cc
-by_words Ediv a b x y c ac r e = absurd cc
-by_words _ a b x y c ac r e = e
+by_words _ a b x y c ac r e = cc
 
 pub one_answer : (i : Inst) (s : State) (x y : ℕ) (r : Answer) → x ≡ value s i.a → y ≡ value s i.b
     → result_of i.op x y (value s i.c) s.ac ≡ Some r → Some r ≡ answer_in i s
-one_answer i s x y r a b e =
-    let here : result_of i.op (value s i.a) (value s i.b) (value s i.c) s.ac ≡ Some r =
-    subst (λ (m : ℕ). result_of i.op m (value s i.b) (value s i.c) s.ac ≡ Some r) a
-    (subst (λ (n : ℕ). result_of i.op x n (value s i.c) s.ac ≡ Some r) b e) in
-    sym (by_words i.op _ _ (value s i.a) (value s i.b) (value s i.c) s.ac r here)
+one_answer i s x y r a b e = sym (by_words i.op _ _ (value s i.a) (value s i.b) (value s i.c) s.ac r (rw (← a, ← b) e))

@@ -1,10 +1,10 @@
 -- What the second word of an instruction counts for, and the hazards of a fetch.
-use Rattle.std.proofs.Common.{◌≡◌, ℕ, ◌+◌, ◌<◌, ◌^◌, ◌==◌, Bool, true, false, cond, nat_lt, Option, Some, None, option_and_then, Result, Ok, Err, refl, sym, ap, ◌∙◌, arith}
+use Rattle.std.proofs.Common.{◌≡◌, ℕ, ◌+◌, ◌<◌, ◌^◌, ◌==◌, Bool, false, cond, nat_lt, Option, Some, None, option_and_then, Result, Ok, Err, refl, sym, ap, ◌∙◌, arith}
 use Rattle.i9_decode.proofs.SameMemory.{taken}
 use Rattle.std.specs.Option.{option_map}
 use Rattle.i9_isa.specs.declared.format.Format.{Format}
 use Rattle.i9_isa.specs.declared.inst.Mode.{Mode}
-use Rattle.i9_isa.specs.declared.inst.Mode.TheVariants.{Offset, BaseOffset, Base, Ip, BaseIndex, Disp, BaseDisp, IndexDisp, BaseIndexDisp}
+use Rattle.i9_isa.specs.declared.inst.Mode.TheVariants.{Offset, Ip}
 use Rattle.i9_isa.specs.declared.inst.Ea.{Ea}
 use Rattle.i9_isa.specs.declared.inst.Inst.{Inst}
 use Rattle.i9_isa.specs.declared.inst.BadWord.{BadWord}
@@ -26,15 +26,10 @@ use Rattle.i9_plan.specs.Planned.{IsRead}
 
 two_words : (m : Mode) (w w1 v : ℕ) → words_of_mode m ≡ 2 → address_in m w v ≡ record (address_in m w w1) { disp = v }
 two_words Ip w w1 v two = refl
-two_words Disp w w1 v two = refl
-two_words BaseDisp w w1 v two = refl
-two_words IndexDisp w w1 v two = refl
-two_words BaseIndexDisp w w1 v two = refl
-two_words _ w w1 v two = absurd (cc)
+two_words _ w w1 v two = cc
 
 shown : (b : Bool) (x e : Ea) (v : ℕ) → cond b (Some x) None ≡ Some e → cond b (Some (record x { disp = v })) None ≡ Some (record e { disp = v })
-shown true x e v h = ap (option_map (λ (y : Ea). record y { disp = v })) h
-shown false x e v h = absurd (cc)
+shown b x e v h = grind arith
 
 -- an address of two words gets its displacement from the second one alone
 ea_given : (f : Format) (w w1 v : ℕ) (e : Ea) → words_of_mode e.mode ≡ 2 → ea_in f w w1 ≡ Some e → ea_in f w v ≡ Some (record e { disp = v })
@@ -91,10 +86,7 @@ long_fetch s i clear read two = clear_fetch s (Ok i) clear read ∙ ap (λ (n : 
 
 one_word : (m : Mode) → (words_of_mode m == 2) ≡ false → words_of_mode m ≡ 1
 one_word Offset short = refl
-one_word BaseOffset short = refl
-one_word Base short = refl
-one_word BaseIndex short = refl
-one_word _ short = absurd cc
+one_word _ short = cc
 
 -- an instruction of one word
 pub short_read : (s : State) (m : DecodeCache) → read_hazard s.frames s.ip 4 ≡ None → (words_in m).first ≡ first_word s

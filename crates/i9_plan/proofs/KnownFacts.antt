@@ -1,22 +1,19 @@
 -- What is known of an instruction can be known of it: whether it has a data access, and how long that waits at most.
-use Rattle.std.proofs.Common.{◌≡◌, ℕ, ◌≤◌, Bool, true, false, cond, List, [], ◌∷◌, Option, Some, None, refl, sym, ap, ◌∙◌, arith}
+use Rattle.std.proofs.Common.{◌≡◌, ℕ, ◌≤◌, Bool, false, List, [], ◌∷◌, Option, Some, None, refl, sym, ◌∙◌, arith}
 use Rattle.i9_watch.proofs.Marking.{or_false}
 use Rattle.std.specs.Prelude.{is_some, ◌||◌, find}
-use Rattle.std.proofs.lemmas.Bool.{or_right}
 use Rattle.std.specs.List.{list_any}
 use Rattle.i9_isa.specs.declared.op.Op.{Op}
 use Rattle.i9_isa.specs.declared.op.Op.TheVariants.{Lda, Sysctl}
 use Rattle.i9_isa.specs.declared.inst.Inst.{Inst}
-use Rattle.i9_isa.specs.declared.size.Direction.{Direction}
 use Rattle.i9_isa.specs.declared.size.Transfer.{Transfer}
 use Rattle.i9_isa.specs.Transfers.{transfer_of}
-use Rattle.i9_model.specs.Memory.{Memory, region_of, waits_of}
+use Rattle.i9_model.specs.Memory.{Memory}
 use Rattle.i9_model.specs.State.{State}
-use Rattle.i9_model.specs.Step.{Message, AsksNothing, AsksCheck, AsksInterrupt, AsksRestart, AsksGroup, asked_message}
-use Rattle.i9_model.specs.Access.{Access, Reads, Writes, Changes, message_access, access_by_name, moved_access, access_by, access_of, data_of}
+use Rattle.i9_model.specs.Step.{Message, AsksNothing, asked_message}
+use Rattle.i9_model.specs.Access.{Access, Reads, Writes, Changes, message_access, access_by_name, access_by, access_of, data_of}
 use Rattle.i9_model.specs.Needs.{has_access}
-use Rattle.i9_model.specs.declared.need.Facts.{Facts}
-use Rattle.i9_course.specs.NeedOf.{access_waits, touches_port, stands_alone, facts_of}
+use Rattle.i9_course.specs.NeedOf.{access_waits, stands_alone, facts_of}
 use Rattle.i9_need.specs.Known.{AreFacts}
 use Rattle.i9_plan.specs.Names.{is_atomic}
 use Rattle.i9_plan.specs.Plain.{plain_facts}
@@ -24,11 +21,7 @@ use Rattle.i9_plan.specs.Plain.{plain_facts}
 -- one passes a test where a first one does
 pub any_found : {A : Type 0} (p : A → Bool) (xs : List A) → is_some (find p xs) ≡ list_any p xs
 any_found p [] = refl
-any_found p (x ∷ xs) = by (p x) (any_found p xs)
-  where
-    by : (b : Bool) → is_some (find p xs) ≡ list_any p xs → is_some (cond b (Some x) (find p xs)) ≡ (b || list_any p xs)
-    by true rest = refl
-    by false rest = rest
+any_found p (x ∷ xs) = let rest = any_found p xs in grind arith
 
 -- ---- a data access
 
@@ -38,24 +31,17 @@ accesses _ = refl
 
 message_data : (m : Message) (i : Inst) (s : State) → is_some (data_of (message_access m i s)) ≡ false
 message_data AsksNothing i s = refl
-message_data AsksCheck i s = refl
-message_data AsksInterrupt i s = refl
-message_data AsksRestart i s = refl
-message_data AsksGroup i s = refl
+message_data _ i s = refl
 
 named_data : (op : Op) (i : Inst) (s : State) → is_some (data_of (access_by_name op i s)) ≡ is_atomic op
 named_data Sysctl i s = message_data (asked_message i s) i s
 named_data Lda i s = refl
 named_data _ i s = refl
 
-moved_data : (d : Direction) (a n : ℕ) → is_some (data_of (moved_access d a n)) ≡ true
-moved_data Direction.Load a n = refl
-moved_data Direction.Store a n = refl
-
 data_by : (t : Option Transfer) (i : Inst) (s : State)
     → is_some (data_of (access_by t i s)) ≡ (is_atomic i.op || is_some t)
 data_by None i s = named_data i.op i s ∙ or_false (is_atomic i.op)
-data_by (Some t) i s = moved_data t.direction _ _ ∙ sym (or_right (is_atomic i.op) true refl)
+data_by (Some t) i s = grind arith
 
 pub known_access : (i : Inst) (s : State) → is_some (data_of (access_of i s)) ≡ has_access i.op
 known_access i s = data_by (transfer_of i.op) i s ∙ accesses i.op
@@ -81,18 +67,8 @@ no_waits i s h = no_data_waits s.memory (access_of i s) (no_access i s h)
 
 pub ruleset no_access_rules = (no_access, no_waits)
 
-waits_few : (m : Memory) (region : ℕ) (write : Bool) → waits_of m region write ≤ 31
-waits_few m region true = omega arith
-waits_few m region false = omega arith
-
 pub known_waits : (m : Memory) (x : Access) → access_waits m x ≤ 62
-known_waits m (Reads a n) = let few = waits_few m (region_of a) false in omega (arith, few)
-known_waits m (Writes a n) = let few = waits_few m (region_of a) true in omega (arith, few)
-known_waits m (Changes a n) =
-    let read = waits_few m (region_of a) false in
-    let write = waits_few m (region_of a) true in
-    omega (arith, read, write)
-known_waits m _ = omega arith
+known_waits m x = grind arith
 
 -- ---- without a data access
 
@@ -100,9 +76,4 @@ pub plain_are : (i : Inst) (ip : ℕ) → has_access i.op ≡ false → AreFacts
 plain_are i ip h = record { frames = omega arith; one = λ _. omega arith; waits = omega arith; access = sym h }
 
 pub plain_known : (i : Inst) (s : State) → has_access i.op ≡ false → stands_alone s ≡ false → facts_of i s 0 false false ≡ plain_facts s.ip
-plain_known i s h a =
-    let facts : Option (ℕ × ℕ) → ℕ → Bool → Facts =
-    λ d w b. record { ip = s.ip; access = d; port = touches_port d; waits = w; frames = 0; fault = false; trace = false; hazard = false; alone = b } in
-    ap (λ (d : Option (ℕ × ℕ)). facts d (access_waits s.memory (access_of i s)) (stands_alone s)) (no_access i s h)
-    ∙ ap (λ (w : ℕ). facts None w (stands_alone s)) (no_waits i s h)
-    ∙ ap (λ (b : Bool). facts None 0 b) a
+plain_known i s h a = rw (no_access i s h, no_waits i s h, a)

@@ -1,20 +1,18 @@
 -- Marks as bits of numbers, and marked registers among those of a list.
+use Rattle.std.proofs.lemmas.Bool.Decides.{nat_tests}
 use Rattle.std.proofs.Common.{◌≡◌, ℕ, zero, suc, ◌+◌, ◌^◌, ◌<◌, ◌≤◌, Bool, true, false, nat_lt, refl, sym, ap, ◌∙◌, arith}
 use Rattle.std.specs.Prelude.{◌==◌, ◌&&◌, ◌||◌, not, bit_and, min}
 use Rattle.std.specs.List.{list_any, range_with_len}
 use Rattle.std.specs.Int.{bit_at, from_bool}
-use Rattle.std.proofs.lemmas.Bool.{eqb-true, eqb-false, lt-ltb, and_from, or_parts, ltb-true, both_ways, not-false, not_from_false, false_from_ne_true}
+use Rattle.std.proofs.lemmas.Bool.{eqb-true, lt-ltb, and_from, or_parts, ltb-true, both_ways, false_from_ne_true}
 use Rattle.std.proofs.lemmas.Nat.Bits.{bit_at_and, bit_at-lt, bit_at_above, same_from_bits}
 use Rattle.i9_isa.specs.Words.{bit}
 use Rattle.i9_watch.proofs.SetBits.{bit_none}
 
 -- ---- a number is 0 where none of its bits is set
 
-digit : (n : ℕ) → n < 2 → (n == 1) ≡ false → n ≡ 0
-digit n h e = let not_one = eqb-false n 1 e in omega arith
-
 pub zero_bits : (w : ℕ) → ((k : ℕ) → bit w k ≡ false) → w ≡ 0
-zero_bits w none = same_from_bits w 0 (λ k. digit (bit_at w k) (bit_at-lt w k) (none k) ∙ sym (digit (bit_at 0 k) (bit_at-lt 0 k) (bit_none k)))
+zero_bits w none = same_from_bits w 0 (λ k. let set = none k in let few = bit_at-lt w k in let low = bit_none k in grind (arith, nat_tests))
 
 -- it is another one where some bit is set
 pub some_bit : (w k : ℕ) → bit w k ≡ true → (w == 0) ≡ false
@@ -23,22 +21,11 @@ some_bit w k set = false_from_ne_true (w == 0) (λ e. both_ways (bit w k) (ap (�
 -- ---- numbers in a row of which some pass a test
 
 pub or_none : (b : Bool) → (b || false) ≡ b
-or_none true = refl
-or_none false = refl
+or_none b = grind arith
 
 -- of two tests that do not both pass
 pub other : (a b : Bool) → (a && b) ≡ false → a ≡ true → b ≡ false
-other a b e t = ap (λ (x : Bool). x && b) (sym t) ∙ e
-
-pub second : (a b : Bool) → (a && b) ≡ false → b ≡ true → a ≡ false
-second a b e t = false_from_ne_true a (λ h. both_ways b (other a b e h) t)
-
--- of two tests of which the first implies the second
-pub implied : (a b : Bool) → (a && not b) ≡ false → a ≡ true → b ≡ true
-implied a b e t = not-false b (other a (not b) e t)
-
-pub not_first : (a b : Bool) → (a && not b) ≡ false → b ≡ false → a ≡ false
-not_first a b e f = second a (not b) e (not_from_false b f)
+other a b e t = grind arith
 
 -- none of them
 pub none_among : (f : ℕ → Bool) (a n : ℕ) → list_any f (range_with_len a n) ≡ false → (k : ℕ) → k < n → f (a + k) ≡ false
@@ -69,16 +56,16 @@ some_among f a (suc n) e = by (f a) refl (λ rest. some_among f (a + 1) n rest) 
 pub any_alike : (f g : ℕ → Bool) (a b n : ℕ) → ((k : ℕ) → k < n → f (a + k) ≡ g (b + k)) → list_any f (range_with_len a n) ≡ list_any g (range_with_len b n)
 any_alike f g a b zero same = refl
 any_alike f g a b (suc n) same =
-    let first : f a ≡ g b = (let l : a ≡ a + 0 = omega arith in let r : b + 0 ≡ b = omega arith in ap f l ∙ same 0 (omega arith) ∙ ap g r) in
-    let later : list_any f (range_with_len (a + 1) n) ≡ list_any g (range_with_len (b + 1) n) = any_alike f g (a + 1) (b + 1) n (λ k h.
-    let l : a + 1 + k ≡ a + suc k = omega arith in let r : b + suc k ≡ b + 1 + k = omega arith in ap f l ∙ same (suc k) (omega (arith, h)) ∙ ap g r) in
-    ap (λ (x : Bool). x || list_any f (range_with_len (a + 1) n)) first ∙ ap (λ (x : Bool). g b || x) later
+    let l : a ≡ a + 0 = omega arith in
+    let r : b + 0 ≡ b = omega arith in
+    let first : f a ≡ g b = ap f l ∙ same 0 (omega arith) ∙ ap g r in
+    let later = any_alike f g (a + 1) (b + 1) n (λ k h. let here : a + 1 + k ≡ a + suc k = omega arith in let there : b + suc k ≡ b + 1 + k = omega arith in ap f here ∙ same (suc k) (omega (arith, h)) ∙ ap g there) in
+    cc
 
 -- ---- a number whose bits pass a test
 
 second_false : (a b : Bool) → (a ≡ true → b ≡ false) → (a && b) ≡ false
-second_false true b h = h refl
-second_false false b h = refl
+second_false a b h = grind arith
 
 -- it is not 0 where one of them does
 pub nonzero_any : (w n : ℕ) (f : ℕ → Bool) → ((k : ℕ) → bit w k ≡ (nat_lt k n && f k)) → not (w == 0) ≡ list_any f (range_with_len 0 n)
@@ -96,18 +83,11 @@ nonzero_any w n f bits = by (list_any f (range_with_len 0 n)) refl
         ap not (some_bit w one.step (bits one.step ∙ and_from (nat_lt one.step n) (f one.step) (lt-ltb one.step n one.few) (sym (at one.step) ∙ one.passes)))
 
 pub as_bool : (b : Bool) → (from_bool b == 1) ≡ b
-as_bool true = refl
-as_bool false = refl
+as_bool b = grind arith
 
 -- the bits of both
 bool_and : (x y : ℕ) → x < 2 → y < 2 → (min x y == 1) ≡ ((x == 1) && (y == 1))
-bool_and zero zero h k = refl
-bool_and zero (suc zero) h k = refl
-bool_and zero (suc (suc y)) h k = absurd (omega (arith, k))
-bool_and (suc zero) zero h k = refl
-bool_and (suc zero) (suc zero) h k = refl
-bool_and (suc zero) (suc (suc y)) h k = absurd (omega (arith, k))
-bool_and (suc (suc x)) y h k = absurd (omega (arith, h))
+bool_and x y h k = grind (arith, nat_tests)
 
 pub both_bits : (v w k : ℕ) → bit (bit_and v w) k ≡ (bit v k && bit w k)
 both_bits v w k = ap (λ (n : ℕ). n == 1) (bit_at_and v w k) ∙ bool_and (bit_at v k) (bit_at w k) (bit_at-lt v k) (bit_at-lt w k)

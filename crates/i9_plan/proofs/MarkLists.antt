@@ -7,7 +7,7 @@ use Rattle.std.proofs.lemmas.Bool.Decides.{nat_tests}
 use Rattle.std.proofs.lemmas.Nat.{div-add-mod', one_shl}
 use Rattle.std.proofs.lemmas.Nat.Bits.{bit_at_cat_low}
 use Rattle.i9_isa.specs.declared.inst.Operand.{Operand}
-use Rattle.i9_isa.specs.declared.inst.Operand.TheVariants.{Reg, Lit, Sfr}
+use Rattle.i9_isa.specs.declared.inst.Operand.TheVariants.{Reg}
 use Rattle.i9_isa.specs.declared.inst.Inst.{Inst}
 use Rattle.i9_isa.specs.declared.size.Size.{Size}
 use Rattle.i9_isa.specs.declared.size.Size.TheVariants.{Byte, Half, Words}
@@ -73,13 +73,8 @@ pub ruleset clean_rules = (no_values, no_bytes)
 -- ---- of a state without marks
 
 no_mark : (s : State) (o : Operand) (k : ℕ) → NoMarks s → mark_of s o k ≡ false
-no_mark s (Reg r) k none = by (k == 0)
-  where
-    by : (b : Bool) → cond b (s.marks r) (s.marks (r + k)) ≡ false
-    by true = none r
-    by false = none (r + k)
-no_mark s (Lit l) k none = refl
-no_mark s (Sfr j) k none = refl
+no_mark s (Reg r) k none = let first = none r in let later = none (r + k) in grind arith
+no_mark s _ k none = refl
 
 pub clean_words : (s : State) (o : Operand) (n : ℕ) → NoMarks s → marks_of s o n ≡ replicate n false
 clean_words s o n none = map_alike (mark_of s o) false 0 n (λ k. no_mark s o k none)
@@ -108,9 +103,7 @@ clean_stored_marks (Words n) s o none = no_bits (4 * n) ∙ sym (none_bytes n) �
 pub stale_word : (soft : ℕ → Bool) (w a : ℕ) → a < 2 ^ 32 → ((k : ℕ) → bit w k ≡ (nat_lt k 4 && soft (wrapped (a + k)))) → not (w == 0) ≡ word_mark soft a
 stale_word soft w a small bits =
     let here : wrapped (a + 0) ≡ a = omega arith in
-    nonzero_any w 4 (λ k. soft (wrapped (a + k))) bits
-    ∙ ap (λ (x : ℕ). soft x || (soft (wrapped (a + 1)) || (soft (wrapped (a + 2)) || (soft (wrapped (a + 3)) || false)))) here
-    ∙ ap (λ (b : Bool). soft a || (soft (wrapped (a + 1)) || (soft (wrapped (a + 2)) || b))) (or_none (soft (wrapped (a + 3))))
+    nonzero_any w 4 (λ k. soft (wrapped (a + k))) bits ∙ simp (here, or_none)
 
 pub one_bit : (b : Bool) → bits_of (from_bool b) 1 ≡ b ∷ []
 one_bit true = refl
@@ -120,26 +113,19 @@ one_bit false = refl
 pub loaded_byte : (soft : ℕ → Bool) (w a : ℕ) → a < 2 ^ 32 → ((k : ℕ) → bit w k ≡ (nat_lt k 1 && soft (wrapped (a + k)))) → bits_of (from_bool (not (w == 0))) 1 ≡ loaded_marks Byte soft a
 loaded_byte soft w a small bits =
     let here : wrapped (a + 0) ≡ a = omega arith in
-    one_bit (not (w == 0)) ∙ ap (λ (b : Bool). b ∷ [])
-    (nonzero_any w 1 (λ k. soft (wrapped (a + k))) bits ∙ ap (λ (x : ℕ). soft x || false) here ∙ or_none (soft a))
+    one_bit (not (w == 0)) ∙ ap (λ (b : Bool). b ∷ []) (nonzero_any w 1 (λ k. soft (wrapped (a + k))) bits ∙ simp (here, or_none))
 
 pub loaded_half : (soft : ℕ → Bool) (w a : ℕ) → a < 2 ^ 32 → ((k : ℕ) → bit w k ≡ (nat_lt k 2 && soft (wrapped (a + k)))) → bits_of (from_bool (not (w == 0))) 1 ≡ loaded_marks Half soft a
 loaded_half soft w a small bits =
     let here : wrapped (a + 0) ≡ a = omega arith in
-    one_bit (not (w == 0)) ∙ ap (λ (b : Bool). b ∷ [])
-    (nonzero_any w 2 (λ k. soft (wrapped (a + k))) bits ∙ ap (λ (x : ℕ). soft x || (soft (wrapped (a + 1)) || false)) here ∙ ap (λ (b : Bool). soft a || b) (or_none (soft (wrapped (a + 1)))))
+    one_bit (not (w == 0)) ∙ ap (λ (b : Bool). b ∷ []) (nonzero_any w 2 (λ k. soft (wrapped (a + k))) bits ∙ simp (here, or_none))
 
 -- of words
 pub loaded_words : (soft : ℕ → Bool) (w a n : ℕ) (p q r t : Bool) → a < 2 ^ 32 → n ≤ 4 → bits_of w 4 ≡ p ∷ q ∷ r ∷ t ∷ [] → p ≡ word_mark soft a → q ≡ word_mark soft (wrapped (a + 4))
     → r ≡ word_mark soft (wrapped (a + 8)) → t ≡ word_mark soft (wrapped (a + 12)) → bits_of w n ≡ word_marks soft a n
 loaded_words soft w a n p q r t small few bits e f g h =
     let here : a ≡ wrapped (a + 0) = omega arith in
-    fewer_words w soft a n few
-    (bits
-    ∙ ap (λ (b : Bool). b ∷ q ∷ r ∷ t ∷ []) (e ∙ ap (word_mark soft) here)
-    ∙ ap (λ (b : Bool). word_mark soft (wrapped (a + 0)) ∷ b ∷ r ∷ t ∷ []) f
-    ∙ ap (λ (b : Bool). word_mark soft (wrapped (a + 0)) ∷ word_mark soft (wrapped (a + 4)) ∷ b ∷ t ∷ []) g
-    ∙ ap (λ (b : Bool). word_mark soft (wrapped (a + 0)) ∷ word_mark soft (wrapped (a + 4)) ∷ word_mark soft (wrapped (a + 8)) ∷ b ∷ []) h)
+    fewer_words w soft a n few (bits ∙ cc)
 
 -- ---- stores
 
@@ -151,8 +137,9 @@ low_bit w n k h =
 map_below : (f g : ℕ → Bool) (a n m : ℕ) → a + n ≤ m → ((k : ℕ) → k < m → f k ≡ g k) → map f (range_with_len a n) ≡ map g (range_with_len a n)
 map_below f g a zero m h same = refl
 map_below f g a (suc n) m h same =
-    ap (λ (b : Bool). b ∷ map f (range_with_len (a + 1) n)) (same a (omega (arith, h)))
-    ∙ ap (λ (bs : List Bool). g a ∷ bs) (map_below f g (a + 1) n m (omega (arith, h)) same)
+    let here = same a (omega (arith, h)) in
+    let rest = map_below f g (a + 1) n m (omega (arith, h)) same in
+    cc
 
 low_bits : (w n : ℕ) → bits_of (w % 2 ^ n) n ≡ bits_of w n
 low_bits w n = map_below (bit (w % 2 ^ n)) (bit w) 0 n n (omega arith) (low_bit w n)
@@ -163,32 +150,20 @@ stored_words s o w n v few bits e = ap (λ (x : ℕ). bits_of x (4 * n)) e ∙ l
 
 -- some byte of a store is marked where some register is
 any_bits : (w n : ℕ) → w < 2 ^ n → not (w == 0) ≡ list_any (λ (b : Bool). b) (bits_of w n)
-any_bits w n small = nonzero_any w n (bit w) (λ k. inside k (nat_lt k n) refl) ∙ sym (any_map (bit w) (range_with_len 0 n))
-  where
-    outside : (k : ℕ) → nat_lt k n ≡ false → n ≤ k
-    outside k t = grind (arith, nat_tests, t)
-
-    inside : (k : ℕ) (b : Bool) → nat_lt k n ≡ b → bit w k ≡ (b && bit w k)
-    inside k true t = refl
-    inside k false t = bit_above w n k small (outside k t)
+any_bits w n small =
+    nonzero_any w n (bit w) (λ k. let above = bit_above w n k small in grind (arith, nat_tests)) ∙ sym (any_map (bit w) (range_with_len 0 n))
 
 any_bytes : (bs : List Bool) → list_any (λ (b : Bool). b) (byte_marks bs) ≡ list_any (λ (b : Bool). b) bs
 any_bytes [] = refl
-any_bytes (true ∷ bs) = refl
-any_bytes (false ∷ bs) = any_bytes bs
+any_bytes (b ∷ bs) = let rest = any_bytes bs in grind arith
 
 first_of : (s : State) (o : Operand) → mark_of s o 0 ≡ is_marked s (registers_of o 1)
 first_of s (Reg r) = sym (or_none (s.marks r))
-first_of s (Lit l) = refl
-first_of s (Sfr j) = refl
+first_of s _ = refl
 
 any_stored : (size : Size) (s : State) (o : Operand) → list_any (λ (b : Bool). b) (stored_marks size s o) ≡ is_marked s (registers_of o (register_count size))
 any_stored Byte s o = or_none (mark_of s o 0) ∙ first_of s o
-any_stored Half s o = twice (mark_of s o 0) ∙ first_of s o
-  where
-    twice : (b : Bool) → (b || (b || false)) ≡ b
-    twice true = refl
-    twice false = refl
+any_stored Half s o = let first = first_of s o in grind arith
 any_stored (Words n) s o = any_bytes (marks_of s o n) ∙ any_of s o n
 
 -- as a number
@@ -196,10 +171,7 @@ pub stored_any : (size : Size) (s : State) (o : Operand) (w : ℕ) → w < 2 ^ b
 stored_any size s o w small bits = any_bits w (byte_count size) small ∙ ap (λ (bs : List Bool). list_any (λ (b : Bool). b) bs) bits ∙ any_stored size s o
 
 pub stored_some : (size : Size) (s : State) (o : Operand) (w : ℕ) → w < 2 ^ byte_count size → bits_of w (byte_count size) ≡ stored_marks size s o → w ≢ 0 → is_marked s (registers_of o (register_count size)) ≡ true
-stored_some size s o w small bits some = sym (stored_any size s o w small bits) ∙ apart
-  where
-    apart : not (w == 0) ≡ true
-    apart = grind (arith, nat_tests, some)
+stored_some size s o w small bits some = let any = stored_any size s o w small bits in grind (arith, nat_tests)
 
 -- of words, as the low bits of a number
 pub stored_low : (size : Size) (s : State) (o : Operand) (n w v : ℕ) → byte_count size ≤ 16 → size ≡ Words n → w ≡ v → bits_of v 16 ≡ byte_marks (marks_of s o 4) → bits_of (w % (1 * 2 ^ (4 * n) % 4294967296)) (byte_count size) ≡ stored_marks size s o
@@ -222,8 +194,7 @@ set_words n p = map_below (bit (set_below n p)) p 0 n n (omega arith) (λ k h. s
 -- ---- four marks by their values
 
 weighed : (b : Bool) (n : ℕ) → cond b n 0 ≡ n * from_bool b
-weighed true n = omega arith
-weighed false n = omega arith
+weighed b n = grind arith
 
 -- as bits, and as bits of bytes
 four_bits : (a b c d : Bool) → bits_of (from_bool a + 2 * from_bool b + 4 * from_bool c + 8 * from_bool d) 4 ≡ a ∷ b ∷ c ∷ d ∷ []
@@ -238,35 +209,13 @@ unfolding set_below
 sixteen_bits a b c d =
     let marks = byte_marks (a ∷ b ∷ c ∷ d ∷ []) in
     let set : set_below 16 (λ k. get_or marks k false) ≡ 15 * (from_bool a + 16 * from_bool b + 256 * from_bool c + 4096 * from_bool d)
-    = omega (
-      arith,
-      weighed a 1,
-      weighed a 2,
-      weighed a 4,
-      weighed a 8,
-      weighed b 16,
-      weighed b 32,
-      weighed b 64,
-      weighed b 128,
-      weighed c 256,
-      weighed c 512,
-      weighed c 1024,
-      weighed c 2048,
-      weighed d 4096,
-      weighed d 8192,
-      weighed d 16384,
-      weighed d 32768,
-    ) in
+    = omega (arith, weighed) in
     ap (λ (w : ℕ). bits_of w 16) (sym set) ∙ set_words 16 (λ k. get_or marks k false)
 
 -- four of them are the list of them
 each_of_four : (ms : List Bool) → length ms ≡ 4 → ms ≡ get_or ms 0 false ∷ get_or ms 1 false ∷ get_or ms 2 false ∷ get_or ms 3 false ∷ []
-each_of_four [] long = absurd cc
-each_of_four (a ∷ []) long = absurd cc
-each_of_four (a ∷ b ∷ []) long = absurd cc
-each_of_four (a ∷ b ∷ c ∷ []) long = absurd cc
 each_of_four (a ∷ b ∷ c ∷ d ∷ []) long = refl
-each_of_four (a ∷ b ∷ c ∷ d ∷ z ∷ ms) long = absurd cc
+each_of_four _ long = absurd cc
 
 pub four_values : (ms : List Bool) (v w x y : ℕ) → length ms ≡ 4 → v ≡ from_bool (get_or ms 0 false) → w ≡ from_bool (get_or ms 1 false) → x ≡ from_bool (get_or ms 2 false) → y ≡ from_bool (get_or ms 3 false)
     → bits_of (v + 2 * w + 4 * x + 8 * y) 4 ≡ ms
@@ -310,17 +259,15 @@ no_stale f a n k j none h = let here : wrapped (wrapped (a + k) + j) ≡ wrapped
 
 no_word : (f : Frames) (a n k : ℕ) → read_hazard f a n ≡ None → k + 4 ≤ n → word_mark f.soft (wrapped (a + k)) ≡ false
 no_word f a n k none h =
-    let x = wrapped (a + k) in
-    ap (λ (b : Bool). b || (f.soft (wrapped (x + 1)) || (f.soft (wrapped (x + 2)) || f.soft (wrapped (x + 3))))) (no_soft f a n k none (omega (arith, h)))
-    ∙ ap (λ (b : Bool). b || (f.soft (wrapped (x + 2)) || f.soft (wrapped (x + 3)))) (no_stale f a n k 1 none (omega (arith, h)))
-    ∙ ap (λ (b : Bool). b || f.soft (wrapped (x + 3))) (no_stale f a n k 2 none (omega (arith, h)))
-    ∙ no_stale f a n k 3 none (omega (arith, h))
+    let first = no_soft f a n k none (omega (arith, h)) in
+    rw (first, no_stale f a n k 1 none (omega (arith, h)), no_stale f a n k 2 none (omega (arith, h))) (no_stale f a n k 3 none (omega (arith, h)))
 
 none_of_words : (f : Frames) (a n b m : ℕ) → read_hazard f a (4 * n) ≡ None → b + m ≤ n → map (λ (k : ℕ). word_mark f.soft (wrapped (a + 4 * k))) (range_with_len b m) ≡ replicate m false
 none_of_words f a n b zero none h = refl
 none_of_words f a n b (suc m) none h =
-    ap (λ (x : Bool). x ∷ map (λ (k : ℕ). word_mark f.soft (wrapped (a + 4 * k))) (range_with_len (b + 1) m)) (no_word f a (4 * n) (4 * b) none (omega (arith, h)))
-    ∙ ap (λ (xs : List Bool). false ∷ xs) (none_of_words f a n (b + 1) m none (omega (arith, h)))
+    let here = no_word f a (4 * n) (4 * b) none (omega (arith, h)) in
+    let rest = none_of_words f a n (b + 1) m none (omega (arith, h)) in
+    cc
 
 -- nothing that is loaded is marked then
 pub hard_marks : (size : Size) (f : Frames) (a : ℕ) → a < 2 ^ 32 → read_hazard f a (byte_count size) ≡ None → loaded_marks size f.soft a ≡ replicate (register_count size) false
@@ -333,15 +280,12 @@ hard_marks (Words n) f a small none = none_of_words f a n 0 n none (omega arith)
 -- and no destination gets a mark
 pub none_given : (o : Operand) (n : ℕ) → marks_for o (replicate n false) ≡ []
 none_given (Reg r) n = none_picked (λ (k : ℕ). k) r n
-none_given (Lit l) n = refl
-none_given (Sfr k) n = refl
+none_given _ n = refl
 
 -- ---- registers
 
 -- there is none past the last
 pub past_registers : (s : State) (w m n : ℕ) → bit w ≡ s.marks → w < 2 ^ 32 → m ≡ n → 32 ≤ m → nat_lt m 32 ≡ s.marks n
 past_registers s w m n marks small same far =
-    no_less m far ∙ sym (bit_above w 32 m small far) ∙ ap (λ (f : ℕ → Bool). f m) marks ∙ ap s.marks same
-  where
-    no_less : (m : ℕ) → 32 ≤ m → nat_lt m 32 ≡ false
-    no_less m far = grind (arith, nat_tests, far)
+    let none : nat_lt m 32 ≡ false = grind (arith, nat_tests) in
+    none ∙ sym (bit_above w 32 m small far) ∙ ap (λ (f : ℕ → Bool). f m) marks ∙ ap s.marks same

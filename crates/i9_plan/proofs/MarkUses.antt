@@ -1,13 +1,12 @@
 -- What marked registers may not decide, by names.
 use Rattle.std.proofs.Common.{◌≡◌, ℕ, zero, suc, ◌+◌, Bool, true, false, cond, List, [], ◌∷◌, ◌++◌, map, replicate, Option, Some, None, refl, sym, ap, ◌∙◌, arith}
-use Rattle.std.specs.Prelude.{◌==◌, ◌&&◌, ◌||◌, not, is_some}
+use Rattle.std.specs.Prelude.{◌==◌, ◌&&◌, ◌||◌, not}
 use Rattle.std.specs.List.{list_any, range_with_len}
-use Rattle.std.proofs.lemmas.Bool.{eqb-true, and_parts, and_right, or_left}
+use Rattle.std.proofs.lemmas.Bool.{eqb-true}
 use Rattle.std.proofs.lemmas.Bool.Decides.{nat_tests}
 use Rattle.std.proofs.lemmas.List.Folds.{list_any-append}
 use Rattle.i9_isa.specs.declared.op.Op.{Op}
 use Rattle.i9_isa.specs.declared.op.Op.TheVariants.{Lda, Atadd, Atmod, Bx, Balx, Callx, Ret, Modpc, Sysctl}
-use Rattle.i9_isa.specs.declared.format.Use.{Use}
 use Rattle.i9_isa.specs.declared.format.Use.TheVariants.{Load, Store, Change}
 use Rattle.i9_isa.specs.declared.size.Size.{Size}
 use Rattle.i9_isa.specs.declared.size.Direction.{Direction}
@@ -33,7 +32,7 @@ use Rattle.i9_model.specs.Stale.{restart_registers, mark_of, marks_of, word_mark
 use Rattle.i9_isa.specs.Words.{bit}
 use Rattle.i9_watch.proofs.SetBits.{bit_none}
 use Rattle.i9_plan.specs.Names.{is_atomic}
-use Rattle.i9_plan.proofs.MarkBits.{or_none, any_alike, implied, not_first}
+use Rattle.i9_plan.proofs.MarkBits.{or_none, any_alike}
 
 -- ---- the marks of a result
 
@@ -49,11 +48,8 @@ none_in (n ∷ ns) = none_in ns
 pub operand_marked : (s : State) (o : Operand) (n : ℕ) → list_any (mark_of s o) (range_with_len 0 n) ≡ is_marked s (registers_of o n)
 operand_marked s (Reg r) n = any_alike (mark_of s (Reg r)) s.marks 0 r n (λ k h. at k)
   where
-    first : (k : ℕ) → (k == 0) ≡ true → s.marks r ≡ s.marks (r + k)
-    first k t = let none = eqb-true k 0 t in let here : r ≡ r + k = omega (arith, none) in ap s.marks here
-
     by : (b : Bool) (k : ℕ) → (k == 0) ≡ b → cond b (s.marks r) (s.marks (r + k)) ≡ s.marks (r + k)
-    by true k t = first k t
+    by true k t = let none = eqb-true k 0 t in let here : r ≡ r + k = omega (arith, none) in ap s.marks here
     by false k t = refl
 
     at : (k : ℕ) → mark_of s (Reg r) (0 + k) ≡ s.marks (r + k)
@@ -64,28 +60,23 @@ operand_marked s (Sfr j) n = none_in (range_with_len 0 n)
 pub any_of : (s : State) (o : Operand) (n : ℕ) → list_any (λ (b : Bool). b) (marks_of s o n) ≡ is_marked s (registers_of o n)
 any_of s o n = any_map (mark_of s o) (range_with_len 0 n) ∙ operand_marked s o n
 
-apart : (n : ℕ) → not (suc n == 0) ≡ true
-apart n = grind (arith, nat_tests)
-
 same_none : (n : ℕ) → list_any (λ (x : Bool). x) (replicate n false) ≡ false
 same_none zero = refl
 same_none (suc n) = same_none n
 
 and_none : (b : Bool) → (b && false) ≡ false
-and_none b = and_right b false refl
+and_none b = grind arith
 
 any_same : (n : ℕ) (b : Bool) → list_any (λ (x : Bool). x) (replicate n b) ≡ (not (n == 0) && b)
 any_same zero b = refl
-any_same (suc n) true = sym (ap (λ (b : Bool). b && true) (apart n))
+any_same (suc n) true = grind (arith, nat_tests)
 any_same (suc n) false = same_none n ∙ sym (and_none (not (suc n == 0)))
 
 -- words that are moved are the first source, and there is no other
-abbrev moves_alone : Op → Bool
-moves_alone op = words_read (row_of op).a == destination_words op && (words_read (row_of op).b == 0 && (words_read (row_of op).c == 0 && not (destination_words op == 0)))
-
-moved_alone : (op : Op) → (moves_words op && not (moves_alone op)) ≡ false
-moved_alone Lda = refl
-moved_alone _ = refl
+moved_alone : (op : Op) → moves_words op ≡ true
+    → (words_read (row_of op).a ≡ destination_words op) × (words_read (row_of op).b ≡ 0) × (words_read (row_of op).c ≡ 0) × ((destination_words op == 0) ≡ false)
+moved_alone Lda t = absurd cc
+moved_alone _ t = (cc, cc, cc, cc)
 
 none_read : (s : State) (o : Operand) → is_marked s (registers_of o 0) ≡ false
 none_read s (Reg r) = refl
@@ -101,12 +92,7 @@ sources_parts i s =
     list_any-append s.marks first (second ++ third) ∙ ap (λ (b : Bool). list_any s.marks first || b) (list_any-append s.marks second third)
 
 alone : (s : State) (o p : Operand) (x : Bool) (b c : ℕ) → b ≡ 0 → c ≡ 0 → (x || (is_marked s (registers_of o b) || is_marked s (registers_of p c))) ≡ x
-alone s o p x b c e h =
-    ap (λ (n : ℕ). x || (is_marked s (registers_of o n) || is_marked s (registers_of p c))) e
-    ∙ ap (λ (n : ℕ). x || (is_marked s (registers_of o 0) || is_marked s (registers_of p n))) h
-    ∙ ap (λ (y : Bool). x || (y || is_marked s (registers_of p 0))) (none_read s o)
-    ∙ ap (λ (y : Bool). x || y) (none_read s p)
-    ∙ or_none x
+alone s o p x b c e h = let first = none_read s o in let second = none_read s p in rw (e, h, first, second) (or_none x)
 
 -- a result is marked where it has words and a source is marked
 pub any_result : (i : Inst) (s : State) → list_any (λ (b : Bool). b) (result_marks i s) ≡ (not (destination_words i.op == 0) && is_marked s (sources i))
@@ -114,14 +100,11 @@ any_result i s = by (moves_words i.op) refl
   where
     by : (m : Bool) → moves_words i.op ≡ m → list_any (λ (b : Bool). b) (cond m (marks_of s i.a (destination_words i.op)) (replicate (destination_words i.op) (is_marked s (sources i)))) ≡ (not (destination_words i.op == 0) && is_marked s (sources i))
     by true e =
-        let row = implied (moves_words i.op) (moves_alone i.op) (moved_alone i.op) e in
-        let first = and_parts _ _ row in
-        let second = and_parts _ _ first.1 in
-        let third = and_parts _ _ second.1 in
+        let row = moved_alone i.op e in
         any_of s i.a (destination_words i.op)
-        ∙ ap (λ (n : ℕ). is_marked s (registers_of i.a n)) (sym (eqb-true _ _ first.0))
-        ∙ sym (sources_parts i s ∙ alone s i.b i.c (is_marked s (registers_of i.a (words_read (row_of i.op).a))) _ _ (eqb-true _ _ second.0) (eqb-true _ _ third.0))
-        ∙ sym (ap (λ (b : Bool). b && is_marked s (sources i)) third.1)
+        ∙ ap (λ (n : ℕ). is_marked s (registers_of i.a n)) (sym row.0)
+        ∙ sym (sources_parts i s ∙ alone s i.b i.c (is_marked s (registers_of i.a (words_read (row_of i.op).a))) _ _ row.1 row.2)
+        ∙ sym (ap (λ (b : Bool). not b && is_marked s (sources i)) row.3)
     by false e = any_same (destination_words i.op) (is_marked s (sources i))
 
 -- ---- names that move nothing between registers and memory
@@ -158,55 +141,28 @@ is_listed _ = false
 unlisted_uses : (op : Op) (i : Inst) (s : State) → is_listed op ≡ false
     → (deciding op i s ≡ cond (keeps_marks op) [] (sources i)) × (marks_by_name op i s ≡ result_marks i s) × (goes_out op i s ≡ false)
 unlisted_uses Lda i s e = absurd cc
-unlisted_uses Atadd i s e = absurd cc
-unlisted_uses Atmod i s e = absurd cc
-unlisted_uses Bx i s e = absurd cc
-unlisted_uses Balx i s e = absurd cc
-unlisted_uses Callx i s e = absurd cc
-unlisted_uses Ret i s e = absurd cc
-unlisted_uses Modpc i s e = absurd cc
-unlisted_uses Sysctl i s e = absurd cc
-unlisted_uses _ i s e = (refl, refl, refl)
+unlisted_uses _ i s e = (cc, cc, cc)
 
-kept_words : (op : Op) → (keeps_marks op && not (not (destination_words op == 0))) ≡ false
-kept_words Lda = refl
-kept_words _ = refl
+kept_words : (op : Op) → keeps_marks op ≡ true → (destination_words op == 0) ≡ false
+kept_words Lda e = cc
+kept_words _ e = cc
 
 -- by whether the name keeps marks, its result has words, and a source is marked
-by_keeping : (s : State) (rs : List ℕ) (keeps special words marked : Bool) → is_marked s rs ≡ marked → (keeps && not words) ≡ false
-    → (is_marked s (cond keeps [] rs) || ((special && (words && marked)) || false)) ≡ (marked && (not keeps || special))
-by_keeping s rs true true true true e t = refl
-by_keeping s rs true true true false e t = refl
-by_keeping s rs true false true true e t = refl
-by_keeping s rs true false true false e t = refl
-by_keeping s rs true special false marked e t = absurd cc
-by_keeping s rs false special words true e t = ap (λ (b : Bool). b || ((special && (words && true)) || false)) e
-by_keeping s rs false true words false e t = ap (λ (b : Bool). b || ((words && false) || false)) e ∙ or_none (words && false) ∙ and_none words
-by_keeping s rs false false words false e t = ap (λ (b : Bool). b || (false || false)) e
+by_keeping : (s : State) (rs : List ℕ) (keeps special none marked : Bool) → is_marked s rs ≡ marked → (keeps ≡ true → none ≡ false)
+    → (is_marked s (cond keeps [] rs) || ((special && (not none && marked)) || false)) ≡ (marked && (not keeps || special))
+by_keeping s rs true special none marked e t = grind arith
+by_keeping s rs false special none marked e t = grind arith
 
 -- every other name: a marked source, unless marks are kept and go to a register
 pub other_misuses : (i : Inst) (s : State) → transfer_of i.op ≡ None → is_listed i.op ≡ false → (is_marked s (sources i) && (not (keeps_marks i.op) || is_special i.c)) ≡ misuses i s
 other_misuses i s still other =
     let op = i.op in
     let uses = unlisted_uses op i s other in
-    sym (still_misused op i s still refl
-    ∙ ap (λ (rs : List ℕ). is_marked s rs || ((is_special i.c && list_any (λ (b : Bool). b) (marks_by_name op i s)) || goes_out op i s)) uses.0
-    ∙ ap (λ (bs : List Bool). is_marked s (cond (keeps_marks op) [] (sources i)) || ((is_special i.c && list_any (λ (b : Bool). b) bs) || goes_out op i s)) uses.1
-    ∙ ap (λ (b : Bool). is_marked s (cond (keeps_marks op) [] (sources i)) || ((is_special i.c && b) || goes_out op i s)) (any_result i s)
-    ∙ ap (λ (b : Bool). is_marked s (cond (keeps_marks op) [] (sources i)) || ((is_special i.c && (not (destination_words op == 0) && is_marked s (sources i))) || b)) uses.2
-    ∙ by_keeping s (sources i) (keeps_marks op) (is_special i.c) (not (destination_words op == 0)) (is_marked s (sources i)) refl (kept_words op))
+    sym (still_misused op i s still refl ∙ rw (uses.0, uses.1, any_result i s, uses.2) (by_keeping s (sources i) (keeps_marks op) (is_special i.c) _ _ refl (kept_words op)))
 
 pub unlisted : (op : Op) → (op ≡ Lda → ⊥) → (op ≡ Atadd → ⊥) → (op ≡ Atmod → ⊥) → (op ≡ Bx → ⊥) → (op ≡ Balx → ⊥) → (op ≡ Callx → ⊥) → (op ≡ Ret → ⊥) → (op ≡ Modpc → ⊥) → (op ≡ Sysctl → ⊥) → is_listed op ≡ false
 unlisted Lda a b c d e f g h k = absurd (a refl)
-unlisted Atadd a b c d e f g h k = absurd (b refl)
-unlisted Atmod a b c d e f g h k = absurd (c refl)
-unlisted Bx a b c d e f g h k = absurd (d refl)
-unlisted Balx a b c d e f g h k = absurd (e refl)
-unlisted Callx a b c d e f g h k = absurd (f refl)
-unlisted Ret a b c d e f g h k = absurd (g refl)
-unlisted Modpc a b c d e f g h k = absurd (h refl)
-unlisted Sysctl a b c d e f g h k = absurd (k refl)
-unlisted _ a b c d e f g h k = refl
+unlisted _ a b c d e f g h k = grind arith
 
 -- ---- the names that are listed
 
@@ -217,7 +173,7 @@ lda_misuses i s is =
     sym (still_misused Lda i s refl is ∙ or_none (is_special i.c && (m || false)) ∙ ap (λ (b : Bool). is_special i.c && b) (or_none m))
 
 address_alone : (x y m : Bool) → x ≡ false → (m || ((y && x) || false)) ≡ m
-address_alone x y m e = ap (λ (b : Bool). m || (b || false)) (and_right y x e) ∙ or_none m
+address_alone x y m e = grind arith
 
 -- a jump to an address that is not known
 pub bx_misuses : (i : Inst) (s : State) → i.op ≡ Bx → is_marked s (address_registers i.ea) ≡ misuses i s
@@ -250,8 +206,7 @@ ret_misuses i s is =
 
 change_registers : (o : Operand) → takes Change o ≡ true → is_special o ≡ false
 change_registers (Reg r) t = refl
-change_registers (Lit l) t = refl
-change_registers (Sfr j) t = absurd cc
+change_registers _ t = cc
 
 -- modpc uses its mask and src/dst
 pub modpc_misuses : (i : Inst) (s : State) → IsValid i → i.op ≡ Modpc → (is_marked s (registers_of i.b 1) || is_marked s (registers_of i.c 1)) ≡ misuses i s
@@ -276,18 +231,7 @@ sysctl_misuses i s is =
 
 -- an atomic instruction gives a marked word to no port and to no special function register
 atomic_parts : (a x w d p : Bool) → (a || ((x && (w || false)) || ((w || d) && p || d && x))) ≡ (a || ((w || d) && (x || p)))
-atomic_parts true x w d p = refl
-atomic_parts false true true d p = refl
-atomic_parts false true false true true = refl
-atomic_parts false true false true false = refl
-atomic_parts false true false false p = refl
-atomic_parts false false true true true = refl
-atomic_parts false false true true false = refl
-atomic_parts false false true false true = refl
-atomic_parts false false true false false = refl
-atomic_parts false false false true true = refl
-atomic_parts false false false true false = refl
-atomic_parts false false false false p = refl
+atomic_parts a x w d p = grind arith
 
 -- what an atomic instruction with marked data, or with none, misuses
 abbrev pub atomic_misused : Inst → State → Bool → Bool
@@ -312,27 +256,15 @@ atmod_misuses i s is =
 
 -- ---- loads and stores
 
-abbrev is_transfer : Use → Bool
-is_transfer (Load n) = true
-is_transfer (Store n) = true
-is_transfer _ = false
-
-transfer_uses : (op : Op) → (is_some (transfer_of op) && not (is_transfer (row_of op).c)) ≡ false
-transfer_uses Lda = refl
-transfer_uses _ = refl
-
 -- their registers are no special function registers
-transfer_registers : (u : Use) (o : Operand) → is_transfer u ≡ true → takes u o ≡ true → is_special o ≡ false
-transfer_registers u (Reg r) is t = refl
-transfer_registers u (Lit l) is t = refl
-transfer_registers (Load n) (Sfr j) is t = absurd cc
-transfer_registers (Store n) (Sfr j) is t = absurd cc
-transfer_registers _ (Sfr j) is t = absurd cc
+transfer_registers : (op : Op) (t : Transfer) (o : Operand) → transfer_of op ≡ Some t → takes (row_of op).c o ≡ true → is_special o ≡ false
+transfer_registers op t (Reg r) is e = refl
+transfer_registers op t (Lit l) is e = refl
+transfer_registers Lda t (Sfr j) is e = absurd cc
+transfer_registers _ t (Sfr j) is e = cc
 
 transfer_plain : (i : Inst) (t : Transfer) → IsValid i → transfer_of i.op ≡ Some t → is_special i.c ≡ false
-transfer_plain i t valid is =
-    let moves = implied (is_some (transfer_of i.op)) (is_transfer (row_of i.op).c) (transfer_uses i.op) (ap (λ (o : Option Transfer). is_some o) is) in
-    transfer_registers (row_of i.op).c i.c moves valid.c
+transfer_plain i t valid is = transfer_registers i.op t i.c is valid.c
 
 -- a load or a store uses its address, and a store to the port page its data
 pub transfer_misuses : (i : Inst) (s : State) (t : Transfer) → IsValid i → transfer_of i.op ≡ Some t
@@ -343,7 +275,7 @@ transfer_misuses i s t valid is =
     ∙ ap (λ (b : Bool). is_marked s (address_registers i.ea) || ((b && list_any (λ (x : Bool). x) (marks_by (Some t) i s)) || stored_out t.direction t.size i s)) (transfer_plain i t valid is))
 
 pub address_misused : (i : Inst) (s : State) (t : Transfer) → IsValid i → transfer_of i.op ≡ Some t → is_marked s (address_registers i.ea) ≡ true → true ≡ misuses i s
-address_misused i s t valid is marked = sym (or_left _ (stored_out t.direction t.size i s) marked) ∙ transfer_misuses i s t valid is
+address_misused i s t valid is marked = grind (arith, transfer_misuses i s t valid is)
 
 pub data_misused : (i : Inst) (s : State) (t : Transfer) → IsValid i → transfer_of i.op ≡ Some t → is_marked s (address_registers i.ea) ≡ false → stored_out t.direction t.size i s ≡ misuses i s
 data_misused i s t valid is none = sym (ap (λ (b : Bool). b || stored_out t.direction t.size i s) none) ∙ transfer_misuses i s t valid is
@@ -361,13 +293,10 @@ NoMarks s = (r : ℕ) → s.marks r ≡ false
 pub zero_marks : (s : State) (w : ℕ) → bit w ≡ s.marks → w ≡ 0 → NoMarks s
 zero_marks s w marks none r = ap (λ (f : ℕ → Bool). f r) (sym marks) ∙ ap (λ (x : ℕ). bit x r) none ∙ bit_none r
 
-atomic_waits : (op : Op) → (is_atomic op && not (is_barrier_name op)) ≡ false
-atomic_waits Lda = refl
-atomic_waits _ = refl
-
 -- no atomic instruction passes others
 pub not_atomic : (op : Op) → is_barrier_name op ≡ false → is_atomic op ≡ false
-not_atomic op none = not_first (is_atomic op) (is_barrier_name op) (atomic_waits op) none
+not_atomic Lda none = refl
+not_atomic _ none = cc
 
 pub none_marked : (s : State) (rs : List ℕ) → NoMarks s → is_marked s rs ≡ false
 none_marked s [] none = refl
@@ -381,8 +310,7 @@ clean_marks _ i s none plain = any_result i s ∙ ap (λ (b : Bool). not (destin
 
 clean_out : (op : Op) (i : Inst) (s : State) → is_atomic op ≡ false → goes_out op i s ≡ false
 clean_out Atadd i s plain = absurd cc
-clean_out Atmod i s plain = absurd cc
-clean_out _ i s plain = refl
+clean_out _ i s plain = cc
 
 clean_stored : (d : Direction) (size : Size) (i : Inst) (s : State) → NoMarks s → stored_out d size i s ≡ false
 clean_stored directions.Load size i s none = refl

@@ -1,17 +1,16 @@
 -- Effects with the marks of the registers that they set, and of the bytes that they store.
-use Rattle.std.proofs.Common.{◌≡◌, ℕ, ◌+◌, ◌*◌, ◌^◌, ◌<◌, Bool, false, List, [], ◌∷◌, ◌++◌, length, replicate, None, refl, sym, ap, ◌∙◌, subst, append-nil}
+use Rattle.std.proofs.Common.{◌≡◌, ℕ, ◌+◌, ◌*◌, ◌^◌, ◌<◌, Bool, false, List, [], ◌∷◌, ◌++◌, length, replicate, None, refl, sym, ap, ◌∙◌, append-nil}
 use Rattle.i9_model.proofs.Reading.{length-pairs_at}
 use Rattle.i9_isa.specs.declared.inst.Inst.{Inst}
 use Rattle.i9_isa.specs.declared.inst.Operand.{Operand}
-use Rattle.i9_isa.specs.declared.inst.Operand.TheVariants.{Reg, Lit, Sfr}
+use Rattle.i9_isa.specs.declared.inst.Operand.TheVariants.{Reg}
 use Rattle.i9_isa.specs.declared.size.Size.{Size}
 use Rattle.i9_isa.specs.Transfers.{byte_count, register_count}
 use Rattle.i9_model.specs.declared.calls.Pop.{Pop}
 use Rattle.i9_model.specs.declared.layout.TheConstants.{LOCALS}
-use Rattle.i9_model.specs.declared.setup.Tables.{Tables}
 use Rattle.i9_model.specs.Writes.{wrapped, pairs_at, upwards}
-use Rattle.i9_model.specs.Memory.{Memory, word_in, words_in}
-use Rattle.i9_model.specs.State.{State, Frames, aligned, frame_sets}
+use Rattle.i9_model.specs.Memory.{word_in, words_in}
+use Rattle.i9_model.specs.State.{State, aligned, frame_sets}
 use Rattle.i9_model.specs.Frames.{word_mark, left_stale}
 use Rattle.i9_model.specs.Hazards.{return_place, read_hazard}
 use Rattle.i9_model.specs.Calls.{popped, return_marks}
@@ -21,7 +20,6 @@ use Rattle.i9_model.specs.Controls as plain_controls
 use Rattle.i9_model.specs.Step as plain
 use Rattle.i9_watch.specs.Bits.{bits_of}
 use Rattle.i9_processor.specs.declared.effect.Effect.{Effect}
-use Rattle.i9_processor.specs.declared.effect.Requests.{Requests}
 use Rattle.i9_processor.specs.declared.effect.Move.{Move}
 use Rattle.i9_processor.specs.declared.effect.Move.TheVariants as moves
 use Rattle.i9_processor.specs.declared.effect.Control.{Control}
@@ -39,12 +37,11 @@ place_of (p ∷ ps) = p.0
 -- registers in a row are marked as those that stand for them
 same_picked : (m a b : ℕ) (vs ws : List ℕ) → pairs_at (λ (r : ℕ). r) a vs ≡ pairs_at (λ r. r) b ws → picked (λ r. r) a (bits_of m (length vs)) ≡ picked (λ r. r) b (bits_of m (length ws))
 same_picked m a b [] [] e = refl
-same_picked m a b (v ∷ vs) [] e = absurd cc
-same_picked m a b [] (w ∷ ws) e = absurd cc
 same_picked m a b (v ∷ vs) (w ∷ ws) e =
     let long : length (v ∷ vs) ≡ length (w ∷ ws) = sym (length-pairs_at (λ r. r) a (v ∷ vs)) ∙ ap length e ∙ length-pairs_at (λ r. r) b (w ∷ ws) in
     let here : a ≡ b = ap place_of e in
     ap (λ (n : ℕ). picked (λ r. r) n (bits_of m (length (v ∷ vs)))) here ∙ ap (λ (n : ℕ). picked (λ r. r) b (bits_of m n)) long
+same_picked m a b _ _ e = absurd cc
 
 -- no register is set
 none_picked : (m a : ℕ) (vs : List ℕ) → pairs_at (λ (r : ℕ). r) a vs ≡ [] → picked (λ r. r) a (bits_of m (length vs)) ≡ []
@@ -53,14 +50,11 @@ none_picked m a (v ∷ vs) e = absurd cc
 
 by_operand : (o : Operand) (m a : ℕ) (vs ws : List ℕ) → pairs_at (λ (r : ℕ). r) a vs ≡ assigned o ws → picked (λ r. r) a (bits_of m (length vs)) ≡ marks_for o (bits_of m (length ws))
 by_operand (Reg r) m a vs ws e = same_picked m a r vs ws e
-by_operand (Lit l) m a vs ws e = none_picked m a vs e
-by_operand (Sfr k) m a vs ws e = none_picked m a vs e
+by_operand _ m a vs ws e = none_picked m a vs e
 
 stays : (s : State) (v : Move) → move_in s v ≡ plain.Stays → v ≡ moves.Stays
 stays s moves.Stays e = refl
-stays s (moves.Saves push back) e = absurd cc
-stays s (moves.Returns frame) e = absurd cc
-stays s moves.Flushes e = absurd cc
+stays s _ e = absurd cc
 
 -- the marks of the values that go to a destination
 marked_values : (s : State) (a : plain.Action) (e : Effect) (o : Operand) (vs : List ℕ) (m : ℕ) → action_in s e ≡ a → a.sets ≡ assigned o vs → a.move ≡ plain.Stays
@@ -72,14 +66,10 @@ marked_values s a e o vs m same sets move =
 
 -- ---- effects
 
-control_alike : (s t : State) (c : Control) → s.memory ≡ t.memory → s.frames ≡ t.frames → s.tables ≡ t.tables → CanControl s c → CanControl t c
-control_alike s t controls.Keeps m f x can = can
-control_alike s t (controls.Restarts first prcb) m f x can =
-    subst (λ (h : Frames). CanControl (record t { frames = h }) (controls.Restarts first prcb)) f
-    (subst (λ (k : Memory). CanControl (record t { memory = k; frames = s.frames }) (controls.Restarts first prcb)) m can)
-control_alike s t (controls.LoadsGroup group) m f x can =
-    subst (λ (h : Frames). CanControl (record t { frames = h }) (controls.LoadsGroup group)) f
-    (subst (λ (y : Tables). CanControl (record t { tables = y; frames = s.frames }) (controls.LoadsGroup group)) x can)
+control_alike : (s : State) (a : plain.Action) (x : ℕ) (ms : List ℕ) (c : Control) → CanControl (plain.moved s a) c → CanControl (plain.moved s (record a { pc = x; marked = ms })) c
+unfolding plain.moved
+control_alike s a x ms controls.Keeps can = can
+control_alike s a x ms _ can = can
 
 -- the values of an effect that go to a destination get marks
 pub values_marked : (s : State) (a : plain.Action) (e : Effect) (o : Operand) (vs : List ℕ) (bs : List Bool) (m : ℕ) → IsEffect s a e → a.sets ≡ assigned o vs → a.move ≡ plain.Stays
@@ -93,7 +83,7 @@ values_marked s a e o vs bs m effect sets move bits = record {
   posts = effect.posts;
   changes = effect.changes;
   moves = effect.moves;
-  controls = control_alike (plain.moved s a) (plain.moved s (record a { marked = marks_for o bs })) e.control refl refl refl effect.controls;
+  controls = control_alike s a a.pc (marks_for o bs) e.control effect.controls;
 }
 
 -- the process controls afterwards may be others
@@ -105,14 +95,13 @@ with_pc s a e x effect = record {
   posts = effect.posts;
   changes = effect.changes;
   moves = effect.moves;
-  controls = control_alike (plain.moved s a) (plain.moved s (record a { pc = x })) e.control refl refl refl effect.controls;
+  controls = control_alike s a x a.marked e.control effect.controls;
 }
 
 -- nothing is asked of the controls that start-up reads
 pub can_keep : (t : State) (c : Control) → control_in c ≡ plain_controls.KeepsControls → CanControl t c
 can_keep t controls.Keeps keeps = tt
-can_keep t (controls.Restarts first prcb) keeps = absurd cc
-can_keep t (controls.LoadsGroup group) keeps = absurd cc
+can_keep t _ keeps = absurd cc
 
 -- ---- bytes in a row
 
@@ -120,12 +109,7 @@ can_keep t (controls.LoadsGroup group) keeps = absurd cc
 pub row_same : (s : State) (a : plain.Action) (e : Effect) (x y : ℕ) (bs cs : List ℕ) (m : ℕ) (ms : List Bool) → action_in s e ≡ a → e.requests ≡ no_requests → x ≡ y → bs ≡ cs → bits_of m (length bs) ≡ ms
     → record (action_in s e) { writes = upwards x bs ++ requests_in e.requests; stale = picked wrapped x (bits_of m (length bs)) } ≡ record a { writes = upwards y cs; stale = picked wrapped y ms }
 row_same s a e x y bs cs m ms same none place bytes marks =
-    ap (λ (r : Requests). record (action_in s e) { writes = upwards x bs ++ requests_in r; stale = picked wrapped x (bits_of m (length bs)) }) none
-    ∙ ap (λ (ps : List (ℕ × ℕ)). record (action_in s e) { writes = ps; stale = picked wrapped x (bits_of m (length bs)) }) (append-nil (upwards x bs))
-    ∙ ap (λ (ns : List Bool). record (action_in s e) { writes = upwards x bs; stale = picked wrapped x ns }) marks
-    ∙ ap (λ (ds : List ℕ). record (action_in s e) { writes = upwards x ds; stale = picked wrapped x ms }) bytes
-    ∙ ap (λ (z : ℕ). record (action_in s e) { writes = upwards z cs; stale = picked wrapped z ms }) place
-    ∙ ap (λ (b : plain.Action). record b { writes = upwards y cs; stale = picked wrapped y ms }) same
+    rw (none, append-nil, marks, bytes, place) (ap (λ (b : plain.Action). record b { writes = upwards y cs; stale = picked wrapped y ms }) same)
 
 -- and here without marks
 pub plain_same : (s : State) (a : plain.Action) (e : Effect) (x y : ℕ) (bs cs : List ℕ) (m : ℕ) → action_in s e ≡ a → e.requests ≡ no_requests → x ≡ y → bs ≡ cs → m ≡ 0
@@ -147,26 +131,15 @@ pub return_same : (s : State) (p : Pop) → p ≡ plain.return_in s
     } ≡ plain.ret_action s
 unfolding popped return_marks
 return_same s p is =
-    ap (λ (q : Pop). record (plain.going s (aligned (word_in (left_memory s.frames.live s) (return_place q.frame)))) {
-      sets = frame_sets (words_in (left_memory s.frames.live s) q.frame LOCALS) q.frame;
-      marked = picked (λ r. r) 0 (bits_of q.marks LOCALS);
-      move = plain.Returns;
-      pc = q.pc;
-      ac = q.ac;
-      check = q.check;
-    }) is
-    ∙ ap (λ (bs : List Bool). record (plain.ret_action s) { marked = picked (λ r. r) 0 bs })
-    (set_words LOCALS (λ k. word_mark (left_stale s.frames.live s.frames) (wrapped ((plain.return_in s).frame + 4 * k))))
+    rw is (ap (λ (bs : List Bool). record (plain.ret_action s) { marked = picked (λ r. r) 0 bs })
+    (set_words LOCALS (λ k. word_mark (left_stale s.frames.live s.frames) (wrapped ((plain.return_in s).frame + 4 * k)))))
 
 -- ---- loads
 
 -- what a load does, by the words that it reads and their marks
 pub load_same : (s : State) (i : Inst) (size : Size) (signed : Bool) (vs : List ℕ) (a : ℕ) (bs : List Bool) → a ≡ address s i.ea → vs ≡ plain.loaded size signed (legible s) a → bs ≡ loaded_marks size s.frames.soft a
     → record (plain.assigning i.c vs (plain.passing i s)) { marked = marks_for i.c bs } ≡ plain.loading size signed i s
-load_same s i size signed vs a bs place words marks =
-    ap (λ (ms : List Bool). record (plain.assigning i.c vs (plain.passing i s)) { marked = marks_for i.c ms }) marks
-    ∙ ap (λ (ws : List ℕ). record (plain.assigning i.c ws (plain.passing i s)) { marked = marks_for i.c (loaded_marks size s.frames.soft a) }) words
-    ∙ ap (λ (x : ℕ). record (plain.assigning i.c (plain.loaded size signed (legible s) x) (plain.passing i s)) { marked = marks_for i.c (loaded_marks size s.frames.soft x) }) place
+load_same s i size signed vs a bs place words marks = rw (marks, words, place)
 
 -- nothing is marked where none of its bytes is soft
 pub hard_load : (s : State) (i : Inst) (size : Size) (signed : Bool) (vs : List ℕ) (a : ℕ) → a < 2 ^ 32 → read_hazard s.frames a (byte_count size) ≡ None → a ≡ address s i.ea → vs ≡ plain.loaded size signed (legible s) a

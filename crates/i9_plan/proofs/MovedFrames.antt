@@ -1,6 +1,5 @@
 -- A call or a return moves at most one frame.
-use Rattle.std.proofs.Common.{◌≡◌, ℕ, ◌≤◌, Bool, true, false, length, refl, sym, subst, arith}
-use Rattle.std.specs.Prelude.{nat_lt, ◌==◌, if◌then◌else◌}
+use Rattle.std.proofs.Common.{◌≡◌, ℕ, ◌≤◌, true, refl, sym, subst, arith}
 use Rattle.i9_isa.specs.declared.op.Op.{Op}
 use Rattle.i9_isa.specs.declared.op.Op.TheVariants.{Call, Callx, Calls, Ret}
 use Rattle.i9_isa.specs.declared.inst.Inst.{Inst}
@@ -11,33 +10,22 @@ use Rattle.i9_model.specs.Step.{Action, action_by_name}
 use Rattle.i9_model.specs.Traced.{traced_action}
 use Rattle.i9_need.specs.Known.{moves_a_frame}
 use Rattle.i9_course.specs.NeedOf.{moved_frames}
-use Rattle.i9_plan.proofs.Outcomes.{barrier_moves, by_itself}
-
-one_by : (b : Bool) → (if b then 0 else 1) ≤ 1
-one_by true = omega arith
-one_by false = omega arith
-
-other_by : (b : Bool) → (if b then 1 else 0) ≤ 1
-other_by true = omega arith
-other_by false = omega arith
+use Rattle.i9_plan.proofs.Outcomes.{barrier_kind, by_itself}
 
 moving_waits : (op : Op) → moves_a_frame op ≡ true → is_barrier_name op ≡ true
 moving_waits Call moves = refl
-moving_waits Callx moves = refl
-moving_waits Calls moves = refl
-moving_waits Ret moves = refl
-moving_waits _ moves = absurd cc
+moving_waits _ moves = cc
 
 named_one : (n : ℕ) (c : Cache) (op : Op) (i : Inst) (s : State) → moves_a_frame op ≡ true
     → moved_frames n c (action_by_name op i s).move ≤ 1
-named_one n c Call i s moves = one_by (nat_lt (length c.held) n)
-named_one n c Callx i s moves = one_by (nat_lt (length c.held) n)
-named_one n c Calls i s moves = one_by (nat_lt (length c.held) n)
-named_one n c Ret i s moves = other_by (length c.held == 0)
+named_one n c Call i s moves = grind arith
+named_one n c Callx i s moves = grind arith
+named_one n c Calls i s moves = grind arith
+named_one n c Ret i s moves = grind arith
 named_one n c _ i s moves = absurd cc
 
 pub moves_one : (n : ℕ) (c : Cache) (i : Inst) (s : State) → moves_a_frame i.op ≡ true
     → moved_frames n c (traced_action i s).move ≤ 1
 moves_one n c i s moves =
-    let named = by_itself i s (barrier_moves i.op (moving_waits i.op moves)) in
+    let named = by_itself i s (barrier_kind i.op (moving_waits i.op moves)).0 in
     subst (λ (a : Action). moved_frames n c a.move ≤ 1) (sym named) (named_one n c i.op i s moves)

@@ -1,9 +1,7 @@
 -- What waits for all before it: a barrier, whatever it comes to, a word that is refused, a hazard, and a fault that is
 -- raised before anything is done; and what others need.
-use Rattle.std.proofs.Common.{◌≡◌, ℕ, ◌+◌, ◌*◌, ◌&&◌, Bool, true, false, cond, Option, Some, None, Ok, refl, sym, ap, ◌∙◌, subst}
-use Rattle.i9_plan.proofs.MarkBits.{not_first}
-use Rattle.std.proofs.lemmas.Bool.{or_parts, or_left, or_right}
-use Rattle.std.specs.Prelude.{not, ◌||◌, ◌==◌, if◌then◌else◌, IsTrue}
+use Rattle.std.proofs.Common.{◌≡◌, ℕ, ◌+◌, ◌*◌, Bool, true, false, cond, Option, Some, None, Ok, refl, sym, ap, ◌∙◌, subst, arith}
+use Rattle.std.specs.Prelude.{not, ◌||◌, ◌==◌, if◌then◌else◌}
 use Rattle.std.specs.Option.{is_some}
 use Rattle.i9_isa.specs.declared.op.Op.{Op}
 use Rattle.i9_isa.specs.declared.op.Op.TheVariants.{Lda}
@@ -33,23 +31,17 @@ use Rattle.i9_plan.specs.Open.{WaitsForAll, IsNoBarrier, NeedsAhead}
 
 -- ---- which wait
 
-by_either : (a b c d e f : Bool) → (a || b) ≡ true → IsTrue (a || b || c || d || e || f)
-by_either a b c d e f h = or_left _ f (or_left _ e (or_left _ d (or_left (a || b) c h)))
-
-by_fault : (a b c d : Bool) → d ≡ true → IsTrue (a || b || c || d || false || false)
-by_fault a b c d h = or_left _ false (or_left _ false (or_right (a || b || c) d h))
-
 -- a barrier by its name, or by a special function register that it writes
 abbrev pub IsBarrier : Inst → Type 0
 IsBarrier i = (is_barrier_name i.op || writes_sfr i) ≡ true
 
 runs_waits : (i : Inst) (s : State) → IsBarrier i → WaitsForAll s (Runs i)
 unfolding need_of
-runs_waits i s b asked c = by_either (is_barrier_name i.op) (writes_sfr i) _ _ _ _ b
+runs_waits i s b asked c = grind arith
 
 faults_waits : (i : Inst) (s : State) (number : ℕ × ℕ) → IsBarrier i → WaitsForAll s (Faults i number)
 unfolding need_of
-faults_waits i s number b asked c = by_either (is_barrier_name i.op) (writes_sfr i) _ _ _ _ b
+faults_waits i s number b asked c = grind arith
 
 meets_waits : (s : State) (a : ℕ) → WaitsForAll s (Meets a)
 meets_waits s a asked c = refl
@@ -61,8 +53,7 @@ refused_waits s number asked c = refl
 early_waits : (i : Inst) (s : State) (number : ℕ × ℕ) → (number.0 == ARITHMETIC) ≡ false
     → WaitsForAll s (Faults i number)
 unfolding need_of
-early_waits i s number early asked c =
-    by_fault (is_barrier_name i.op) (writes_sfr i) _ (not (number.0 == ARITHMETIC)) (ap not early)
+early_waits i s number early asked c = grind arith
 
 access_waits : (i : Inst) (s : State) (h : Option ℕ) → IsBarrier i → WaitsForAll s (by_access i h)
 access_waits i s None b = runs_waits i s b
@@ -136,18 +127,16 @@ outcome_waits s m i o read is stands stops =
 
 pub no_barrier : (i : Inst) → (is_barrier_name i.op || writes_sfr i) ≡ false → IsNoBarrier i
 no_barrier i h =
-    let both = or_parts (is_barrier_name i.op) (writes_sfr i) h in
-    record { named = both.0; written = both.1 }
+    record { named = grind arith; written = grind arith }
 
 -- ---- what is needed
 
-frames_move : (op : Op) → (moves_frames op && not (is_barrier_name op)) ≡ false
-frames_move Lda = refl
-frames_move _ = refl
+frames_move : (op : Op) → is_barrier_name op ≡ false → moves_frames op ≡ false
+frames_move Lda e = refl
+frames_move _ e = cc
 
 not_counted : (b : Bool) (n : ℕ) → b ≡ false → (if b then n else 0) ≡ (if b then 0 else 0)
-not_counted false n e = refl
-not_counted true n e = absurd cc
+not_counted b n e = grind arith
 
 -- frames count for nothing where no barrier moves them
 frames_free : (i : Inst) (s : State) (n : ℕ) (trace : Bool) → is_barrier_name i.op ≡ false
@@ -155,8 +144,7 @@ frames_free : (i : Inst) (s : State) (n : ℕ) (trace : Bool) → is_barrier_nam
 frames_free i s n trace named =
     let need = inst_need i (facts_of i s 0 false trace) in
     let turns = latency_of i.op + (if has_access i.op then (facts_of i s 0 false trace).waits else 0) in
-    let none = not_first (moves_frames i.op) (is_barrier_name i.op) (frames_move i.op) named in
-    ap (λ (k : ℕ). record need { cost = turns + 16 * k }) (not_counted (moves_frames i.op) n none)
+    ap (λ (k : ℕ). record need { cost = turns + 16 * k }) (not_counted (moves_frames i.op) n (frames_move i.op named))
 
 runs_need : (i : Inst) (s : State) → is_barrier_name i.op ≡ false → (asked : Option ℕ) (c : Cache)
     → need_ahead asked c (next_by_standing s (Runs i))

@@ -1,8 +1,8 @@
 -- Whether a source is marked, by the set of the resources that an instruction reads.
-use Rattle.std.proofs.Common.{◌≡◌, ℕ, ◌+◌, ◌^◌, ◌<◌, ◌≤◌, Bool, true, false, nat_lt, refl, sym, ap, ◌∙◌, arith, inl, inr, ◌-◌}
+use Rattle.std.proofs.Common.{◌≡◌, ℕ, ◌+◌, ◌^◌, ◌<◌, ◌≤◌, Bool, true, false, refl, sym, ap, ◌∙◌, arith, inl, inr, ◌-◌}
 use Rattle.i9_course.proofs.Timed.{first_of}
-use Rattle.std.specs.Prelude.{nat_le, ◌==◌, ◌&&◌, ◌||◌, not, bit_and, Option, None, is_some}
-use Rattle.std.proofs.lemmas.Bool.{eqb-true, or_cases, or_parts, or_from, or_left, or_right, and_from}
+use Rattle.std.specs.Prelude.{◌==◌, ◌&&◌, ◌||◌, not, bit_and, None}
+use Rattle.std.proofs.lemmas.Bool.{or_cases, or_parts, or_left, or_right, and_from}
 use Rattle.std.specs.List.{list_any}
 use Rattle.std.proofs.lemmas.Bool.Decides.{nat_tests}
 use Rattle.i9_isa.specs.declared.op.Op.{Op}
@@ -22,24 +22,16 @@ use Rattle.i9_isa.specs.Valid.{IsValid, FitsAddress}
 use Rattle.i9_isa.specs.Words.{bit}
 use Rattle.i9_model.specs.State.{State}
 use Rattle.i9_model.specs.Stale.{registers_of, sources, is_marked}
-use Rattle.i9_isa.specs.declared.size.Transfer.{Transfer}
 use Rattle.i9_plan.proofs.MarkUses.{is_listed, sources_parts}
-use Rattle.i9_plan.proofs.MarkBits.{as_bool, zero_bits, some_bit, both_bits, bit_above, none_among, some_among, not_first}
+use Rattle.i9_plan.proofs.MarkBits.{as_bool, zero_bits, some_bit, both_bits, bit_above, none_among, some_among}
 
 -- ---- the registers of an operand
 
 in_range : (r n k : ℕ) → is_in_group r n k ≡ true → (r ≤ k) × (k < r + n)
-in_range r n k t = by (nat_le r k) refl t
-  where
-    by : (b : Bool) → nat_le r k ≡ b → (b && nat_lt k (r + n)) ≡ true → (r ≤ k) × (k < r + n)
-    by true e t = (grind (arith, nat_tests, e), grind (arith, nat_tests, t))
-    by false e t = absurd cc
+in_range r n k t = (grind (arith, nat_tests), grind (arith, nat_tests))
 
 range_in : (r n k : ℕ) → k < n → is_in_group r n (r + k) ≡ true
-range_in r n k h =
-    let from : nat_le r (r + k) ≡ true = grind (arith, nat_tests) in
-    let to : nat_lt (r + k) (r + n) ≡ true = grind (arith, nat_tests, h) in
-    and_from (nat_le r (r + k)) (nat_lt (r + k) (r + n)) from to
+range_in r n k h = grind (arith, nat_tests)
 
 none_of : (marks : ℕ → Bool) (o : Operand) (n k : ℕ) → list_any marks (registers_of o n) ≡ false → is_in_operand o n k ≡ true → marks k ≡ false
 none_of marks (Reg r) n k e t =
@@ -67,17 +59,11 @@ some_of marks (Sfr j) n e = absurd cc
 
 -- where there is no address, an operand is read or the condition code
 by_part : (x : Bool) (a b c d e f : Bool) → d ≡ false → e ≡ false → (a || b || c || d || e || f) ≡ true → (a ≡ true → x ≡ false) → (b ≡ true → x ≡ false) → (c ≡ true → x ≡ false) → (f ≡ true → x ≡ false) → x ≡ false
-by_part x true b c d e f p q t h j k l = h refl
-by_part x false true c d e f p q t h j k l = j refl
-by_part x false false true d e f p q t h j k l = k refl
-by_part x false false false true e f p q t h j k l = absurd cc
-by_part x false false false false true f p q t h j k l = absurd cc
-by_part x false false false false false f p q t h j k l = l t
+by_part x a b c d e f p q t h j k l = grind arith
 
 -- no mark is one of the condition code
 code_unmarked : (w k : ℕ) (reads : Bool) → w < 2 ^ 32 → (reads && (k == CONDITION_CODE)) ≡ true → bit w k ≡ false
-code_unmarked w k true small t = let e = eqb-true k CONDITION_CODE t in bit_above w 32 k small (omega (arith, e))
-code_unmarked w k false small t = absurd cc
+code_unmarked w k reads small t = bit_above w 32 k small (grind (arith, nat_tests))
 
 -- an address that is none has no part
 no_base : (e : Ea) (k : ℕ) → e ≡ no_address → (has_base e.mode && (k == e.base)) ≡ false
@@ -126,9 +112,7 @@ sources_marked i s w bits small marks reads plain = by (is_marked s (sources i))
             (λ h. code_unmarked w k (reads_code i.op) small h))
           where
             flip : (x y : Bool) → (y ≡ true → x ≡ false) → (x && y) ≡ false
-            flip false y h = refl
-            flip true false h = refl
-            flip true true h = h refl
+            flip x y h = grind arith
 
 -- ---- names without an address
 
@@ -138,16 +122,13 @@ is_mem _ = false
 
 fits_none : (f : Format) (e : Ea) → is_mem f ≡ false → FitsAddress f e → e ≡ no_address
 fits_none formats.Reg e none fits = fits
-fits_none formats.Cobr e none fits = fits
-fits_none formats.Ctrl e none fits = fits
 fits_none formats.Mem e none fits = absurd cc
+fits_none _ e none fits = fits
 
-listed_format : (op : Op) → (is_mem (row_of op).format && not (is_listed op || is_some (transfer_of op))) ≡ false
-listed_format Lda = refl
-listed_format _ = refl
+listed_format : (op : Op) → transfer_of op ≡ None → is_listed op ≡ false → is_mem (row_of op).format ≡ false
+listed_format Lda still other = absurd cc
+listed_format _ still other = cc
 
 -- nor has a name that is not listed, and neither loads nor stores
 pub other_plain : (i : Inst) → IsValid i → transfer_of i.op ≡ None → is_listed i.op ≡ false → i.ea ≡ no_address
-other_plain i valid still other =
-    let none = or_from (is_listed i.op) (is_some (transfer_of i.op)) other (ap (λ (o : Option Transfer). is_some o) still) in
-    fits_none (row_of i.op).format i.ea (not_first (is_mem (row_of i.op).format) _ (listed_format i.op) none) valid.ea
+other_plain i valid still other = fits_none (row_of i.op).format i.ea (listed_format i.op still other) valid.ea

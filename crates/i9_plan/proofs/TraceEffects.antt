@@ -1,5 +1,6 @@
 -- The effect of an instruction with its trace events.
-use Rattle.std.proofs.Common.{◌≡◌, ℕ, Bool, true, false, cond, Option, Some, None, Ok, refl, sym, ap, ◌∙◌, subst}
+use Rattle.i9_model.specs.Stale.{misuses}
+use Rattle.std.proofs.Common.{ℕ, Some, None, ◌≡◌, false, Option, None, Ok, sym, ap, ◌∙◌, subst, arith, Bool, true, cond}
 use Rattle.i9_isa.specs.declared.inst.Inst.{Inst}
 use Rattle.i9_model.specs.declared.trace.Trace.{Trace}
 use Rattle.i9_model.specs.State.{State, TraceControls}
@@ -9,8 +10,7 @@ use Rattle.i9_model.specs.Free.{ComesAfterFlush}
 use Rattle.i9_model.specs.Step.{Action, action_of, moved, flagged, acted}
 use Rattle.i9_model.specs.Tracing.{trace_of}
 use Rattle.i9_model.specs.Traced.{is_traced, seen_of, trace_left, traced_action}
-use Rattle.i9_model.specs.Standing.{Meets, Runs, raised_in, later_fault, by_access, by_later, by_raised, by_word}
-use Rattle.i9_model.specs.Stale.{misuses}
+use Rattle.i9_model.specs.Standing.{Runs, by_word, Meets, raised_in, later_fault, by_later, by_raised}
 use Rattle.i9_agree.proofs.SoundRuns.{action_clear}
 use Rattle.i9_past.proofs.Untraced.{action_untraced, traced_clear}
 use Rattle.i9_processor.specs.declared.processor.tracing.TraceControls.{TraceControls as Controls}
@@ -21,17 +21,13 @@ use Rattle.i9_processor.specs.Tracing as left
 
 -- ---- an instruction that runs meets no hazard
 
-access_clear : (i : Inst) (h : Option ℕ) → Runs i ≡ by_access i h → h ≡ None
-access_clear i None runs = refl
-access_clear i (Some a) runs = absurd cc
+later_clear : (i : Inst) (s : State) (f : Option (ℕ × ℕ)) → Runs i ≡ by_later i s f → hazard_of i s ≡ None
+later_clear i s (Some number) runs = absurd cc
+later_clear i s None runs = grind arith
 
 raised_clear : (i : Inst) (s : State) (o : Option (ℕ × ℕ)) → Runs i ≡ by_raised i s o → hazard_of i s ≡ None
 raised_clear i s (Some number) runs = absurd cc
-raised_clear i s None runs = by (later_fault i s) runs
-  where
-    by : (f : Option (ℕ × ℕ)) → Runs i ≡ by_later i s f → hazard_of i s ≡ None
-    by (Some number) runs = absurd cc
-    by None runs = access_clear i (hazard_of i s) runs
+raised_clear i s None runs = later_clear i s (later_fault i s) runs
 
 pub runs_clear : (i : Inst) (s : State) → Runs i ≡ by_word s (Ok i) → hazard_of i s ≡ None
 runs_clear i s runs = by (misuses i s) runs

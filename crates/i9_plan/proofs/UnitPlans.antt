@@ -1,5 +1,5 @@
 -- What is planned of a unit's bytes is planned of the unit.
-use Rattle.std.proofs.Common.{◌≡◌, ℕ, Bool, true, false, cond, List, Option, Some, None, Ok, Err, refl, ap}
+use Rattle.std.proofs.Common.{◌≡◌, ℕ, Bool, cond, List, Option, Some, None, Ok, Err, arith}
 use Rattle.i9_model.specs.Memory.{Memory}
 use Rattle.i9_model.specs.State.{Frames, Dma}
 use Rattle.i9_model.specs.Hazards.{unless}
@@ -13,19 +13,13 @@ pub record Moves (m : Memory) (f : Frames) (d : Dma) (c : ℕ) (given : Option (
 
 some_by : (b : Bool) (h : Option ℕ) (bytes more : List ℕ) (u : Unit) → cond b (Ok None) (unless h (Some bytes)) ≡ Ok (Some more)
     → (cond b (Ok None) (unless h (Some u)) ≡ Ok (Some u)) × (more ≡ bytes)
-some_by true h bytes more u e = absurd cc
-some_by false None bytes more u e = (refl, cc)
-some_by false (Some a) bytes more u e = absurd cc
+some_by b h bytes more u e = (grind arith, grind arith)
 
 none_by : (b : Bool) (h : Option ℕ) (bytes : List ℕ) (u : Unit) → cond b (Ok None) (unless h (Some bytes)) ≡ Ok None → cond b (Ok None) (unless h (Some u)) ≡ Ok None
-none_by true h bytes u e = refl
-none_by false None bytes u e = absurd cc
-none_by false (Some a) bytes u e = absurd cc
+none_by b h bytes u e = grind arith
 
 hazard_by : (b : Bool) (h : Option ℕ) (bytes : List ℕ) (u : Unit) (a : ℕ) → cond b (Ok None) (unless h (Some bytes)) ≡ Err a → cond b (Ok None) (unless h (Some u)) ≡ Err a
-hazard_by true h bytes u a e = absurd cc
-hazard_by false None bytes u a e = absurd cc
-hazard_by false (Some k) bytes u a e = let same : k ≡ a = cc in ap (λ (x : ℕ). Err x) same
+hazard_by b h bytes u a e = grind arith
 
 pub moves_unit : (m : Memory) (f : Frames) (d : Dma) (c : ℕ) (given : Option (List ℕ)) (bytes : List ℕ) → planned_bytes m f d c given ≡ Ok (Some bytes) → Moves m f d c given bytes
 unfolding planned_bytes next_unit

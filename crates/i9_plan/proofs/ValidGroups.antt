@@ -1,15 +1,15 @@
 -- The registers that a valid instruction writes are there.
-use Rattle.std.proofs.Common.{◌≡◌, ℕ, zero, suc, ◌+◌, ◌%◌, ◌<◌, ◌≤◌, Bool, true, false, nat_lt, ◌&&◌, refl, sym, ap, ◌∙◌, subst, add-zero, zero-add, arith}
+use Rattle.std.proofs.Common.{◌≡◌, ℕ, zero, suc, ◌+◌, ◌%◌, ◌<◌, ◌≤◌, Bool, true, false, nat_lt, ◌&&◌, refl, sym, subst, add-zero, zero-add, arith}
 use Rattle.std.proofs.lemmas.Bool.{and_parts, eqb-true}
-use Rattle.std.specs.Prelude.{nat_le, ◌||◌, ◌==◌}
+use Rattle.std.specs.Prelude.{nat_le, ◌==◌}
 use Rattle.std.proofs.lemmas.Bool.Decides.{nat_tests}
 use Rattle.i9_isa.specs.declared.op.Op.{Op}
 use Rattle.i9_isa.specs.declared.op.Op.TheVariants.{Lda}
 use Rattle.i9_isa.specs.declared.inst.Operand.{Operand}
-use Rattle.i9_isa.specs.declared.inst.Operand.TheVariants.{Reg, Lit, Sfr}
+use Rattle.i9_isa.specs.declared.inst.Operand.TheVariants.{Reg}
 use Rattle.i9_isa.specs.declared.inst.Inst.{Inst}
 use Rattle.i9_isa.specs.declared.format.Use.{Use}
-use Rattle.i9_isa.specs.declared.format.Use.TheVariants.{Unused, Source, Left, Right, Destination, Load, Store, Change}
+use Rattle.i9_isa.specs.declared.format.Use.TheVariants.{Unused, Destination, Load}
 use Rattle.i9_isa.specs.Operands.{takes, words_written, starts_group}
 use Rattle.i9_isa.specs.Table.{row_of}
 use Rattle.i9_isa.specs.Valid.{IsValid}
@@ -20,18 +20,9 @@ use Rattle.i9_model.specs.Step.{destination}
 small : (r : ℕ) (b : Bool) → (nat_lt r 32 && b) ≡ true → r < 32
 small r b t = let h = (and_parts (nat_lt r 32) b t).0 in grind (arith, nat_tests, h)
 
-zero_small : (r : ℕ) → takes Unused (Reg r) ≡ true → r < 32
-zero_small r t = grind (arith, nat_tests, t)
-
 register_small : (u : Use) (r : ℕ) → takes u (Reg r) ≡ true → r < 32
-register_small Unused r t = zero_small r t
-register_small (Source n) r t = small r _ t
-register_small Left r t = grind (arith, nat_tests, t)
-register_small Right r t = grind (arith, nat_tests, t)
-register_small (Destination n) r t = small r _ t
-register_small (Load n) r t = small r _ t
-register_small (Store n) r t = small r _ t
-register_small Change r t = grind (arith, nat_tests, t)
+register_small Unused r t = grind (arith, nat_tests, t)
+register_small _ r t = grind (arith, nat_tests, t)
 
 -- ---- the registers of a result
 
@@ -53,43 +44,21 @@ group_of : (u : Use) (o : Operand) → nat_le (words_written u) 4 ≡ true → t
 group_of (Destination n) (Reg r) few t = group_end n r few t
 group_of (Load n) (Reg r) few t = group_end n r few t
 group_of u (Reg r) few t = let h = register_small u r t in omega arith
-group_of u (Lit l) few t = tt
-group_of u (Sfr k) few t = tt
+group_of u _ few t = tt
 
 one_of : (u : Use) (o : Operand) → takes u o ≡ true → HasGroup o 1
 one_of u (Reg r) t = let h = register_small u r t in omega arith
-one_of u (Lit l) t = tt
-one_of u (Sfr k) t = tt
+one_of u _ t = tt
 
 -- at most four words are written, and by src1 or by src/dst alone
-abbrev few_written : Op → Bool
-few_written op = nat_le (words_written (row_of op).a) 4 && nat_le (words_written (row_of op).c) 4 && (words_written (row_of op).a == 0 || words_written (row_of op).c == 0)
-
-each_few : (op : Op) → few_written op ≡ true
-each_few Lda = refl
-each_few _ = refl
-
-second_none : (b : Bool) (n : ℕ) → b ≡ false → (b || n == 0) ≡ true → n ≡ 0
-second_none true n e t = absurd cc
-second_none false n e t = eqb-true n 0 t
+few_written : (op : Op) → (nat_le (words_written (row_of op).a) 4 ≡ true) × (nat_le (words_written (row_of op).c) 4 ≡ true)
+    × ((words_written (row_of op).a == 0) ≡ false → words_written (row_of op).c ≡ 0)
+few_written Lda = (refl, refl, λ e. cc)
+few_written _ = (refl, refl, λ e. cc)
 
 group_by : (i : Inst) (first : Bool) → (words_written (row_of i.op).a == 0) ≡ first → IsValid i → HasGroup (destination i) (destination_words i.op)
-group_by i true e v =
-    let few = each_few i.op in
-    let parts = and_parts _ _ few in
-    let wrote_none = eqb-true _ _ e in
-    let here : destination i ≡ i.c = rw e refl in
-    let words : words_written (row_of i.op).c ≡ destination_words i.op = sym (ap (λ (n : ℕ). n + words_written (row_of i.op).c) wrote_none ∙ zero-add (words_written (row_of i.op).c)) in
-    subst (λ (o : Operand). HasGroup o (destination_words i.op)) (sym here)
-    (subst (HasGroup i.c) words (group_of (row_of i.op).c i.c (and_parts _ _ parts.0).1 v.c))
-group_by i false e v =
-    let few = each_few i.op in
-    let parts = and_parts _ _ few in
-    let none : words_written (row_of i.op).c ≡ 0 = second_none (words_written (row_of i.op).a == 0) (words_written (row_of i.op).c) e parts.1 in
-    let here : destination i ≡ i.a = rw e refl in
-    let words : words_written (row_of i.op).a ≡ destination_words i.op = sym (ap (λ (n : ℕ). words_written (row_of i.op).a + n) none ∙ add-zero (words_written (row_of i.op).a)) in
-    subst (λ (o : Operand). HasGroup o (destination_words i.op)) (sym here)
-    (subst (HasGroup i.a) words (group_of (row_of i.op).a i.a (and_parts _ _ parts.0).0 v.a))
+group_by i true e v = let none = eqb-true _ _ e in rw (e, none, zero-add) (group_of (row_of i.op).c i.c (few_written i.op).1 v.c)
+group_by i false e v = let none = (few_written i.op).2 e in rw (e, none, add-zero) (group_of (row_of i.op).a i.a (few_written i.op).0 v.a)
 
 -- the registers of a result are there
 pub result_group : (i : Inst) (n : ℕ) → IsValid i → n ≡ destination_words i.op → HasGroup (destination i) n
@@ -97,9 +66,7 @@ result_group i n v e = subst (HasGroup (destination i)) (sym e) (group_by i (wor
 
 -- those of src/dst, as many as the row says, and the first one
 pub load_group : (i : Inst) (n : ℕ) → IsValid i → words_written (row_of i.op).c ≡ n → HasGroup i.c n
-load_group i n v e =
-    let parts = and_parts _ _ (each_few i.op) in
-    subst (HasGroup i.c) e (group_of (row_of i.op).c i.c (and_parts _ _ parts.0).1 v.c)
+load_group i n v e = subst (HasGroup i.c) e (group_of (row_of i.op).c i.c (few_written i.op).1 v.c)
 
 pub first_register : (i : Inst) → IsValid i → HasGroup i.c 1
 first_register i v = one_of (row_of i.op).c i.c v.c

@@ -1,5 +1,5 @@
 -- Words of loads and bytes of stores.
-use Rattle.std.proofs.Common.{◌≡◌, ℕ, ◌+◌, ◌^◌, ◌<◌, ◌≤◌, List, [], ◌∷◌, ◌++◌, length, get_or, take, refl, sym, ap, ◌∙◌, add-one, append_assoc, arith}
+use Rattle.std.proofs.Common.{◌≡◌, ℕ, ◌+◌, ◌^◌, ◌<◌, ◌≤◌, List, [], ◌∷◌, ◌++◌, length, get_or, take, refl, ap, add-one, append_assoc, arith}
 use Rattle.std.proofs.lemmas.List.{take_all}
 use Rattle.std.proofs.Math.Seq.{take-suc}
 use Rattle.i9_model.proofs.WordBytes.{source_take}
@@ -9,8 +9,7 @@ use Rattle.i9_model.specs.Memory.{Memory, word_in, words_in}
 -- one more byte
 pub append_more : (xs bs : List ℕ) (k : ℕ) → k < length bs → (xs ++ take k bs) ++ get_or bs k 0 ∷ [] ≡ xs ++ take (k + 1) bs
 append_more xs bs k h =
-    append_assoc xs (take k bs) (get_or bs k 0 ∷ [])
-    ∙ ap (λ (ys : List ℕ). xs ++ ys) (sym (ap (λ (j : ℕ). take j bs) (add-one k) ∙ take-suc bs k 0 h))
+    rw (append_assoc, add-one, take-suc bs k 0 h)
 
 pub append_all : (xs bs : List ℕ) (k : ℕ) → length bs ≤ k → xs ++ take k bs ≡ xs ++ bs
 append_all xs bs k h = ap (λ (ys : List ℕ). xs ++ ys) (take_all k bs h)

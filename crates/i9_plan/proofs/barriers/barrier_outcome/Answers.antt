@@ -1,11 +1,11 @@
 use Rattle.std.proofs.Common.{◌≡◌, Some, None, rules, sym, ap, ◌∙◌}
 use Rattle.i9_model.specs.Standing.{by_raised}
 use Rattle.i9_processor.specs.State.{state_of}
-use Rattle.i9_plan.proofs.Outcomes.{barrier_moves, barrier_stands, barrier_does, allowed_stands}
+use Rattle.i9_plan.proofs.Outcomes.{barrier_kind, barrier_stands, barrier_does, allowed_stands}
 use Rattle.i9_plan.proofs.barriers.barrier_outcome.Goals as goal
 
 pub raised_in-requires-clause-still : goal.raised_in-requires-clause-still
-raised_in-requires-clause-still c = barrier_moves c.args.i.now.op c.requires.barrier
+raised_in-requires-clause-still c = (barrier_kind c.args.i.now.op c.requires.barrier).0
 
 pub returns-in-Ok : goal.returns-in-Ok
 returns-in-Ok c = record {

@@ -5,7 +5,7 @@ use Rattle.i9_model.specs.Access.{SavesFrame}
 use Rattle.i9_processor.specs.State.{state_of}
 use Rattle.i9_plan.specs.Planned.{IsPlanFor}
 use Rattle.i9_plan.proofs.Faulting.{calls_number, sdma_channel, sysctl_message}
-use Rattle.i9_plan.proofs.Outcomes.{not_own, other_plan, by_name, barrier_moves, barrier_has_no_result, barrier_goes_on}
+use Rattle.i9_plan.proofs.Outcomes.{barrier_nothing, barrier_kind, other_plan, by_name}
 use Rattle.i9_plan.proofs.barriers.plan_barrier.Goals as goal
 
 pub plan_calls-requires-clause-number : goal.plan_calls-requires-clause-number
@@ -65,6 +65,5 @@ returns-in_default c =
     let s = state_of c.args.p.now in
     let b = c.requires.barrier in
     let o = c.in_default in
-    let own = not_own i.op b (o.not-Atadd, o.not-Atmod, o.not-Call, o.not-Callx, o.not-Calls, o.not-Ret, o.not-Flushreg, o.not-Modac, o.not-Modtc, o.not-Modpc, o.not-Sdma, o.not-Sysctl) in
-    other_plan i s c.passing.result (barrier_moves i.op b) own (barrier_has_no_result i.op b) (barrier_goes_on i.op b)
-    (c.results_by_name.ensures i _ _ _ _) c.passing.ensures.effect
+    let nothing = barrier_nothing i.op i s b (o.not-Atadd, o.not-Atmod, o.not-Call, o.not-Callx, o.not-Calls, o.not-Ret, o.not-Flushreg, o.not-Modac, o.not-Modtc, o.not-Modpc, o.not-Sdma, o.not-Sysctl) in
+    other_plan i s c.passing.result nothing (barrier_kind i.op b).1 (c.results_by_name.ensures i _ _ _ _) c.passing.ensures.effect

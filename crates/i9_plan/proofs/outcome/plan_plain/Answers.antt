@@ -5,7 +5,7 @@ use Rattle.i9_model.specs.declared.layout.TheConstants.{LINK}
 use Rattle.i9_model.specs.Step.{jumping, linking}
 use Rattle.i9_processor.specs.Effect.{IsEffect}
 use Rattle.i9_processor.specs.State.{state_of}
-use Rattle.i9_plan.proofs.Outcomes.{plain_own, other_plan, by_name}
+use Rattle.i9_plan.proofs.Outcomes.{plain_nothing, other_plan, by_name}
 use Rattle.i9_plan.proofs.outcome.plan_plain.Goals as goal
 
 pub returns-in-Lda : goal.returns-in-Lda
@@ -34,6 +34,6 @@ returns-in_default c =
     let i = c.args.i.now in
     let s = state_of c.args.p.now in
     let o = c.in_default in
-    let own = plain_own i.op c.requires.barrier o.not-Lda o.not-Bx o.not-Balx o.not-Bal in
-    other_plan i s c.passing.result c.requires.still own c.requires.result c.requires.branch (c.results_by_name.ensures i _ _ _ _)
-    c.passing.ensures.effect
+    let r = c.requires in
+    let nothing = plain_nothing i.op i s r.barrier r.still r.result r.branch o.not-Lda o.not-Bx o.not-Balx o.not-Bal in
+    other_plan i s c.passing.result nothing r.result (c.results_by_name.ensures i _ _ _ _) c.passing.ensures.effect
