@@ -1,24 +1,18 @@
 -- Records that agree need the same.
 use Rattle.std.proofs.Common.{◌≡◌, ℕ, Bool, List, Option, Some, arith}
 use Rattle.i9_isa.specs.declared.inst.Inst.{Inst}
-use Rattle.i9_model.specs.declared.need.Facts.{Facts}
 use Rattle.i9_model.specs.State.{State}
 use Rattle.i9_model.specs.Step.{Action, Move}
-use Rattle.i9_model.specs.Access.{Access, access_of, data_of}
+use Rattle.i9_model.specs.Access.{Access, access_of}
 use Rattle.i9_model.specs.Alike.{Agree, AreMovesAlike, AreActionsAlike, access_by_kind, NextsAgree}
 use Rattle.i9_model.specs.HeldFrames.{Cache}
 use Rattle.i9_model.specs.Run.{Next, Kind, action_by_kind}
 use Rattle.i9_course.proofs.NeedAlike.{waits_same}
-use Rattle.i9_course.specs.NeedOf.{moved_frames, touches_port, access_waits, facts_of, need_of, need_ahead}
+use Rattle.i9_course.specs.NeedOf.{moved_frames, facts_of, need_of, need_ahead}
 
 -- moves that are alike move as many frames
 moves-same : (hides : Bool) (lost : List ℕ) (n : ℕ) (c : Cache) (v w : Move) → AreMovesAlike hides lost v w → moved_frames n c w ≡ moved_frames n c v
 moves-same hides lost n c v w h = grind arith
-
--- facts, by an access
-abbrev facts_by : Inst → State → Access → ℕ → Bool → Bool → Facts
-facts_by i s x frames fault trace =
-    record (facts_of i s frames fault trace) { access = data_of x; port = touches_port (data_of x); waits = access_waits s.memory x }
 
 facts-same : (hides : Bool) (i : Inst) (s t : State) (frames : ℕ) (fault trace : Bool) → Agree hides s t → access_of i t ≡ access_of i s → facts_of i t frames fault trace ≡ facts_of i s frames fault trace
 facts-same hides i s t frames fault trace agree access = grind (arith, waits_same)

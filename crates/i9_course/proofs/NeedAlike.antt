@@ -9,7 +9,6 @@ use Rattle.i9_isa.specs.declared.size.Size.{Size}
 use Rattle.i9_isa.specs.declared.size.Direction.{Direction}
 use Rattle.i9_isa.specs.declared.size.Transfer.{Transfer}
 use Rattle.i9_isa.specs.Transfers.{transfer_of}
-use Rattle.i9_model.specs.declared.need.Facts.{Facts}
 use Rattle.i9_model.specs.declared.trace.Seen.{Seen}
 use Rattle.i9_model.specs.State.{State}
 use Rattle.i9_model.specs.Branches.{is_taken}
@@ -24,7 +23,7 @@ use Rattle.i9_model.specs.Run.{Next, Kind, Instruction}
 use Rattle.i9_model.specs.Needs.{is_barrier_name, inst_need}
 use Rattle.i9_past.proofs.Untraced.{action_untraced}
 use Rattle.i9_course.proofs.NeedActs.{Keeps, instruction_keeps}
-use Rattle.i9_course.specs.NeedOf.{moved_frames, touches_port, access_waits, facts_of, need_of, need_ahead}
+use Rattle.i9_course.specs.NeedOf.{moved_frames, access_waits, facts_of, need_of, need_ahead}
 
 -- ---- the frames that are moved and the access do not depend on bytes of memory
 
@@ -94,11 +93,6 @@ trace_same i s bytes access h =
 pub waits_same : (s : State) (bytes : ℕ → ℕ) (x : Access)
     → access_waits (with_other s.memory bytes) x ≡ access_waits s.memory x
 waits_same s bytes x = grind arith
-
--- by an access and its waits
-abbrev facts_by : Inst → State → Access → ℕ → ℕ → Bool → Bool → Facts
-facts_by i s x waits frames fault trace =
-    record (facts_of i s frames fault trace) { access = data_of x; port = touches_port (data_of x); waits = waits }
 
 facts_same : (i : Inst) (s : State) (bytes : ℕ → ℕ) (frames : ℕ) (fault trace : Bool)
     → access_of i (with_memory s bytes) ≡ access_of i s

@@ -33,17 +33,13 @@ moved_addresses Returns f [] e = ap (drop 1) e
 moved_addresses Returns f (x ∷ live) e = ap (drop 1) e
 moved_addresses Flushes f live e = refl
 
--- a record's action, from the state before it
-pub done_from : (g : Given) (r : Record) (rs : List Record) → next g rs ≡ Does r → r ≡ record_of r.kind (state_after g rs)
-done_from g r rs e = (next_comes g.length (due_after rs) (event_after g rs) (state_after g rs) r e).0
-
 pub live_addresses : (g : Given) (rs : List Record) → IsPast g rs → (state_after g rs).frames.live ≡ addresses_of (live_after rs)
 unfolding boot started moved
 live_addresses g [] past = refl
 live_addresses g (r ∷ rs) past =
     let s = state_after g rs in
     let a = action_by_kind r.kind s in
-    let is = done_from g r rs past.1 in
+    let is = (next_comes g.length (due_after rs) (event_after g rs) s r past.1).0 in
     ap (λ (q : Record). q.after.frames.live) is
     ∙ ap (λ (f : Frames). f.live) (acted-frames s a)
     ∙ moved_addresses a.move s.frames (live_after rs) (live_addresses g rs past.0)
