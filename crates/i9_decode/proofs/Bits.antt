@@ -8,22 +8,26 @@ use Rattle.std.proofs.Math.Pow.{mod-mod-pow}
 use Rattle.std.proofs.lemmas.Nat.Bits.{same_from_bits_below, bit_at-zero, bit_at-lt}
 use Rattle.i9_isa.specs.declared.inst.Mode.{Mode}
 use Rattle.i9_isa.specs.declared.inst.Mode.TheVariants.{Offset}
+use Rattle.i9_isa.specs.declared.format.Row.{Row}
+use Rattle.i9_isa.specs.declared.format.Format.{Format}
 use Rattle.i9_isa.specs.Words.{field, bit}
-use Rattle.i9_decode.specs.Ignored.{Field, reg_fields, cobr_fields, ctrl_fields, mem_fields, ignored_in, SameOutside, HasNone}
+use Rattle.i9_decode.specs.Ignored.{Field, is_used, fields_of, reg_fields, cobr_fields, ctrl_fields, mem_fields, ignored_in, SameOutside, HasNone}
 
 -- a field is the same in two words, where it counts
 abbrev pub SameIf : Bool → ℕ → ℕ → ℕ → ℕ → Type 0
 SameIf counts w v low width = counts ≡ true → field w low width ≡ field v low width
 
--- two words are the same at each field that counts
+-- two words are the same at each field that counts, or at each that doesn't
+abbrev SameBy : Bool → List Field → ℕ → ℕ → Type 0
+SameBy c [] w v = Unit {0}
+SameBy c (f ∷ fs) w v = (f.counts ≡ c → field w f.low f.width ≡ field v f.low f.width) × SameBy c fs w v
+
 abbrev pub SameWhere : List Field → ℕ → ℕ → Type 0
-SameWhere [] w v = Unit {0}
-SameWhere (f ∷ fs) w v = SameIf f.counts w v f.low f.width × SameWhere fs w v
+SameWhere = SameBy true
 
 -- a word is 0 at each field that doesn't count
 abbrev pub ZeroElse : List Field → ℕ → Type 0
-ZeroElse [] w = Unit {0}
-ZeroElse (f ∷ fs) w = (f.counts ≡ false → field w f.low f.width ≡ 0) × ZeroElse fs w
+ZeroElse fs w = SameBy false fs w 0
 
 -- ---- bits of fields
 
@@ -85,35 +89,23 @@ abbrev splits : ℕ → List Field → ℕ → Bool
 splits s fs zero = true
 splits s fs (suc k) = cond (eqb (bit_at s k) 0) (is_in true k fs) (is_in false k fs) && splits s fs k
 
--- the bits of s are exactly those of the fields that don't count
-abbrev pub is_exact : ℕ → List Field → Bool
-is_exact s fs = free_of s fs && splits s fs 32
+-- the ignored bits are exactly those of the fields that don't count
+abbrev pub is_exact : List Field → Bool
+is_exact fs = free_of (ignored_in fs) fs && splits (ignored_in fs) fs 32
 
-counted : (b : Bool) → cond b true false ≡ true → b ≡ true
-counted true h = refl
-counted false h = cc
-
-uncounted : (b : Bool) → cond b false true ≡ true → b ≡ false
-uncounted true h = cc
-uncounted false h = refl
-
-same_bit : (w v k : ℕ) (fs : List Field) → is_in true k fs ≡ true → SameWhere fs w v → bit_at w k ≡ bit_at v k
-same_bit w v k [] h same = cc
-same_bit w v k (f ∷ fs) h same = elim (or_cases (cond f.counts true false && has_bit f k) (is_in true k fs) h) [
+same_bit : (c : Bool) (w v k : ℕ) (fs : List Field) → is_in c k fs ≡ true → SameBy c fs w v → bit_at w k ≡ bit_at v k
+same_bit c w v k [] h same = cc
+same_bit c w v k (f ∷ fs) h same = elim (or_cases (cond f.counts c (not c) && has_bit f k) (is_in c k fs) h) [
   | inl here ↦
-      let p = and_parts (cond f.counts true false) (has_bit f k) here in
-      bit_inside f w k p.1 ∙ ap (λ n. bit_at n (k - f.low)) (same.0 (counted f.counts p.0)) ∙ sym (bit_inside f v k p.1)
-  | inr there ↦ same_bit w v k fs there same.1
+      let p = and_parts (cond f.counts c (not c)) (has_bit f k) here in
+      bit_inside f w k p.1 ∙ ap (λ n. bit_at n (k - f.low)) (same.0 (counted f.counts c p.0)) ∙ sym (bit_inside f v k p.1)
+  | inr there ↦ same_bit c w v k fs there same.1
 ]
-
-zero_bit : (w k : ℕ) (fs : List Field) → is_in false k fs ≡ true → ZeroElse fs w → bit_at w k ≡ 0
-zero_bit w k [] h z = cc
-zero_bit w k (f ∷ fs) h z = elim (or_cases (cond f.counts false true && has_bit f k) (is_in false k fs) h) [
-  | inl here ↦
-      let p = and_parts (cond f.counts false true) (has_bit f k) here in
-      bit_inside f w k p.1 ∙ ap (λ n. bit_at n (k - f.low)) (z.0 (uncounted f.counts p.0)) ∙ bit_at-zero (k - f.low)
-  | inr there ↦ zero_bit w k fs there z.1
-]
+  where
+    counted : (b c : Bool) → cond b c (not c) ≡ true → b ≡ c
+    counted true c h = sym h
+    counted false true h = cc
+    counted false false h = refl
 
 split_at : (s : ℕ) (fs : List Field) (n k : ℕ) → splits s fs n ≡ true → k < n → cond (eqb (bit_at s k) 0) (is_in true k fs) (is_in false k fs) ≡ true
 split_at s fs zero k h l = absurd (omega arith)
@@ -124,38 +116,28 @@ split_at s fs (suc n) k h l =
       | inr ne ↦ split_at s fs n k p.1 (omega arith)
     ]
 
-when_zero : (n : ℕ) (a b : Bool) → n ≡ 0 → cond (eqb n 0) a b ≡ true → a ≡ true
-when_zero n a b e h = rw e at h
-
-when_one : (n : ℕ) (a b : Bool) → n ≡ 1 → cond (eqb n 0) a b ≡ true → b ≡ true
-when_one n a b e h = rw e at h
-
+-- the same outside of the ignored bits: the same at the fields that count
 same_where : (s w v : ℕ) (fs : List Field) → free_of s fs ≡ true → SameOutside s w v → SameWhere fs w v
 same_where s w v [] h same = tt
 same_where s w v (f ∷ fs) h same =
     let p = and_parts (cond f.counts (eqb (field s f.low f.width) 0) true) _ h in
     let q = and_parts (leb (f.low + f.width) 32) (free_of s fs) p.1 in
-    (λ t. field_same s w v f.low f.width (free f.counts (field s f.low f.width) t p.0) (leb-true _ _ q.0) same, same_where s w v fs q.1 same)
-  where
-    free : (b : Bool) (n : ℕ) → b ≡ true → cond b (eqb n 0) true ≡ true → n ≡ 0
-    free true n t h = eqb-true n 0 h
-    free false n t h = absurd (cc)
+    (λ t. field_same s w v f.low f.width (eqb-true _ 0 (rw t at p.0)) (leb-true _ _ q.0) same, same_where s w v fs q.1 same)
 
--- the same outside of the bits of s: the same at the fields that count
-pub exact_where : (s w v : ℕ) (fs : List Field) → is_exact s fs ≡ true → SameOutside s w v → SameWhere fs w v
-exact_where s w v fs h same = same_where s w v fs (and_parts (free_of s fs) (splits s fs 32) h).0 same
+pub exact_where : (w v : ℕ) (fs : List Field) → is_exact fs ≡ true → SameOutside (ignored_in fs) w v → SameWhere fs w v
+exact_where w v fs h same = same_where (ignored_in fs) w v fs (and_parts (free_of (ignored_in fs) fs) (splits (ignored_in fs) fs 32) h).0 same
 
 -- and the other way round
-pub exact_outside : (s w v : ℕ) (fs : List Field) → is_exact s fs ≡ true → SameWhere fs w v → SameOutside s w v
-exact_outside s w v fs h same = λ k l z. same_bit w v k fs (when_zero (bit_at s k) _ _ z (split_at s fs 32 k (and_parts (free_of s fs) (splits s fs 32) h).1 l)) same
+pub exact_outside : (w v : ℕ) (fs : List Field) → is_exact fs ≡ true → SameWhere fs w v → SameOutside (ignored_in fs) w v
+exact_outside w v fs h same = λ k l z. same_bit true w v k fs (rw z at (split_at (ignored_in fs) fs 32 k (and_parts (free_of (ignored_in fs) fs) (splits (ignored_in fs) fs 32) h).1 l)) same
 
--- 0 at the fields that don't count: none of the bits of s
-pub exact_none : (s w : ℕ) (fs : List Field) → is_exact s fs ≡ true → ZeroElse fs w → HasNone s w
-exact_none s w fs h zeros = λ k l o. zero_bit w k fs (when_one (bit_at s k) _ _ o (split_at s fs 32 k (and_parts (free_of s fs) (splits s fs 32) h).1 l)) zeros
+-- 0 at the fields that don't count: none of the ignored bits
+pub exact_none : (w : ℕ) (fs : List Field) → is_exact fs ≡ true → ZeroElse fs w → HasNone (ignored_in fs) w
+exact_none w fs h zeros = λ k l o. same_bit false w 0 k fs (rw o at (split_at (ignored_in fs) fs 32 k (and_parts (free_of (ignored_in fs) fs) (splits (ignored_in fs) fs 32) h).1 l)) zeros ∙ bit_at-zero k
 
 -- ---- each format's ignored bits are exactly those of the fields that don't count
 
-pub exact_reg : (a b c : Bool) → is_exact (ignored_in (reg_fields a b c)) (reg_fields a b c) ≡ true
+exact_reg : (a b c : Bool) → is_exact (reg_fields a b c) ≡ true
 exact_reg true true true = refl
 exact_reg true true false = refl
 exact_reg true false true = refl
@@ -165,7 +147,7 @@ exact_reg false true false = refl
 exact_reg false false true = refl
 exact_reg false false false = refl
 
-pub exact_cobr : (b d h : Bool) → is_exact (ignored_in (cobr_fields b d h)) (cobr_fields b d h) ≡ true
+exact_cobr : (b d h : Bool) → is_exact (cobr_fields b d h) ≡ true
 exact_cobr true true true = refl
 exact_cobr true true false = refl
 exact_cobr true false true = refl
@@ -175,14 +157,20 @@ exact_cobr false true false = refl
 exact_cobr false false true = refl
 exact_cobr false false false = refl
 
-pub exact_ctrl : (d h : Bool) → is_exact (ignored_in (ctrl_fields d h)) (ctrl_fields d h) ≡ true
+exact_ctrl : (d h : Bool) → is_exact (ctrl_fields d h) ≡ true
 exact_ctrl true true = refl
 exact_ctrl true false = refl
 exact_ctrl false true = refl
 exact_ctrl false false = refl
 
-pub exact_mem : (c : Bool) (m : Mode) → is_exact (ignored_in (mem_fields c m)) (mem_fields c m) ≡ true
+exact_mem : (c : Bool) (m : Mode) → is_exact (mem_fields c m) ≡ true
 exact_mem true Offset = refl
 exact_mem true _ = refl
 exact_mem false Offset = refl
 exact_mem false _ = refl
+
+pub exact : (f : Format) (r : Row) (m : Mode) → is_exact (fields_of f r m) ≡ true
+exact Format.Reg r m = exact_reg (is_used r.a) (is_used r.b) (is_used r.c)
+exact Format.Cobr r m = exact_cobr (is_used r.b) r.disp r.hint
+exact Format.Ctrl r m = exact_ctrl r.disp r.hint
+exact Format.Mem r m = exact_mem (is_used r.c) m

@@ -10,19 +10,20 @@ use Rattle.i9_isa.specs.declared.format.Format.{Format}
 use Rattle.i9_isa.specs.Operands.{field_number, is_address, has_base, has_index, has_offset, has_disp, disp_limit}
 use Rattle.i9_isa.specs.Table.{row_of}
 use Rattle.i9_isa.specs.Valid.{IsValid, FitsDisp}
-use Rattle.i9_isa.specs.Words.{field, bit, disp_in, hint_in, signed_of, mode_in, address_in, if_scaled, Encodes}
+use Rattle.i9_isa.specs.Words.{field, bit, disp_in, signed_of, mode_in, address_in, if_scaled, Encodes}
 use Rattle.i9_decode.specs.Spelling.{m_of, s_of}
 use Rattle.i9_decode.proofs.Spelled.{operand_from, no_s, no_m, unused_is, row_fits_at, neither}
 
-no_disp : (f : Format) (uses : Bool) (z : ℤ) (w : ℕ) → uses ≡ false → FitsDisp f uses z → z ≡ disp_in f uses w
-no_disp f true z w e h = cc
-no_disp Format.Reg false z w e h = h
-no_disp _ false z w e h = h
+disp_read : (f : Format) (uses : Bool) (z : ℤ) (w : ℕ) → FitsDisp f uses z → (uses ≡ true → z ≡ disp_in f true w) → z ≡ disp_in f uses w
+disp_read Format.Reg true z w h e = e refl
+disp_read _ true z w h e = e refl
+disp_read Format.Reg false z w h e = h
+disp_read _ false z w h e = h
 
-no_hint : (uses hint : Bool) (w : ℕ) → uses ≡ false → (hint ≡ true → uses ≡ true) → hint ≡ hint_in uses w
-no_hint true hint w e h = cc
-no_hint false true w e h = sym (h refl)
-no_hint false false w e h = refl
+hint_read : (uses hint b : Bool) → (hint ≡ true → uses ≡ true) → (uses ≡ true → b ≡ hint) → hint ≡ (uses && b)
+hint_read true hint b h e = sym (e refl)
+hint_read false true b h e = sym (h refl)
+hint_read false false b h e = refl
 
 -- a word of the register format
 pub register_form : (w w1 : ℕ) (i : Inst) → IsValid i → (row_of i.op).format ≡ Format.Reg →
@@ -37,22 +38,9 @@ register_form w w1 i v f eo ee ea am as' eb bm bs ec cm =
       b = rw f (operand_from _ i.b _ _ _ v.b bm bs eb);
       c = rw f (operand_from _ i.c _ _ _ v.c cm (sym (no_s _ i.c fits.0)) ec);
       ea = rw f (ap Some (sym (rw f at v.ea)));
-      disp = no_disp (row_of i.op).format _ i.disp w fits.2 v.disp;
-      hint = no_hint _ i.hint w fits.3 v.hint;
+      disp = disp_read (row_of i.op).format _ i.disp w v.disp (λ t. absurd (cc (fits.2)));
+      hint = hint_read _ i.hint _ v.hint (λ t. absurd (cc (fits.3)));
     }
-
-some_disp : (uses : Bool) (z : ℤ) (w : ℕ) → FitsDisp Format.Cobr uses z → z ≡ signed_of 13 (field w 2 11 * 4) → z ≡ disp_in Format.Cobr uses w
-some_disp true z w h e = e
-some_disp false z w h e = h
-
-far_disp : (uses : Bool) (z : ℤ) (w : ℕ) → FitsDisp Format.Ctrl uses z → z ≡ signed_of 24 (field w 2 22 * 4) → z ≡ disp_in Format.Ctrl uses w
-far_disp true z w h e = e
-far_disp false z w h e = h
-
-some_hint : (uses hint b : Bool) → (hint ≡ true → uses ≡ true) → b ≡ hint → hint ≡ (uses && b)
-some_hint true hint b h e = sym e
-some_hint false true b h e = sym (h refl)
-some_hint false false b h e = refl
 
 -- a word of the compare-and-branch format
 pub branch_form : (w w1 : ℕ) (i : Inst) → IsValid i → (row_of i.op).format ≡ Format.Cobr →
@@ -67,8 +55,8 @@ branch_form w w1 i v f eo ea am eb bs ed eh =
       b = rw f (operand_from _ i.b _ _ _ v.b (sym (no_m _ i.b fits.1)) bs eb);
       c = rw f (unused_is _ i.c fits.2 v.c);
       ea = rw f (ap Some (sym (rw f at v.ea)));
-      disp = rw f (some_disp _ i.disp w (rw f at v.disp) ed);
-      hint = some_hint _ i.hint (bit w 1) v.hint eh;
+      disp = rw f (disp_read Format.Cobr _ i.disp w (rw f at v.disp) (λ _. ed));
+      hint = hint_read _ i.hint (bit w 1) v.hint (λ _. eh);
     }
 
 -- a word of the control format
@@ -82,8 +70,8 @@ control_form w w1 i v f eo ed eh =
       b = rw f (unused_is _ i.b fits.1 v.b);
       c = rw f (unused_is _ i.c fits.2 v.c);
       ea = rw f (ap Some (sym (rw f at v.ea)));
-      disp = rw f (far_disp _ i.disp w (rw f at v.disp) ed);
-      hint = some_hint _ i.hint (bit w 1) v.hint eh;
+      disp = rw f (disp_read Format.Ctrl _ i.disp w (rw f at v.disp) (λ _. ed));
+      hint = hint_read _ i.hint (bit w 1) v.hint (λ _. eh);
     }
 
 -- the parts of an address in range
@@ -111,18 +99,17 @@ part_read : (has : Bool) (limit n f : ℕ) → nat_lt n (cond has limit 1) ≡ t
 part_read true limit n f h e = e refl
 part_read false limit n f h e = let l : n < 1 = ltb-true n 1 h in omega arith
 
-disp_read : (m : Mode) (n f w1 : ℕ) → nat_lt n (disp_limit m) ≡ true → (has_disp m ≡ true → n ≡ w1) → (has_offset m ≡ true → f ≡ n) → cond (has_disp m) w1 (cond (has_offset m) f 0) ≡ n
-disp_read Offset n f w1 h d o = o refl
-disp_read BaseOffset n f w1 h d o = o refl
-disp_read Base n f w1 h d o = let l : n < 1 = ltb-true n 1 h in omega arith
-disp_read BaseIndex n f w1 h d o = let l : n < 1 = ltb-true n 1 h in omega arith
-disp_read _ n f w1 h d o = sym (d refl)
+offset_read : (m : Mode) (n f w1 : ℕ) → nat_lt n (disp_limit m) ≡ true → (has_disp m ≡ true → n ≡ w1) → (has_offset m ≡ true → f ≡ n) → cond (has_disp m) w1 (cond (has_offset m) f 0) ≡ n
+offset_read Offset n f w1 h d o = o refl
+offset_read BaseOffset n f w1 h d o = o refl
+offset_read Base n f w1 h d o = let l : n < 1 = ltb-true n 1 h in omega arith
+offset_read BaseIndex n f w1 h d o = let l : n < 1 = ltb-true n 1 h in omega arith
+offset_read _ n f w1 h d o = sym (d refl)
 
 -- a mode with an index has no offset
 pub index_long : (m : Mode) → has_index m ≡ true → has_offset m ≡ false
-index_long Offset h = absurd (cc)
-index_long BaseOffset h = absurd (cc)
-index_long _ h = refl
+index_long Offset h = cc
+index_long _ h = cc
 
 -- what an address word says
 pub address_read : (e : Ea) (w w1 : ℕ) → is_address e ≡ true → field w 14 5 ≡ e.base →
@@ -133,7 +120,7 @@ address_read e w w1 h b i s o d =
     let eb = part_read (has_base e.mode) 32 e.base (field w 14 5) p.base (λ _. b) in
     let ei = part_read (has_index e.mode) 32 e.index (field w 0 5) p.index (λ t. i (index_long e.mode t)) in
     let es = part_read (has_index e.mode) 5 e.scale (field w 7 3) p.scale (λ t. s (index_long e.mode t)) in
-    let ed = disp_read e.mode e.disp (field w 0 12) w1 p.disp d o in
+    let ed = offset_read e.mode e.disp (field w 0 12) w1 p.disp d o in
     rw (eb, ei, es, ed) refl
 
 -- words of the memory format
@@ -144,12 +131,12 @@ memory_form w w1 i v f eo ec em ea ia =
     let fits = row_fits_at i.op Format.Mem f in
     let ab = and_parts _ _ fits.0 in
     let sm = and_parts _ _ fits.1 in
-    let dh = neither _ _ fits.2 in record {
+    let dh = neither (row_of i.op).disp (row_of i.op).hint fits.2 in record {
       name = record { opcode = sym eo; extension = rw f (fits.3); formed = rw f (rw em refl) };
       a = rw f (unused_is _ i.a ab.0 v.a);
       b = rw f (unused_is _ i.b ab.1 v.b);
       c = rw f (operand_from _ i.c _ _ _ v.c (sym (no_m _ i.c sm.1)) (sym (no_s _ i.c sm.0)) ec);
       ea = rw f (rw em (ap if_scaled ea ∙ scaled i.ea ia));
-      disp = no_disp (row_of i.op).format _ i.disp w dh.0 v.disp;
-      hint = no_hint _ i.hint w dh.1 v.hint;
+      disp = disp_read (row_of i.op).format _ i.disp w v.disp (λ t. absurd (cc (dh.0)));
+      hint = hint_read _ i.hint _ v.hint (λ t. absurd (cc (dh.1)));
     }

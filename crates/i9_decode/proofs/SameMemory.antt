@@ -1,5 +1,5 @@
 -- Words of the memory format: the same at the fields that count, and the same instruction.
-use Rattle.std.proofs.Common.{◌≡◌, ℕ, ◌+◌, ◌*◌, Bool, true, false, not, refl, sym, ap, ◌∙◌, arith, subst, Option, Some, None, option_and_then, cond, eqb}
+use Rattle.std.proofs.Common.{rules, ◌≡◌, ℕ, Bool, true, false, not, refl, sym, ap, ◌∙◌, arith, subst, Option, Some, None, option_and_then, cond, eqb}
 use Rattle.std.proofs.lemmas.Bool.{eqb-true}
 use Rattle.i9_isa.specs.declared.inst.Ea.{Ea}
 use Rattle.i9_isa.specs.declared.inst.Inst.{Inst}
@@ -8,11 +8,11 @@ use Rattle.i9_isa.specs.declared.inst.Mode.TheVariants.{Offset, BaseOffset, Base
 use Rattle.i9_isa.specs.declared.format.Format.TheVariants as Format
 use Rattle.i9_isa.specs.Operands.{has_base, has_index, has_disp, has_offset}
 use Rattle.i9_isa.specs.Table.{row_of}
-use Rattle.i9_isa.specs.Words.{field, bit, disp_in, mode_in, address_in, if_scaled, ea_in, Encodes}
+use Rattle.i9_isa.specs.Words.{field, bit, mode_in, address_in, if_scaled, ea_in, Encodes}
 use Rattle.i9_decode.specs.Ignored.{is_used, low_fields, mem_fields}
 use Rattle.i9_decode.proofs.Bits.{SameIf, SameWhere, bit_field}
 use Rattle.i9_decode.proofs.Modes.{mode_same}
-use Rattle.i9_decode.proofs.Same.{no_hint_same}
+use Rattle.i9_decode.proofs.Same.{hint_keeps, disp_keeps}
 use Rattle.i9_decode.proofs.Spelled.{row_fits_at, neither}
 use Rattle.i9_decode.proofs.Told.{operand_same, read_twice}
 
@@ -60,10 +60,6 @@ bit_12 w m h = elim (bit w 12) as (λ b. bit w 12 ≡ b → b ≡ not (has_offse
   | false ↦ λ t. ap not (sym (short_tells w m t h).0)
 ] refl
 
--- bits 13 to 10, from their parts
-four_bits : (w : ℕ) → field w 10 4 ≡ field w 13 1 * 8 + field w 12 1 * 4 + field w 10 2
-four_bits w = omega arith
-
 -- two words of one mode have the same mode bits
 record ModeBits (m : Mode) (w v : ℕ) : Type 0 where
   bit12 : field w 12 1 ≡ field v 12 1
@@ -71,24 +67,17 @@ record ModeBits (m : Mode) (w v : ℕ) : Type 0 where
   tail : SameIf (not (has_offset m)) w v 10 2
 
 mode_bits : (m : Mode) (w v : ℕ) → mode_in w ≡ Some m → mode_in v ≡ Some m → ModeBits m w v
-mode_bits m w v x y = by (has_offset m) refl
+mode_bits m w v x y = by (has_offset m) refl (bit_12 w m x) (bit_12 v m y)
   where
-    by : (b : Bool) → has_offset m ≡ b → ModeBits m w v
-    by true o =
-        let tw = bit_12 w m x ∙ ap not o in let tv = bit_12 v m y ∙ ap not o in
-        record {
-          bit12 = bit_field w v 12 (tw ∙ sym tv);
-          bit13 = bit_field w v 13 ((short_tells w m tw x).1 ∙ sym (short_tells v m tv y).1);
-          tail = λ t. absurd (cc);
-        }
-    by false o =
-        let tw = bit_12 w m x ∙ ap not o in let tv = bit_12 v m y ∙ ap not o in
-        let four : field w 10 4 ≡ field v 10 4 = (long_tells w m tw x).0 ∙ sym (long_tells v m tv y).0 in
-        record {
-          bit12 = omega (arith, four, four_bits w, four_bits v);
-          bit13 = omega (arith, four, four_bits w, four_bits v);
-          tail = λ _. omega (arith, four, four_bits w, four_bits v);
-        }
+    by : (b : Bool) → has_offset m ≡ b → bit w 12 ≡ not (has_offset m) → bit v 12 ≡ not (has_offset m) → ModeBits m w v
+    by true o tw tv = record {
+      bit12 = bit_field w v 12 (tw ∙ sym tv);
+      bit13 = bit_field w v 13 ((short_tells w m (tw ∙ ap not o) x).1 ∙ sym (short_tells v m (tv ∙ ap not o) y).1);
+      tail = λ t. absurd (cc);
+    }
+    by false o tw tv =
+        let four : field w 10 4 ≡ field v 10 4 = (long_tells w m (tw ∙ ap not o) x).0 ∙ sym (long_tells v m (tv ∙ ap not o) y).0 in
+        record { bit12 = omega arith; bit13 = omega arith; tail = λ _. omega arith }
 
 -- ---- addresses
 
@@ -120,8 +109,8 @@ record LowSame (m : Mode) (w v : ℕ) : Type 0 where
   index : SameIf (has_index m) w v 0 5
 
 low_parts : (m : Mode) (w v : ℕ) → SameWhere (low_fields m) w v → LowSame m w v
-low_parts Offset w v h = record { offset = h.0; tail = λ t. absurd (cc); scale = λ t. absurd (cc); index = λ t. absurd (cc) }
-low_parts BaseOffset w v h = record { offset = h.0; tail = λ t. absurd (cc); scale = λ t. absurd (cc); index = λ t. absurd (cc) }
+low_parts Offset w v h = search (rules, h.0)
+low_parts BaseOffset w v h = search (rules, h.0)
 low_parts _ w v h = record { offset = λ t. absurd (cc); tail = h.0; scale = h.1.0; index = h.1.1.1.0 }
 
 low_whole : (m : Mode) (w v : ℕ) → LowSame m w v → SameWhere (low_fields m) w v
@@ -154,17 +143,12 @@ ea_keeps : (e : Ea) (w v w1 : ℕ) → field w 12 1 ≡ field v 12 1 → field w
 ea_keeps e w v w1 e12 e13 base low h =
     let a = address_of w w1 e h in
     let four : bit w 12 ≡ true → field v 10 4 ≡ field w 10 4 = λ t.
-    let two = low.tail (ap not (long_tells w e.mode t a.mode).1) in
-    four_bits v ∙ omega (arith, e12, e13, two, four_bits w) in
+    let two = low.tail (ap not (long_tells w e.mode t a.mode).1) in omega arith in
     let mode : mode_in v ≡ Some e.mode = mode_same v w (sym e12) (sym e13) four ∙ a.mode in
     let whole : if_scaled (address_in e.mode w w1) ≡ Some e = rw a.mode at h in
     ap (option_and_then (λ m. if_scaled (address_in m v w1))) mode ∙ ap if_scaled (address_same e.mode w v w1 base low) ∙ whole
 
 -- ---- instructions
-
-mem_disp : (b : Bool) (w v : ℕ) → disp_in Format.Mem b w ≡ disp_in Format.Mem b v
-mem_disp true w v = refl
-mem_disp false w v = refl
 
 pub mem_keeps : (w v w1 : ℕ) (i : Inst) → (row_of i.op).format ≡ Format.Mem → SameWhere (mem_fields (is_used (row_of i.op).c) i.ea.mode) w v → Encodes w w1 i → Encodes v w1 i
 mem_keeps w v w1 i f h form =
@@ -178,8 +162,8 @@ mem_keeps w v w1 i f h form =
       b = rw f (rw f at form.b);
       c = rw f (sym (operand_same r.c false false false false (field w 19 5) (field v 19 5) (λ _. refl) (λ _. refl) c19.0) ∙ rw f at form.c);
       ea = rw f ea;
-      disp = rw f ((rw f at form.disp) ∙ mem_disp r.disp w v);
-      hint = form.hint ∙ no_hint_same r.hint w v (neither r.disp r.hint (row_fits_at i.op Format.Mem f).2).1;
+      disp = form.disp ∙ rw f (disp_keeps Format.Mem r.disp w v (λ _. refl));
+      hint = form.hint ∙ hint_keeps r.hint w v (λ t. absurd (cc ((neither r.disp r.hint (row_fits_at i.op Format.Mem f).2).1)));
     }
 
 pub mem_tells : (w v w1 : ℕ) (i : Inst) → (row_of i.op).format ≡ Format.Mem → Encodes w w1 i → Encodes v w1 i → SameWhere (mem_fields (is_used (row_of i.op).c) i.ea.mode) w v
@@ -195,19 +179,7 @@ mem_tells w v w1 i f x y =
       tail = bits.tail;
       scale = part_tells (has_index m) w v 7 3 i.ea.scale (ap (λ z. z.scale) p.parts) (ap (λ z. z.scale) q.parts);
       index = part_tells (has_index m) w v 0 5 i.ea.index (ap (λ z. z.index) p.parts) (ap (λ z. z.index) q.parts);
-    } in (
-      λ _. sym x.name.opcode ∙ y.name.opcode,
-      (
-        c.number,
-        (
-          part_tells (has_base m) w v 14 5 i.ea.base (ap (λ z. z.base) p.parts) (ap (λ z. z.base) q.parts),
-          (
-            λ _. bits.bit13,
-            (
-              λ _. bits.bit12,
-              low_whole m w v low,
-            ),
-          ),
-        ),
-      ),
-    )
+    } in
+    let base = part_tells (has_base m) w v 14 5 i.ea.base (ap (λ z. z.base) p.parts) (ap (λ z. z.base) q.parts) in
+    let op : field w 24 8 ≡ field v 24 8 = cc in
+    search (rules, op, c.number, base, bits.bit13, bits.bit12, low_whole m w v low)

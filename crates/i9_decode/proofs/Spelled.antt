@@ -1,6 +1,7 @@
 -- Operands as they are spelled in fields, and what the rows of each format have in common.
-use Rattle.std.proofs.Common.{◌≡◌, ℕ, ◌<◌, Bool, true, false, ◌&&◌, ◌||◌, refl, sym, ap, arith, Some, ltb}
-use Rattle.std.proofs.lemmas.Bool.{and_parts, ltb-true, eqb-true}
+use Rattle.std.proofs.Common.{◌≡◌, ℕ, ◌<◌, Bool, true, false, ◌&&◌, ◌||◌, refl, sym, ap, ◌∙◌, arith, Some, ltb}
+use Rattle.std.proofs.lemmas.Bool.{eqb-true}
+use Rattle.std.proofs.lemmas.Bool.Decides.{nat_tests}
 use Rattle.i9_isa.specs.declared.op.Op.{Op}
 use Rattle.i9_isa.specs.declared.op.Op.TheVariants.{Notbit}
 use Rattle.i9_isa.specs.declared.inst.Operand.{Operand}
@@ -8,59 +9,34 @@ use Rattle.i9_isa.specs.declared.inst.Operand.TheVariants.{Reg, Lit, Sfr}
 use Rattle.i9_isa.specs.declared.format.Row.{Row}
 use Rattle.i9_isa.specs.declared.format.Format.{Format}
 use Rattle.i9_isa.specs.declared.format.Use.{Use}
-use Rattle.i9_isa.specs.declared.format.Use.TheVariants.{Unused, Source, Left, Right, Destination, Load, Store, Change}
+use Rattle.i9_isa.specs.declared.format.Use.TheVariants.{Unused, Source, Left, Right, Destination}
 use Rattle.i9_isa.specs.Operands.{takes, is_unused, field_number}
 use Rattle.i9_isa.specs.Table.{row_of}
-use Rattle.i9_isa.specs.Words.{operand_in}
+use Rattle.i9_isa.specs.Words.{field, bit, operand_in}
 use Rattle.i9_decode.specs.Ignored.{is_used}
+use Rattle.i9_decode.proofs.Bits.{bit_zero}
 use Rattle.i9_decode.specs.Spelling.{m_of, s_of}
 
 -- what is spelled is read
-operand_spelled : (u : Use) (o : Operand) → takes u o ≡ true → operand_in u (m_of u o) (s_of u o) (field_number o) ≡ Some o
-operand_spelled Unused (Reg r) h = ap (λ n. Some (Reg n)) (sym (eqb-true r 0 h))
-operand_spelled Unused _ h = cc
-operand_spelled (Source n) (Reg r) h = rw h refl
-operand_spelled (Source n) (Lit r) h = rw h refl
-operand_spelled (Source n) (Sfr r) h = rw h refl
-operand_spelled Left (Sfr s) h = cc
-operand_spelled Left _ h = rw h refl
-operand_spelled Right (Lit l) h = cc
-operand_spelled Right _ h = rw h refl
-operand_spelled (Destination n) (Lit l) h = cc
-operand_spelled (Destination n) _ h = rw h refl
-operand_spelled (Load n) (Reg r) h = rw h refl
-operand_spelled (Load n) _ h = cc
-operand_spelled (Store n) (Reg r) h = rw h refl
-operand_spelled (Store n) _ h = cc
-operand_spelled Change (Reg r) h = rw h refl
-operand_spelled Change _ h = cc
+spelled : (o : Operand) (u : Use) → takes u o ≡ true → operand_in u (m_of u o) (s_of u o) (field_number o) ≡ Some o
+spelled (Reg r) Unused h = grind (arith, nat_tests)
+spelled (Lit l) Unused h = grind (arith, nat_tests)
+spelled (Sfr s) Unused h = grind (arith, nat_tests)
+spelled _ _ h = grind (arith, nat_tests)
 
 -- an operand is read from fields that are as it is spelled
 pub operand_from : (u : Use) (o : Operand) (m s : Bool) (f : ℕ) → takes u o ≡ true → m ≡ m_of u o → s ≡ s_of u o → f ≡ field_number o → operand_in u m s f ≡ Some o
-operand_from u o m s f h em es ef = rw (em, es, ef) (operand_spelled u o h)
+operand_from u o m s f h em es ef = rw (em, es, ef) (spelled o u h)
 
 -- the number of an operand has five bits
+small : (o : Operand) (u : Use) → takes u o ≡ true → field_number o < 32
+small (Reg r) Unused h = grind (arith, nat_tests)
+small (Lit l) Unused h = grind (arith, nat_tests)
+small (Sfr s) Unused h = grind (arith, nat_tests)
+small _ _ h = grind (arith, nat_tests)
+
 pub number_small : (u : Use) (o : Operand) → takes u o ≡ true → field_number o < 32
-number_small Unused (Reg r) h = omega (arith, eqb-true r 0 h)
-number_small Unused _ h = absurd (cc)
-number_small (Source n) (Reg r) h = ltb-true r 32 (and_parts _ _ h).0
-number_small (Source n) (Lit r) h = ltb-true r 32 h
-number_small (Source n) (Sfr r) h = omega (arith, ltb-true r 3 (and_parts _ _ h).1)
-number_small Left (Sfr s) h = absurd (cc)
-number_small Left (Reg r) h = ltb-true r 32 h
-number_small Left (Lit r) h = ltb-true r 32 h
-number_small Right (Lit l) h = absurd (cc)
-number_small Right (Reg r) h = ltb-true r 32 h
-number_small Right (Sfr r) h = omega (arith, ltb-true r 3 h)
-number_small (Destination n) (Lit l) h = absurd (cc)
-number_small (Destination n) (Reg r) h = ltb-true r 32 (and_parts _ _ h).0
-number_small (Destination n) (Sfr r) h = omega (arith, ltb-true r 3 (and_parts _ _ h).1)
-number_small (Load n) (Reg r) h = ltb-true r 32 (and_parts _ _ h).0
-number_small (Load n) _ h = absurd (cc)
-number_small (Store n) (Reg r) h = ltb-true r 32 (and_parts _ _ h).0
-number_small (Store n) _ h = absurd (cc)
-number_small Change (Reg r) h = ltb-true r 32 h
-number_small Change _ h = absurd (cc)
+number_small u o h = small o u h
 
 -- uses whose operands have no bit S, and no bit M
 abbrev pub lacks_s : Use → Bool
@@ -88,22 +64,19 @@ no_m _ o h = refl
 -- what isn't used is register 0, with bits M and S clear
 pub unused_is : (u : Use) (o : Operand) → is_unused u ≡ true → takes u o ≡ true → Some (Reg 0) ≡ Some o
 unused_is Unused (Reg r) e h = ap (λ n. Some (Reg n)) (sym (eqb-true r 0 h))
-unused_is Unused (Lit l) e h = cc
-unused_is Unused (Sfr s) e h = cc
 unused_is _ o e h = cc
 
-pub unused_number : (u : Use) (o : Operand) → takes u o ≡ true → is_used u ≡ false → field_number o ≡ 0
-unused_number Unused (Reg r) h e = eqb-true r 0 h
-unused_number Unused _ h e = absurd (cc)
-unused_number _ o h e = absurd (cc)
+pub number_zero : (u : Use) (o : Operand) (f : ℕ) → takes u o ≡ true → f ≡ field_number o → is_used u ≡ false → f ≡ 0
+number_zero Unused (Reg r) f h is e = is ∙ eqb-true r 0 h
+number_zero _ o f h is e = absurd (cc)
 
-pub unused_m : (u : Use) (o : Operand) → is_used u ≡ false → m_of u o ≡ false
-unused_m Unused o e = refl
-unused_m _ o e = absurd (cc)
+pub m_zero : (u : Use) (o : Operand) (w k : ℕ) → bit w k ≡ m_of u o → is_used u ≡ false → field w k 1 ≡ 0
+m_zero Unused o w k is e = bit_zero w k is
+m_zero _ o w k is e = absurd (cc)
 
-pub unused_s : (u : Use) (o : Operand) → is_used u ≡ false → s_of u o ≡ false
-unused_s Unused o e = refl
-unused_s _ o e = absurd (cc)
+pub s_zero : (u : Use) (o : Operand) (w k : ℕ) → bit w k ≡ s_of u o → is_used u ≡ false → field w k 1 ≡ 0
+s_zero Unused o w k is e = bit_zero w k is
+s_zero _ o w k is e = absurd (cc)
 
 -- what each row of a format keeps
 abbrev pub RowFits : Format → Row → Type 0

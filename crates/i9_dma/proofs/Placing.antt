@@ -1,5 +1,5 @@
 -- A channel is put in the place of another.
-use Rattle.std.proofs.Common.{◌≡◌, ℕ, ◌<◌, Bool, true, false, List, length, get_or, refl, ap, ◌∙◌, arith}
+use Rattle.std.proofs.Common.{◌≡◌, ℕ, ◌<◌, Bool, List, length, get_or, arith}
 use Rattle.std.specs.Prelude.{◌==◌, if◌then◌else◌}
 use Rattle.std.proofs.Math.ListN.{set}
 use Rattle.std.proofs.lemmas.Grind.{common_steps}
@@ -13,14 +13,11 @@ set_is : (channels : List Kept) (c k : ℕ) (v : Kept) → c < length channels �
 set_is channels c k v h = grind (arith, common_steps, nat_tests)
 
 either : (b : Bool) (v w : Kept) → channel_of (if b then v else w) ≡ (if b then channel_of v else channel_of w)
-either true v w = refl
-either false v w = refl
+either b v w = grind arith
 
 place : (channels : List Kept) (c : ℕ) (v : Kept) (channel : Channel) → c < length channels → channel_of v ≡ channel → (k : ℕ)
     → channel_at (set channels c v) k ≡ (if k == c then channel else channel_at channels k)
-place channels c v channel h e k =
-    ap channel_of (set_is channels c k v h) ∙ either (k == c) v (get_or channels k unused)
-    ∙ ap (λ (x : Channel). if k == c then x else channel_at channels k) e
+place channels c v channel h e k = grind (arith, set_is, either)
 
 abbrev dma : (ℕ → Channel) → ℕ → Dma
 dma channels dmac = record { channels = channels; dmac = dmac }

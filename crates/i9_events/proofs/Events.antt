@@ -1,8 +1,7 @@
 -- The events of an instruction and the breakpoints that match, as bits of one word.
-use Rattle.std.proofs.Common.{◌≡◌, ℕ, ◌*◌, ◌%◌, ◌<◌, Bool, true, false, cond, ◌&&◌, ◌||◌, List, [], ◌∷◌, ◌++◌, Option, Some, None, refl, sym, ap, ◌∙◌, subst, arith, lit<, inl, inr, bit_and, bit_or, eqb-true}
-use Rattle.std.specs.Prelude.{not, ◌==◌, ◌↔◌, IfSome, map, filter}
+use Rattle.std.proofs.Common.{◌≡◌, ℕ, ◌*◌, ◌%◌, ◌<◌, Bool, true, false, cond, ◌&&◌, ◌||◌, List, Option, Some, None, refl, sym, ap, ◌∙◌, subst, arith, lit<, inl, inr, bit_and, bit_or, eqb-true}
+use Rattle.std.specs.Prelude.{not, ◌==◌, ◌↔◌, IfSome, map}
 use Rattle.std.specs.List.{list_any}
-use Rattle.std.specs.Int.Bits.{or_zero_l}
 use Rattle.std.proofs.lemmas.Grind.{fold-append}
 use Rattle.std.proofs.lemmas.List.Elements.{filter_agree}
 use Rattle.i9_isa.specs.declared.op.Op.{Op}
@@ -13,7 +12,7 @@ use Rattle.i9_model.specs.declared.setup.Breaks.{Breaks}
 use Rattle.i9_model.specs.Requests.{with_bit}
 use Rattle.i9_model.specs.declared.trace.Seen.{Seen}
 use Rattle.i9_model.specs.declared.trace.Trace.{Trace}
-use Rattle.i9_model.specs.Tracing.{with_bits, Breakpoint, Ipb0, Ipb1, Dab0, Dab1, breakpoints, break_flag_of, matches, has_match, break_flags, is_mark, is_fmark, TraceEvent, Instruction, Branch, Call, Return, Prereturn, Supervisor, Mark, trace_events, mode_of, flag_of, has_mode, comes_with, is_forced, counts, counting_modes, event_flags, is_raised, trace_made, trace_of}
+use Rattle.i9_model.specs.Tracing.{with_bits, Breakpoint, Ipb0, Ipb1, Dab0, Dab1, breakpoints, break_flag_of, matches, has_match, break_flags, is_fmark, TraceEvent, Instruction, Branch, Call, Return, Prereturn, Supervisor, Mark, trace_events, mode_of, flag_of, has_mode, comes_with, is_forced, counts, counting_modes, event_flags, is_raised, trace_made, trace_of}
 use Rattle.i9_events.specs.Tracing.{IsUntraced, is_flag, GainsFlags, coming_modes, forced_modes}
 use Rattle.i9_events.proofs.Masks.{bit_if, mask, next, mask_and, mask_or, mask_below, mask_none, mask_up, with_after}
 use Rattle.i9_events.proofs.Flags.{gains, gains_both}
@@ -22,42 +21,17 @@ use Rattle.i9_events.proofs.Flags.{gains, gains_both}
 
 -- the flags of four breakpoints, one after the other
 pub four : (p : Breakpoint → Bool) → bit_or (bit_or (bit_or (bit_if (p Ipb0) 24) (bit_if (p Ipb1) 25)) (bit_if (p Dab0) 26)) (bit_if (p Dab1) 27) ≡ mask break_flag_of p breakpoints
-four p =
-    let one = bit_if (p Ipb0) 24 in
-    let two = bit_or one (bit_if (p Ipb1) 25) in
-    let three = bit_or two (bit_if (p Dab0) 26) in
-    next break_flag_of p three Dab1 []
-    ∙ next break_flag_of p two Dab0 (Dab1 ∷ [])
-    ∙ next break_flag_of p one Ipb1 (Dab0 ∷ Dab1 ∷ [])
-    ∙ ap (λ (w : ℕ). with_bits w (map break_flag_of (filter p (Ipb1 ∷ Dab0 ∷ Dab1 ∷ [])))) (sym (or_zero_l one))
-    ∙ next break_flag_of p 0 Ipb0 (Ipb1 ∷ Dab0 ∷ Dab1 ∷ [])
+four p = grind (arith, bit_if, bit_or, next)
 
 -- the modes of seven events, of which the first one comes
 pub seven : (p : TraceEvent → Bool) → p Instruction ≡ true
     → bit_or (bit_or (bit_or (bit_or (bit_or (bit_or 2 (bit_if (p Branch) 2)) (bit_if (p Call) 3)) (bit_if (p Return) 4)) (bit_if (p Prereturn) 5)) (bit_if (p Supervisor) 6)) (bit_if (p Mark) 7)
     ≡ mask mode_of p trace_events
-seven p always =
-    let two = bit_or 2 (bit_if (p Branch) 2) in
-    let three = bit_or two (bit_if (p Call) 3) in
-    let four = bit_or three (bit_if (p Return) 4) in
-    let five = bit_or four (bit_if (p Prereturn) 5) in
-    let six = bit_or five (bit_if (p Supervisor) 6) in
-    next mode_of p six Mark []
-    ∙ next mode_of p five Supervisor (Mark ∷ [])
-    ∙ next mode_of p four Prereturn (Supervisor ∷ Mark ∷ [])
-    ∙ next mode_of p three Return (Prereturn ∷ Supervisor ∷ Mark ∷ [])
-    ∙ next mode_of p two Call (Return ∷ Prereturn ∷ Supervisor ∷ Mark ∷ [])
-    ∙ next mode_of p 2 Branch (Call ∷ Return ∷ Prereturn ∷ Supervisor ∷ Mark ∷ [])
-    ∙ ap (λ (b : Bool). with_bits (bit_or 0 (bit_if b 1)) (map mode_of (filter p (Branch ∷ Call ∷ Return ∷ Prereturn ∷ Supervisor ∷ Mark ∷ [])))) (sym always)
-    ∙ next mode_of p 0 Instruction (Branch ∷ Call ∷ Return ∷ Prereturn ∷ Supervisor ∷ Mark ∷ [])
+seven p always = grind (arith, bit_or, bit_if, next)
 
 pub mark_alone : (op : Op) (matched : Bool) → bit_if (is_fmark op || matched) 7 ≡ with_bits 0 (forced_modes op matched)
 unfolding forced_modes
-mark_alone op matched = by (is_fmark op || matched)
-  where
-    by : (b : Bool) → bit_if b 7 ≡ with_bits 0 (map mode_of (cond b (Mark ∷ []) []))
-    by true = refl
-    by false = refl
+mark_alone op matched = grind (arith, bit_if)
 
 module _ (tc : ℕ) (op : Op) (s : Seen) (matched : Bool) where
   -- those that come and whose mode is set
@@ -78,8 +52,7 @@ module _ (tc : ℕ) (op : Op) (s : Seen) (matched : Bool) where
   plain c t = grind arith
 
   same_counts : (e : TraceEvent) → (shows e || is_forced op matched e) ≡ counts tc op s matched e
-  same_counts Mark = either (is_mark op) (is_fmark op) matched (has_mode tc Mark)
-  same_counts e = plain (comes_with op s matched e) (has_mode tc e)
+  same_counts e = grind (arith, either, plain)
 
   pub counted_is : (x y : ℕ) → x ≡ shown → y ≡ with_bits 0 (forced_modes op matched) → bit_or x y ≡ with_bits 0 (counting_modes tc op s matched)
   unfolding forced_modes counting_modes
@@ -89,8 +62,7 @@ module _ (tc : ℕ) (op : Op) (s : Seen) (matched : Bool) where
       ∙ ap (λ (es : List TraceEvent). with_bits 0 (map mode_of es)) (filter_agree (λ e. shows e || is_forced op matched e) (counts tc op s matched) same_counts trace_events)
 
   below_eight : (e : TraceEvent) → mode_of e < 8
-  below_eight Instruction = lit< tt
-  below_eight _ = lit< tt
+  below_eight e = grind (arith, lit<)
 
   pub counted_small : with_bits 0 (counting_modes tc op s matched) < 256
   unfolding counting_modes
@@ -114,20 +86,12 @@ module _ (tc pc : ℕ) (i : Inst) (s : Seen) (b : Breaks) where
   -- a breakpoint matches where a flag is set
   pub breaks_is : (x : ℕ) → x ≡ with_bits 0 (break_flags s b) → not (x == 0) ≡ has_match s b
   unfolding has_match break_flags
-  breaks_is x is = ap (λ (w : ℕ). not (w == 0)) is ∙ ap not (mask_none break_flag_of (matches s b) breakpoints) ∙ twice (has_match s b)
-    where
-      twice : (v : Bool) → not (not v) ≡ v
-      twice true = refl
-      twice false = refl
+  breaks_is x is = grind (arith, mask_none)
 
   -- the modes of the events that count, from the three words that the code makes
   pub modes_are : (x y z : ℕ) → x ≡ with_bits 0 (break_flags s b) → y ≡ with_bits 0 (coming_modes i.op s (not (x == 0))) → z ≡ with_bits 0 (forced_modes i.op (not (x == 0)))
       → bit_or (bit_and y tc) z ≡ with_bits 0 (counting_modes tc i.op s (has_match s b))
-  modes_are x y z flags events always =
-      let matched = breaks_is x flags in
-      let first = events ∙ ap (λ (v : Bool). with_bits 0 (coming_modes i.op s v)) matched in
-      let second = always ∙ ap (λ (v : Bool). with_bits 0 (forced_modes i.op v)) matched in
-      counted_is tc i.op s (has_match s b) (bit_and y tc) z (shown_is tc i.op s (has_match s b) y first) second
+  modes_are x y z flags events always = grind (arith, breaks_is, counted_is, bit_and, shown_is)
 
   -- the flags of the events whose mode is set
   pub flags_of_modes : (x y : ℕ) → x ≡ with_bits 0 (break_flags s b) → y ≡ with_bits 0 (coming_modes i.op s (not (x == 0)))
@@ -146,11 +110,7 @@ module _ (tc pc : ℕ) (i : Inst) (s : Seen) (b : Breaks) where
 
   no_event : is_raised tc i s b ≡ false → None ≡ trace_of tc pc i s b
   unfolding trace_of
-  no_event none = by (bit pc TRACE_ENABLE_PLACE) (is_raised tc i s b) none
-    where
-      by : (on any : Bool) → any ≡ false → None ≡ cond (on && any) (Some (trace_made tc i s b)) None
-      by true any h = ap (λ (v : Bool). cond v (Some (trace_made tc i s b)) None) (sym h)
-      by false any h = refl
+  no_event none = grind arith
 
   pub not_raised : (n : ℕ) → n ≡ with_bits 0 (counting_modes tc i.op s (has_match s b)) → n ≡ 0 → None ≡ trace_of tc pc i s b
   not_raised n is zero = no_event (by (is_raised tc i s b) (ap (λ (m : ℕ). m == 0) (sym zero) ∙ raised_is n is))
@@ -163,14 +123,7 @@ module _ (tc pc : ℕ) (i : Inst) (s : Seen) (b : Breaks) where
   pub made_is : (flags others subtype : ℕ) → flags ≡ with_bits 0 (event_flags tc i.op s (has_match s b)) → others ≡ with_bits 0 (break_flags s b) → subtype ≡ with_bits 0 (counting_modes tc i.op s (has_match s b))
       → (let made : Trace = record { tc = bit_or (bit_or tc flags) others; subtype = subtype } in made) ≡ trace_made tc i s b
   unfolding trace_made
-  made_is flags others subtype events breakpoints modes =
-      let first = event_flags tc i.op s (has_match s b) in
-      let second = break_flags s b in
-      let all : bit_or (bit_or tc flags) others ≡ with_bits tc (first ++ second) =
-      ap (λ (w : ℕ). bit_or w others) (ap (bit_or tc) events ∙ sym (with_after tc first))
-      ∙ ap (bit_or (with_bits tc first)) breakpoints ∙ sym (with_after (with_bits tc first) second)
-      ∙ sym (fold-append with_bit tc first second) in
-      λ k. record { tc = all k; subtype = modes k }
+  made_is flags others subtype events breakpoints modes = grind (arith, bit_or, with_after, fold-append)
 
   pub raised_made : (t : Trace) (n : ℕ) → bit pc TRACE_ENABLE_PLACE ≡ true → n ≡ with_bits 0 (counting_modes tc i.op s (has_match s b)) → (n ≡ 0 → ⊥) → t ≡ trace_made tc i s b
       → Some t ≡ trace_of tc pc i s b
@@ -187,12 +140,10 @@ module _ (tc pc : ℕ) (i : Inst) (s : Seen) (b : Breaks) where
   -- ---- what follows
 
   flags_of_events : (e : TraceEvent) → is_flag (flag_of e) ≡ true
-  flags_of_events Instruction = refl
-  flags_of_events _ = refl
+  flags_of_events e = grind arith
 
   flags_of_breakpoints : (k : Breakpoint) → is_flag (break_flag_of k) ≡ true
-  flags_of_breakpoints Ipb0 = refl
-  flags_of_breakpoints _ = refl
+  flags_of_breakpoints k = grind arith
 
   made_gains : GainsFlags tc (trace_made tc i s b).tc
   unfolding trace_made event_flags break_flags
@@ -212,8 +163,7 @@ module _ (tc pc : ℕ) (i : Inst) (s : Seen) (b : Breaks) where
       by false = tt
 
   each_none : (p : TraceEvent → Bool) → list_any p trace_events ≡ false → (e : TraceEvent) → p e ≡ false
-  each_none p h Instruction = grind (arith, h)
-  each_none p h _ = grind (arith, h)
+  each_none p h x2 = grind arith
 
   all_none : (p : TraceEvent → Bool) → ((e : TraceEvent) → p e ≡ false) → list_any p trace_events ≡ false
   all_none p none = rw (none Instruction, none Branch, none Call, none Return, none Prereturn, none Supervisor, none Mark) refl

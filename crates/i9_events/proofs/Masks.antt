@@ -1,5 +1,5 @@
 -- Words with the bits of the members of a list that pass a test.
-use Rattle.std.proofs.Common.{◌≡◌, ℕ, zero, suc, ◌+◌, ◌*◌, ◌^◌, ◌<◌, Bool, true, false, cond, ◌&&◌, ◌||◌, List, [], ◌∷◌, refl, sym, ap, ◌∙◌, subst, arith, bit_and, bit_or, add-zero, zero-mul, one-mul}
+use Rattle.std.proofs.Common.{◌≡◌, ℕ, ◌+◌, ◌*◌, ◌^◌, ◌<◌, Bool, true, false, cond, ◌&&◌, ◌||◌, List, [], ◌∷◌, refl, sym, ap, ◌∙◌, subst, arith, bit_and, bit_or, add-zero, zero-mul, one-mul}
 use Rattle.std.specs.Prelude.{not, ◌==◌, map, filter}
 use Rattle.std.specs.List.{list_any}
 use Rattle.std.specs.Int.{bit_at}
@@ -49,21 +49,17 @@ and_zero : (t : ℕ) → bit_and 0 t ≡ 0
 and_zero t = and_comm 0 t ∙ omega (arith, and_le_r t 0)
 
 and_test : (t k n : ℕ) → bit_at t k ≡ n → n < 2 → n * 2 ^ k ≡ bit_if (n == 1) k
-and_test t k zero is small = zero-mul (2 ^ k)
-and_test t k (suc n) is small = let none : n ≡ 0 = omega arith in rw none (one-mul (2 ^ k))
+and_test t k n is small = grind (arith, zero-mul, one-mul)
 
 and_if : (b : Bool) (k t : ℕ) → bit_and (bit_if b k) t ≡ bit_if (b && bit t k) k
-and_if true k t = and_comm (2 ^ k) t ∙ and_pow t k ∙ and_test t k (bit_at t k) refl (bit_at-lt t k)
-and_if false k t = and_zero t
+and_if b k t = grind (arith, and_comm, and_pow, and_test, bit_at-lt, and_zero)
 
 below_if : (b : Bool) (k n : ℕ) → k < n → bit_if b k < 2 ^ n
-below_if true k n small = pow_below k n small
-below_if false k n small = pow_pos n
+below_if b k n small = grind (arith, pow_below, pow_pos)
 
 -- the same bit further up
 up_if : (b : Bool) (k d : ℕ) → bit_if b k * 2 ^ d ≡ bit_if b (k + d)
-up_if true k d = sym (pow-add 2 k d)
-up_if false k d = zero-mul (2 ^ d)
+up_if b k d = grind (arith, pow-add, zero-mul)
 
 -- ---- words
 
@@ -84,17 +80,14 @@ module _ {X : Type 0} (place : X → ℕ) where
   next_by false w k places = ap (λ (v : ℕ). with_bits v places) (or_zero_r w)
 
   map_by : (b : Bool) (x : X) (xs : List X) → cond b (place x ∷ map place xs) (map place xs) ≡ map place (cond b (x ∷ xs) xs)
-  map_by true x xs = refl
-  map_by false x xs = refl
+  map_by b x xs = grind arith
 
   -- a word with the bit of one more member
   pub next : (p : X → Bool) (w : ℕ) (x : X) (xs : List X) → with_bits (bit_or w (bit_if (p x) (place x))) (map place (filter p xs)) ≡ with_bits w (map place (filter p (x ∷ xs)))
   next p w x xs = next_by (p x) w (place x) (map place (filter p xs)) ∙ ap (with_bits w) (map_by (p x) x (filter p xs))
 
   first : (p : X → Bool) (x : X) (xs : List X) → mask p (x ∷ xs) ≡ bit_or (bit_if (p x) (place x)) (mask p xs)
-  first p x xs =
-      sym (next p 0 x xs) ∙ ap (λ (w : ℕ). with_bits w (map place (filter p xs))) (or_zero_l (bit_if (p x) (place x)))
-      ∙ with_after (bit_if (p x) (place x)) (map place (filter p xs))
+  first p x xs = grind (arith, next, with_after)
 
   -- those whose bit is in a word
   pub mask_and : (p : X → Bool) (t : ℕ) (xs : List X) → bit_and (mask p xs) t ≡ mask (λ x. p x && bit t (place x)) xs
@@ -123,8 +116,7 @@ module _ {X : Type 0} (place : X → ℕ) where
       subst (λ (w : ℕ). w < 2 ^ n) (sym (first p x xs)) here
 
   none_by : (b : Bool) (k w : ℕ) (any : Bool) → (w == 0) ≡ not any → (bit_or (bit_if b k) w == 0) ≡ not (b || any)
-  none_by true k w any rest = let p = le_or_l (2 ^ k) w in let q = pow_pos k in grind (arith, nat_tests, p, q)
-  none_by false k w any rest = ap (λ (v : ℕ). v == 0) (or_zero_l w) ∙ rest
+  none_by b k w any rest = grind (arith, le_or_l, pow_pos, nat_tests)
 
   -- there is no bit where none passes
   pub mask_none : (p : X → Bool) (xs : List X) → (mask p xs == 0) ≡ not (list_any p xs)

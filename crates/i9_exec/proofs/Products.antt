@@ -1,5 +1,5 @@
 -- Signed results: what is left of them in 32 bits, and whether they are in range.
-use Rattle.std.proofs.Common.{◌≡◌, ℕ, suc, zero, ◌+◌, ◌-◌, ◌*◌, ◌/◌, ◌%◌, ◌^◌, ◌<◌, ◌≤◌, arith, refl, sym, ap, ◌∙◌, ℤ, pos, negsuc, ◌*ℤ◌, neg_ℤ, leb, ltb, eqb, not, Bool, true, false, nat_lt, inl, inr}
+use Rattle.std.proofs.Common.{◌≡◌, ℕ, suc, ◌+◌, ◌-◌, ◌*◌, ◌/◌, ◌%◌, ◌^◌, ◌<◌, ◌≤◌, arith, refl, sym, ap, ◌∙◌, ℤ, pos, negsuc, ◌*ℤ◌, neg_ℤ, leb, ltb, eqb, not, Bool, inl, inr}
 use Rattle.std.proofs.lemmas.Nat.{pow_pos, le-div, div_below, mul-le, pow-add}
 use Rattle.std.proofs.Math.Nat.{pow-le-pow_right}
 use Rattle.std.proofs.lemmas.Bool.{cases_eq, cases_lt}
@@ -13,8 +13,7 @@ use Rattle.i9_model.specs.Results.{word_or_overflow, checked, shifted_left}
 -- ---- what is left in 32 bits
 
 reduced-lt : (z : ℤ) → reduced z < 2 ^ 32
-reduced-lt (pos n) = omega arith
-reduced-lt (negsuc n) = omega arith
+reduced-lt z = grind (arith, pos, negsuc)
 
 cast_unsigned-int_wrap : (z : ℤ) → cast_unsigned w32 (int_wrap w32 z) ≡ reduced z
 unfolding int_wrap
@@ -45,10 +44,7 @@ mod-far b a h =
 
 -- a signed word times a power of two has the low word of the word shifted left
 pub reduced-shift : (b a : ℕ) → b < 2 ^ 32 → shifted_left b a ≡ reduced (signed b *ℤ pos (2 ^ a))
-reduced-shift b a h = elim (cases_lt a 32) [
-  | inl lt ↦ let near : nat_lt a 32 ≡ true = grind (arith, nat_tests) in rw near (reduced-times b (2 ^ a) h)
-  | inr ge ↦ let far : nat_lt a 32 ≡ false = grind (arith, nat_tests) in rw far (sym (mod-far b a ge) ∙ reduced-times b (2 ^ a) h)
-]
+reduced-shift b a h = grind (arith, cases_lt, nat_tests, reduced-times, mod-far)
 
 -- the low word of a result, and whether it is out of range, are its answer
 pub checked_is : (v : ℕ) (o : Bool) (z : ℤ) (ac : ℕ) → v ≡ reduced z → o ≡ not (fits z) → word_or_overflow v o ac ≡ checked z ac
@@ -60,8 +56,7 @@ not-fits-same x y r h e = h ∙ ap (λ z. not (fits z)) e
 -- ---- products by a power of two in the signed range
 
 fits-neg : (n : ℕ) → fits (neg_ℤ (pos n)) ≡ leb n 2147483648
-fits-neg zero = refl
-fits-neg (suc n) = refl
+fits-neg n = grind arith
 
 fits-positive : (b k : ℕ) → b < 2147483648 → fits (signed b *ℤ pos k) ≡ ltb (b * k) 2147483648
 fits-positive b k h = rw (to_z_pos w32 b h) refl
@@ -73,10 +68,7 @@ fits-negative : (b k : ℕ) → 2147483648 ≤ b → b < 4294967296 → fits (si
 fits-negative b k h l = rw (signed-negative b h l) (fits-neg _)
 
 mul-lt : (a b k : ℕ) → 0 < k → a < b → a * k < b * k
-mul-lt a b k hk h =
-    let up_to = mul-le (suc a) k b k h (omega arith) in
-    let next : suc a * k ≡ a * k + k = omega arith in
-    omega arith
+mul-lt a b k hk h = grind (arith, mul-le)
 
 -- b times k is below m times k exactly where b is below m
 below_product : (b m k : ℕ) → 0 < m → 0 < k → eqb (b / m) 0 ≡ ltb (b * k) (m * k)
@@ -128,7 +120,4 @@ far_negative b a h g l = rw (fits-negative b (2 ^ a) g l) (
     grind (arith, nat_tests))
 
 pub shift_far : (b a : ℕ) → 32 ≤ a → b < 2 ^ 32 → not (eqb b 0) ≡ not (fits (signed b *ℤ pos (2 ^ a)))
-shift_far b a h l = elim (cases_lt b 2147483648) [
-  | inl lt ↦ far_positive b a h lt
-  | inr ge ↦ far_negative b a h ge l
-]
+shift_far b a h l = grind (arith, cases_lt, far_positive, far_negative)

@@ -113,9 +113,7 @@ module _ (m : Memory) (f : Frames) (push : Push) (words : List ℕ) (x : ℕ) (f
 module _ (m : Memory) (f : Frames) (table v : ℕ) where
   read_one : (x : ℕ) (b : Bool) → x < 2 ^ 32 → f.soft x ≡ b → read_hazard f x 1 ≡ (if b then Some x else None)
   unfolding read_hazard
-  read_one x b h e =
-      let same : wrapped x ≡ x = omega arith in
-      ap (λ (y : ℕ). if f.soft y then Some y else None) same ∙ ap (λ (c : Bool). if c then Some x else None) e
+  read_one x b h e = grind arith
 
   abbrev rest : Option ℕ
   rest = or_else (priority_hazard m f table v) (byte_hazard f (pending_place table v))

@@ -1,16 +1,13 @@
 -- The best line of one more.
-use Rattle.std.proofs.Common.{◌≡◌, ℕ, ◌+◌, ◌<◌, ◌≤◌, true, false, Option, Some, None, subst, inl, inr, arith}
-use Rattle.std.proofs.lemmas.Bool.{cases_lt, both_ways}
+use Rattle.std.proofs.Common.{◌≡◌, ℕ, ◌+◌, ◌<◌, ◌≤◌, true, false, Option, Some, None, arith}
+use Rattle.std.proofs.lemmas.Bool.{both_ways}
 use Rattle.i9_model.specs.State.{Interrupts}
 use Rattle.i9_model.specs.Interrupts.{line_vector}
 use Rattle.i9_ints.specs.Best.{is_ready, IsBest, IsBestLine}
 
 module _ (s : Interrupts) (pc k : ℕ) where
   more : (P : ℕ → Type 0) → ((j : ℕ) → j < k → P j) → P k → (j : ℕ) → j < k + 1 → P j
-  more P before here j h = elim (cases_lt j k) [
-    | inl l ↦ before j l
-    | inr g ↦ let same : k ≡ j = omega arith in subst P same here
-  ]
+  more P before here j h = grind arith
 
   -- it isn't ready
   pub best_kept : (best : Option ℕ) → IsBestLine s pc k best → is_ready s pc k ≡ false → IsBestLine s pc (k + 1) best
@@ -42,13 +39,4 @@ module _ (s : Interrupts) (pc k : ℕ) where
     ready = t;
     none_greater = more (λ j. is_ready s pc j ≡ true → line_vector s.maps j ≤ line_vector s.maps k) (λ j h r. let le = best.none_greater j h r in omega arith) (λ r. omega arith);
     none_lower = λ j h r. let le = best.none_greater j h r in omega arith;
-  }
-
-  -- there was none
-  pub best_first : ((j : ℕ) → j < k → is_ready s pc j ≡ false) → is_ready s pc k ≡ true → IsBest s pc (k + 1) k
-  best_first none t = record {
-    within = omega arith;
-    ready = t;
-    none_greater = more (λ j. is_ready s pc j ≡ true → line_vector s.maps j ≤ line_vector s.maps k) (λ j h r. absurd (both_ways (is_ready s pc j) (none j h) r)) (λ r. omega arith);
-    none_lower = λ j h r. absurd (both_ways (is_ready s pc j) (none j h) r);
   }

@@ -32,9 +32,7 @@ module _ (s : Interrupts) (soft : ℕ → Bool) (pc : ℕ) where
 
   -- a line that has a vector
   line_counts : (k v : ℕ) → 8 ≤ v → line_vector s.maps k ≡ v → is_ready s pc k ≡ counts s soft pc (choice (Line k) v)
-  line_counts k v big e =
-      ap (λ (u : ℕ). is_open s k && (nat_le 8 u && passes pc (vector_priority u))) e
-      ∙ ap (λ (b : Bool). is_open s k && (b && passes pc (vector_priority v))) (le-leb 8 v big)
+  line_counts k v big e = grind arith
 
   soft_counts : (v : ℕ) → 8 ≤ v → is_wanted soft pc v ≡ counts s soft pc (choice Soft v)
   soft_counts v big = ap (λ (b : Bool). soft v && (b && passes pc (vector_priority v))) (le-leb 8 v big)

@@ -27,8 +27,7 @@ pub tested_some : {X : Type 0} (P : X → Bool) (b : Bool) (x : X) → b ≡ tru
 tested_some P b x t e = ap (λ (c : Bool). find P (cond c (x ∷ []) [])) t ∙ one_some P x e
 
 pub tested_none : {X : Type 0} (P : X → Bool) (b : Bool) (x : X) → (b ≡ true → P x ≡ false) → find P (cond b (x ∷ []) []) ≡ None
-tested_none P true x e = one_none P x (e refl)
-tested_none P false x e = refl
+tested_none P b x e = grind arith
 
 -- ---- a part for each number
 
@@ -82,8 +81,7 @@ each_some P h top n p low high here before =
 -- ---- an element for each number that passes another test
 
 filtered_by : {X : Type 0} (c : ℕ → X) (b : Bool) (k : ℕ) (rest : List ℕ) (done : List X) → map c rest ≡ done → map c (cond b (k ∷ rest) rest) ≡ cond b (c k ∷ []) [] ++ done
-filtered_by c true k rest done e = ap (λ ys. c k ∷ ys) e
-filtered_by c false k rest done e = e
+filtered_by c b k rest done e = grind arith
 
 pub filtered : {X : Type 0} (c : ℕ → X) (t : ℕ → Bool) (xs : List ℕ) → map c (filter t xs) ≡ flat_map (λ k. cond (t k) (c k ∷ []) []) xs
 filtered c t [] = refl

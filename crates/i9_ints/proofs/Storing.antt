@@ -1,5 +1,5 @@
 -- Bytes of the interrupt table that are stored, one after the other.
-use Rattle.std.proofs.Common.{◌≡◌, ◌⊎◌, inl, inr, ℕ, ◌+◌, ◌/◌, ◌%◌, ◌^◌, ◌<◌, Bool, false, List, [], ◌∷◌, ◌++◌, get_or, Option, Ok, sym, ap, ◌∙◌, subst, arith}
+use Rattle.std.proofs.Common.{◌≡◌, ◌⊎◌, ℕ, ◌+◌, ◌/◌, ◌%◌, ◌^◌, ◌<◌, Bool, false, List, [], ◌∷◌, ◌++◌, get_or, Option, Ok, sym, ap, ◌∙◌, subst, arith}
 use Rattle.std.specs.Prelude.{not, ◌==◌, ◌&&◌, ◌||◌, if◌then◌else◌}
 use Rattle.std.proofs.lemmas.Bool.{eq-eqb, ne_eqb}
 use Rattle.i9_model.proofs.Upwards.{one_write}
@@ -61,8 +61,7 @@ pub no_frame_writes : (f : Frames) → f ≡ wrote f []
 no_frame_writes f = sym (none_wrote f)
 
 pub nothing_cleared : (cause : Cause) (m : Memory) (table v : ℕ) → (cause ≡ Nmi) ⊎ ((k : ℕ) × (cause ≡ Line k)) → clearing_writes cause m table v ≡ []
-nothing_cleared cause m table v (inl e) = ap (λ (c : Cause). clearing_writes c m table v) e
-nothing_cleared cause m table v (inr (k, e)) = ap (λ (c : Cause). clearing_writes c m table v) e
+nothing_cleared cause m table v is = grind arith
 
 -- ---- what is written where a vector is taken
 

@@ -1,15 +1,10 @@
 -- The greatest vector of a priority that software asks for is the highest bit of the priority's byte.
-use Rattle.std.proofs.Common.{◌≡◌, ℕ, ◌+◌, ◌-◌, ◌*◌, ◌/◌, ◌%◌, ◌^◌, suc, ◌<◌, ◌≤◌, Bool, true, false, ap, ◌∙◌, arith}
-use Rattle.std.specs.Prelude.{◌&&◌, ◌==◌, nat_le}
-use Rattle.std.proofs.lemmas.Nat.{pow_pos, le-div, div_below}
+use Rattle.std.proofs.Common.{◌≡◌, ℕ, ◌+◌, ◌-◌, ◌*◌, ◌%◌, ◌^◌, suc, ◌<◌, ◌≤◌, Bool, true, false, ap, ◌∙◌, arith}
+use Rattle.std.specs.Prelude.{◌&&◌, ◌==◌}
 use Rattle.std.proofs.lemmas.Nat.Bits.{bit_at_above}
-use Rattle.std.proofs.lemmas.Bool.{eq-eqb}
-use Rattle.std.proofs.lemmas.Bool.Decides.{nat_tests}
 use Rattle.i9_isa.specs.Words.{bit}
 use Rattle.i9_model.specs.Memory.{Memory}
-use Rattle.i9_model.specs.declared.interrupts.TheConstants.{PENDING_VECTORS}
-use Rattle.i9_model.specs.Writes.{wrapped}
-use Rattle.i9_model.specs.Interrupts.{is_requested, priority_place, pending_place, passes}
+use Rattle.i9_model.specs.Interrupts.{is_requested, priority_place, pending_place}
 use Rattle.i9_ints.specs.Best.{is_let_in, is_wanted, IsTop}
 
 -- a byte has no bit above its highest
@@ -19,11 +14,7 @@ above_top b r k high more =
     ap (λ (n : ℕ). n == 1) (bit_at_above b (suc r) k less (omega arith))
 
 at_top : (b r : ℕ) → 2 ^ r ≤ b → b < 2 * 2 ^ r → bit b r ≡ true
-at_top b r low high =
-    let pos = pow_pos r in
-    let some : 1 ≤ b / 2 ^ r = le-div 1 b (2 ^ r) pos (omega arith) in
-    let few : b / 2 ^ r < 2 = div_below b (2 ^ r) 2 pos high in
-    eq-eqb (b / 2 ^ r % 2 ^ 1) 1 (omega arith)
+at_top b r low high = grind arith
 
 module _ (m : Memory) (table pc p : ℕ) where
   -- the byte of the priority's bit, and the byte of its vectors
@@ -34,19 +25,10 @@ module _ (m : Memory) (table pc p : ℕ) where
   vectors = m.bytes (pending_place table (8 * p))
 
   requested_is : (v : ℕ) → 8 * p ≤ v → v < 8 * p + 8 → is_requested m table v ≡ (bit priorities (p % 8) && bit vectors (v - 8 * p))
-  requested_is v low high =
-      let at : v / 8 ≡ 8 * p / 8 = omega arith in
-      let asked : v / 8 % 8 ≡ p % 8 = omega arith in
-      let place : v % 8 ≡ v - 8 * p = omega arith in
-      ap (λ (q : ℕ). bit (m.bytes (wrapped (table + q / 8))) (v / 8 % 8) && bit (m.bytes (wrapped (table + (PENDING_VECTORS + q)))) (v % 8)) at
-      ∙ ap (λ (k : ℕ). bit priorities k && bit vectors (v % 8)) asked
-      ∙ ap (λ (k : ℕ). bit priorities (p % 8) && bit vectors k) place
+  requested_is v low high = grind arith
 
   let_in_is : (v : ℕ) → 8 * p ≤ v → v < 8 * p + 8 → is_let_in pc v ≡ is_let_in pc (8 * p)
-  let_in_is v low high =
-      let at : v / 8 ≡ 8 * p / 8 = omega arith in
-      let big : nat_le 8 v ≡ nat_le 8 (8 * p) = grind (arith, nat_tests) in
-      ap (λ (q : ℕ). nat_le 8 v && passes pc q) at ∙ ap (λ (b : Bool). b && passes pc (8 * p / 8)) big
+  let_in_is v low high = grind arith
 
   wanted_is : (v : ℕ) → 8 * p ≤ v → v < 8 * p + 8 → is_wanted (is_requested m table) pc v ≡ ((bit priorities (p % 8) && bit vectors (v - 8 * p)) && is_let_in pc (8 * p))
   wanted_is v low high =

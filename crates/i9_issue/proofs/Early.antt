@@ -14,11 +14,7 @@ use Rattle.i9_issue.proofs.Seven.{each-weaker, open-none}
 
 -- a record permits the turn at which it is done
 least-done : (n : Need) (k u : ℕ) (r : TimedNeed) → r.issue < r.done → r.done ≤ u → least_turn n k r ≤ u
-least-done n k u r time done =
-    let side : cond (keeps_side r.need.side n) (r.issue + 1) 0 ≤ u = cond-le (keeps_side r.need.side n) (r.issue + 1) u (λ _. omega (arith, time, done)) in
-    let waits : cond (waits_for n r.need || n.request && r.need.request && nat_le 2 k) r.done 0 ≤ u =
-    cond-le (waits_for n r.need || n.request && r.need.request && nat_le 2 k) r.done u (λ _. done) in
-    omega (arith, side, waits)
+least-done n k u r time done = grind (arith, cond-le)
 
 from-done : (n : Need) (t k u : ℕ) (rs : List TimedNeed) → t ≤ u → AllByRecursion (λ r. r.issue < r.done) rs → AllByRecursion (λ r. r.done ≤ u) rs → turn_from n t k rs ≤ u
 from-done n t k u [] le time done = le

@@ -1,5 +1,5 @@
 -- Steps of loops over the open records.
-use Rattle.std.proofs.Common.{◌≡◌, ℕ, suc, ◌+◌, ◌-◌, ◌^◌, ◌<◌, ◌≤◌, max, cond, false, ◌&&◌, List, [], ◌∷◌, ◌++◌, length, get_or, drop, take, set, reverse, sym, ap, ◌∙◌, subst, refl, inl, inr, arith}
+use Rattle.std.proofs.Common.{◌≡◌, ℕ, ◌+◌, ◌-◌, ◌^◌, ◌<◌, ◌≤◌, max, cond, false, ◌&&◌, List, [], ◌∷◌, ◌++◌, length, get_or, drop, take, set, reverse, sym, ap, ◌∙◌, subst, refl, inl, inr, arith}
 use Rattle.std.specs.Prelude.{nat_lt}
 use Rattle.std.specs.List.{AllByRecursion}
 use Rattle.std.proofs.lemmas.List.{drop_more, drop-drop, get_or-drop, take_more, take_more_set, drop-set-lt, append_assoc, reverse-append, length-take-le, length-reverse}
@@ -141,11 +141,7 @@ open-append u (r ∷ a) b =
     ]
 
 pub open-one : (u : ℕ) (r : TimedNeed) → reverse (open_at u (r ∷ [])) ≡ open_at u (r ∷ [])
-open-one u r =
-    elim (cases_lt u r.done) [
-      | inl later ↦ ap reverse (open-yes u r [] later) ∙ sym (open-yes u r [] later)
-      | inr over ↦ ap reverse (open-no u r [] over) ∙ sym (open-no u r [] over)
-    ]
+open-one u r = grind (arith, cases_lt, reverse, open-yes, open-no)
 
 -- the open ones from the other end
 pub open-reverse : (u : ℕ) (rs : List TimedNeed) → open_at u (reverse rs) ≡ reverse (open_at u rs)
@@ -155,10 +151,7 @@ open-reverse u (r ∷ rs) =
 
 -- the next of so many places
 pub next-place : (count k : ℕ) (rs : List TimedNeed) (d : TimedNeed) → k < count → count ≤ length rs → take (count - k) (drop k rs) ≡ get_or rs k d ∷ take (count - (k + 1)) (drop (k + 1) rs)
-next-place count k rs d lt few =
-    let m = count - (k + 1) in
-    let e : count - k ≡ suc m = omega arith in
-    ap (λ j. take j (drop k rs)) e ∙ ap (take (suc m)) (drop_more rs k d (omega arith))
+next-place count k rs d lt few = grind (arith, drop_more)
 
 pub same-rest : (k : ℕ) (now before : List TimedNeed) → drop k now ≡ drop k before → drop (k + 1) now ≡ drop (k + 1) before
 same-rest k now before same = sym (drop-drop 1 k now) ∙ ap (drop 1) same ∙ drop-drop 1 k before
@@ -198,9 +191,7 @@ newest-place count k rs d lt few =
 
 -- the list once a record is placed behind those that are open
 pub placed-list : (u count kept : ℕ) (now before : List TimedNeed) (r : TimedNeed) → kept < length now → take kept now ≡ open_at u (take count before) → reverse (take (kept + 1) (set now kept r)) ≡ r ∷ open_at u (reverse (take count before))
-placed-list u count kept now before r lt same =
-    ap reverse (take_more_set now kept r lt) ∙ reverse-append (take kept now) (r ∷ []) ∙ ap (λ xs. r ∷ reverse xs) same ∙ ap (λ xs. r ∷ xs) (sym (open-reverse u (take count before)))
+placed-list u count kept now before r lt same = grind (arith, reverse, take_more_set, reverse-append, open-reverse)
 
 pub kept-length : (u count kept : ℕ) (now before : List TimedNeed) → kept ≤ length now → take kept now ≡ open_at u (take count before) → kept ≡ length (open_at u (reverse (take count before)))
-kept-length u count kept now before le same =
-    sym (length-take-le kept now le) ∙ ap length same ∙ sym (length-reverse (open_at u (take count before))) ∙ ap length (sym (open-reverse u (take count before)))
+kept-length u count kept now before le same = grind (arith, length-take-le, length-reverse, open-reverse)

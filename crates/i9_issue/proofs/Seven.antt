@@ -22,8 +22,7 @@ pub count-cons : (p : TimedNeed → Bool) (r : TimedNeed) (rs : List TimedNeed) 
 count-cons p r rs = sum_by-cons (λ x. one_if (p x)) r rs
 
 pub one-le : (b : Bool) → one_if b ≤ 1
-one-le true = omega arith
-one-le false = omega arith
+one-le b = grind arith
 
 pub count-open-le : (p : TimedNeed → Bool) (u : ℕ) (rs : List TimedNeed) → count_by p (open_at u rs) ≤ count_by p rs
 count-open-le p u [] = omega arith
@@ -95,34 +94,13 @@ kinds last r =
     one_if r.need.request + one_if r.need.slow + one_if r.need.barrier + one_if (at_side Reg last r) + one_if (at_side Mem last r) + one_if (at_side Ctl last r)
 
 pub same_side-some : (last : ℕ) (r : TimedNeed) → r.issue ≡ last → 1 ≤ one_if (at_side Reg last r) + one_if (at_side Mem last r) + one_if (at_side Ctl last r)
-same_side-some last r e =
-    let at : nat_eq r.issue last ≡ true = eq-eqb r.issue last e in
-    some r.need.side (nat_eq r.issue last) at
-  where
-    some : (s : Side) (b : Bool) → b ≡ true → 1 ≤ one_if (same_side Reg s && b) + one_if (same_side Mem s && b) + one_if (same_side Ctl s && b)
-    some s false h = absurd (false≢true h)
-    some Reg true h = omega arith
-    some Mem true h = omega arith
-    some Ctl true h = omega arith
+same_side-some last r e = grind (arith, eq-eqb, one_if, false≢true)
 
 pub plain-from : (n : Need) → n.request ≡ false → n.slow ≡ false → n.barrier ≡ false → IsTrue (is_plain n)
 plain-from n a b c = not_from_false (n.request || n.slow || n.barrier) (or_from (n.request || n.slow) n.barrier (or_from n.request n.slow a b) c)
 
 pub one-kind : (last : ℕ) (r : TimedNeed) → r.issue ≤ last → last < r.done → (IsTrue (is_plain r.need) → r.done ≡ r.issue + 1) → 1 ≤ kinds last r
-one-kind last r le lt plain =
-    elim (cases_Bool r.need.request) [
-      | inl is ↦ omega (arith, one-true r.need.request is)
-      | inr no_request ↦ elim (cases_Bool r.need.slow) [
-        | inl is ↦ omega (arith, one-true r.need.slow is)
-        | inr no_slow ↦ elim (cases_Bool r.need.barrier) [
-          | inl is ↦ omega (arith, one-true r.need.barrier is)
-          | inr no_barrier ↦
-              let e : r.done ≡ r.issue + 1 = plain (plain-from r.need no_request no_slow no_barrier) in
-              let at : r.issue ≡ last = omega arith in
-              omega (arith, same_side-some last r at)
-        ]
-      ]
-    ]
+one-kind last r le lt plain = grind (arith, cases_Bool, one-true, plain-from, same_side-some)
 
 pub length-kinds : (last : ℕ) (rs : List TimedNeed) → AllByRecursion (λ r. r.issue ≤ last) rs → AllByRecursion (λ r. last < r.done) rs → AllByRecursion (λ r. IsTrue (is_plain r.need) → r.done ≡ r.issue + 1) rs →
     length rs ≤ count_by (λ r. r.need.request) rs + count_by (λ r. r.need.slow) rs + count_by (λ r. r.need.barrier) rs + count_by (at_side Reg last) rs + count_by (at_side Mem last) rs + count_by (at_side Ctl last) rs
@@ -144,10 +122,7 @@ abbrev pub placed_at : Need → ℕ → ℕ → TimedNeed
 placed_at n t d = record { need = n; issue = t; done = d }
 
 pub plain-done : (rs : List TimedNeed) (n : Need) (t : ℕ) → HasCost n → IsTrue (is_plain n) → done_turn rs n t ≡ t + 1
-plain-done rs n t c h =
-    let none = or_parts (n.request || n.slow) n.barrier (not-true (n.request || n.slow || n.barrier) h) in
-    let no_request = (or_parts n.request n.slow none.0).0 in
-    omega (arith, cond-false n.request (max t (last_request rs)) t no_request, c.plain h)
+plain-done rs n t c h = grind (arith, or_parts, not-true, cond-false)
 
 pub next-requests : (last : ℕ) (rs : List TimedNeed) (n : Need) (t d : ℕ) → Fits last rs → CanIssue last rs n t → count_by (λ r. r.need.request) (placed_at n t d ∷ open_at t rs) ≤ 3
 next-requests last rs n t d f can =

@@ -1,10 +1,10 @@
 -- All that a record plans that enters a frame: the frame pointer, and then the locals and what is left.
-use Rattle.std.proofs.Common.{◌≡◌, ℕ, ◌+◌, ◌<◌, ◌≤◌, Bool, true, false, cond, eqb, List, [], ◌∷◌, refl, sym, ap, ◌∙◌, subst, arith}
+use Rattle.std.proofs.Common.{◌≡◌, ℕ, ◌+◌, ◌<◌, ◌≤◌, Bool, false, cond, eqb, List, [], ◌∷◌, refl, sym, ap, ◌∙◌, arith}
 use Rattle.std.specs.Prelude.{unwrap_or}
 use Rattle.std.specs.Int.{bit_at, IsBitSet}
 use Rattle.std.proofs.lemmas.Bool.Decides.{nat_tests}
 use Rattle.i9_isa.specs.declared.resources.TheConstants.{CONDITION_CODE, FRAME_POINTER}
-use Rattle.i9_model.specs.Late.{resources, latest}
+use Rattle.i9_model.specs.Late.{resources}
 use Rattle.i9_model.specs.Writes.{written, pairs_at, last_put}
 use Rattle.i9_model.specs.State.{frame_sets}
 use Rattle.i9_model.proofs.SetLaws.{set-one, one-set}
@@ -33,12 +33,7 @@ out_frame r apart = grind (arith, nat_tests, apart)
 -- the locals are left
 pub left_locals : (left writes n : ℕ) → n ≤ 16 → ((r : ℕ) → r < 64 → bit_at left r ≡ rest_bit 31 1 writes r)
     → ((k : ℕ) → k < 16 → IsBitSet writes k) → (k : ℕ) → k < n → IsBitSet left (0 + k)
-left_locals left writes n most bits locals k within =
-    let low : k < 16 = omega (arith, most, within) in
-    let place : k ≡ 0 + k = omega arith in
-    let out = out_frame k (λ e. omega (arith, low, e)) in
-    let same = bits k (omega (arith, low)) ∙ rest_out 31 1 writes k out in
-    subst (IsBitSet left) place (one-set left k (same ∙ set-one writes k (locals k low)))
+left_locals left writes n most bits locals k within = grind (arith, out_frame, rest_out, one-set, set-one)
 
 module _ (olds ones news : File) (writes left done : ℕ) (locals : List ℕ) (frame code : ℕ)
     (frames : IsBitSet writes FRAME_POINTER)
@@ -56,33 +51,15 @@ module _ (olds ones news : File) (writes left done : ℕ) (locals : List ℕ) (f
 
   other_issued : (r : ℕ) → r < resources → (r ≡ 31 → ⊥)
       → cell_in news r ≡ issued_over writes done r (issued_value olds 0 locals code r) (cell_in olds r)
-  other_issued r few apart =
-      let old = cell_in olds r in
-      let out = out_frame r apart in
-      let kept = group r ∙ planned_out 31 1 (frame ∷ []) done r old out in
-      let bit = bits r (omega (arith, few)) ∙ rest_out 31 1 writes r out in
-      let same = same_at (latest_of ones) (latest_of olds) (locals_of locals) r (ap latest kept) in
-      let value = ap (cond (eqb r CONDITION_CODE) code) same in
-      all r few
-      ∙ ap (λ (v : ℕ). issued_over left done r v (cell_in ones r)) value
-      ∙ ap (issued_over left done r (issued_value olds 0 locals code r)) kept
-      ∙ issued_same left writes done r (issued_value olds 0 locals code r) old bit
+  other_issued r few apart = grind (arith, out_frame, planned_out, rest_out, same_at, issued_same)
 
   abbrev value_by : ℕ → Bool → ℕ
   value_by r b = cond (eqb r CONDITION_CODE) code (cond b frame (written (latest_of olds) (locals_of locals) r))
 
   by_pointer : (r : ℕ) (b : Bool) → r < resources → eqb r FRAME_POINTER ≡ b
       → cell_in news r ≡ issued_over writes done r (value_by r b) (cell_in olds r)
-  by_pointer r true few is =
-      let same : r ≡ 31 = grind (arith, nat_tests, is) in
-      ap (cell_in news) same
-      ∙ pointer_issued
-      ∙ ap (λ (k : ℕ). issued_over writes done k (value_by k true) (cell_in olds k)) (sym same)
-  by_pointer r false few is = other_issued r few (λ same. grind (arith, nat_tests, is, same))
+  by_pointer r b few is = grind (arith, nat_tests, pointer_issued, other_issued)
 
   pub frame_issued : (r : ℕ) → r < resources
       → cell_in news r ≡ issued_over writes done r (framed_value olds locals frame code r) (cell_in olds r)
-  frame_issued r few =
-      let value = sym (frame_last (latest_of olds) locals frame r) in
-      by_pointer r (eqb r FRAME_POINTER) few refl
-      ∙ ap (λ (v : ℕ). issued_over writes done r (cond (eqb r CONDITION_CODE) code v) (cell_in olds r)) value
+  frame_issued r few = grind (arith, frame_last, by_pointer)

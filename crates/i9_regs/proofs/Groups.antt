@@ -12,13 +12,11 @@ use Rattle.i9_regs.specs.File.{cell_in, in_group, with_plan, planned_cell, rest_
 
 pub planned_in : (register n : ℕ) (values : List ℕ) (done r : ℕ) (c : Cell) → in_group register n r ≡ true
     → planned_cell register n values done r c ≡ with_plan (slice_index values (r - register)) done c
-planned_in register n values done r c =
-    ap (λ (b : Bool). cond b (with_plan (slice_index values (r - register)) done c) c)
+planned_in register n values done r c = grind arith
 
 pub planned_out : (register n : ℕ) (values : List ℕ) (done r : ℕ) (c : Cell) → in_group register n r ≡ false
     → planned_cell register n values done r c ≡ c
-planned_out register n values done r c =
-    ap (λ (b : Bool). cond b (with_plan (slice_index values (r - register)) done c) c)
+planned_out register n values done r c = grind arith
 
 pub rest_in : (register n writes r : ℕ) → in_group register n r ≡ true → rest_bit register n writes r ≡ 0
 rest_in register n writes r = ap (λ (b : Bool). cond b 0 (bit_at writes r))
@@ -56,33 +54,15 @@ module _ (olds ones news : File) (register k : ℕ) (values : List ℕ) (done : 
     (others : (r : ℕ) → (r ≡ register + k → ⊥) → cell_in news r ≡ cell_in ones r) where
   planned_here : cell_in news (register + k)
       ≡ planned_cell register (k + 1) values done (register + k) (cell_in olds (register + k))
-  planned_here =
-      let at = register + k in
-      let old = cell_in olds at in
-      let place : at - register ≡ k = omega arith in
-      let kept : cell_in ones at ≡ old = are at ∙ planned_out register k values done at old (here_not register k) in
-      here
-      ∙ ap (with_plan (slice_index values k) done) kept
-      ∙ ap (λ (j : ℕ). with_plan (slice_index values j) done old) (sym place)
-      ∙ sym (planned_in register (k + 1) values done at old (here_more register k))
+  planned_here = grind (arith, planned_out, here_not, planned_in, here_more)
 
   planned_there : (r : ℕ) → (r ≡ register + k → ⊥) → cell_in news r
       ≡ planned_cell register (k + 1) values done r (cell_in olds r)
-  planned_there r apart =
-      let old = cell_in olds r in
-      others r apart
-      ∙ are r
-      ∙ sym (ap (λ (b : Bool). cond b (with_plan (slice_index values (r - register)) done old) old)
-      (other_more register k r apart))
+  planned_there r apart = grind (arith, other_more)
 
   planned_at : (r : ℕ) (b : Bool) → eqb r (register + k) ≡ b → cell_in news r
       ≡ planned_cell register (k + 1) values done r (cell_in olds r)
-  planned_at r true t =
-      let same : r ≡ register + k = grind (arith, nat_tests, t) in
-      ap (cell_in news) same
-      ∙ planned_here
-      ∙ ap (λ (j : ℕ). planned_cell register (k + 1) values done j (cell_in olds j)) (sym same)
-  planned_at r false t = planned_there r (λ same. grind (arith, nat_tests, t, same))
+  planned_at r b t = grind (arith, nat_tests, planned_here, planned_there)
 
   pub one_planned : (r : ℕ) → cell_in news r ≡ planned_cell register (k + 1) values done r (cell_in olds r)
   one_planned r = planned_at r (eqb r (register + k)) refl

@@ -35,10 +35,7 @@ amended_none writes done r v c = ap (λ (n : ℕ). cond (eqb n 1) (cell c.value 
 
 -- a bit that is not set is 0
 pub cases_bit : (n k : ℕ) → (bit_at n k ≡ 1) ⊎ (bit_at n k ≡ 0)
-cases_bit n k = elim (cases_lt 0 (bit_at n k)) [
-  | inl some ↦ inl (omega (arith, bit_at-lt n k))
-  | inr none ↦ inr (omega arith)
-]
+cases_bit n k = grind (arith, cases_lt, bit_at-lt)
 
 -- where each has the value before that it had, what is planned is planned over what was
 module _ (olds mids news : File) (writes done : ℕ) (value : ℕ → ℕ)
@@ -46,20 +43,7 @@ module _ (olds mids news : File) (writes done : ℕ) (value : ℕ → ℕ)
     (keeps : (r : ℕ) → (cell_in news r).value ≡ (cell_in olds r).value)
     (plans : (r : ℕ) → (cell_in news r).plan ≡ (cell_in mids r).plan) where
   pub amended : (r : ℕ) → r < resources → cell_in news r ≡ issued_cell writes done r (value r) (cell_in olds r)
-  amended r few =
-      let whole : cell_in news r ≡ cell (cell_in olds r).value (cell_in mids r).plan = λ i. cell (keeps r i) (plans r i) in
-      elim (cases_bit writes r) [
-        | inl one ↦
-            whole
-            ∙ ap (λ (c : Cell). cell (cell_in olds r).value c.plan)
-            (all r few ∙ issued_one writes done r (value r) (cell_in olds r) one)
-            ∙ sym (amended_one writes done r (value r) (cell_in olds r) one)
-        | inr none ↦
-            whole
-            ∙ ap (λ (c : Cell). cell (cell_in olds r).value c.plan)
-            (all r few ∙ issued_none writes done r (value r) (cell_in olds r) none)
-            ∙ sym (amended_none writes done r (value r) (cell_in olds r) none)
-      ]
+  amended r few = grind (arith, cases_bit, issued_one, amended_one, issued_none, amended_none)
 
 -- no register is left
 low_clear : (n r : ℕ) → n % 2 ^ 32 ≡ 0 → r < 32 → bit_at n r ≡ 0
@@ -77,10 +61,7 @@ pub set_bit : (n r : ℕ) → bit_and (n / 2 ^ r) 1 ≡ 1 → bit_at n r ≡ 1
 set_bit n r one = sym (shr_and_one n r) ∙ one
 
 pub clear_bit : (n r : ℕ) → (bit_and (n / 2 ^ r) 1 ≡ 1 → ⊥) → bit_at n r ≡ 0
-clear_bit n r none =
-    let low = bit_at-lt n r in
-    let other : bit_at n r ≡ 1 → ⊥ = λ one. none (shr_and_one n r ∙ one) in
-    omega (arith, low, other)
+clear_bit n r none = grind (arith, bit_at-lt, shr_and_one)
 
 -- one resource more keeps its latest value, where it is in the set
 module _ (olds ones news : File) (left done r : ℕ)
@@ -90,16 +71,7 @@ module _ (olds ones news : File) (left done r : ℕ)
     (others : (k : ℕ) → (k ≡ r → ⊥) → cell_in news k ≡ cell_in ones k) where
   below_at : (k : ℕ) (b : Bool) → eqb k r ≡ b → k < r + 1
       → cell_in news k ≡ issued_over left done k (latest_of olds k) (cell_in olds k)
-  below_at k true is low =
-      let same : k ≡ r = grind (arith, nat_tests, is) in
-      let kept = above r (omega arith) in
-      ap (cell_in news) same
-      ∙ here
-      ∙ ap (λ (c : Cell). issued_over left done r (latest c) c) kept
-      ∙ ap (λ (j : ℕ). issued_over left done j (latest_of olds j) (cell_in olds j)) (sym same)
-  below_at k false is low =
-      let apart : k ≡ r → ⊥ = λ same. grind (arith, nat_tests, is, same) in
-      others k apart ∙ below k (omega (arith, low, apart))
+  below_at k b is low = grind (arith, nat_tests)
 
   pub below_more : (k : ℕ) → k < r + 1
       → cell_in news k ≡ issued_over left done k (latest_of olds k) (cell_in olds k)
@@ -155,10 +127,7 @@ module _ (olds ones twos news : File) (writes left done register : ℕ) (values 
 
   -- the condition code is in no group
   code_issued : cell_in news 32 ≡ issued_over writes done 32 code (cell_in olds 32)
-  code_issued =
-      let out : in_group register (length values) 32 ≡ false = grind (arith, nat_tests, range) in
-      let kept = rest_code ∙ group 32 ∙ planned_out register (length values) values done 32 (cell_in olds 32) out in
-      last_code ∙ ap (issued_over writes done 32 code) kept
+  code_issued = grind (arith, nat_tests, planned_out)
 
   in_issued : (r : ℕ) → r < 32 → in_group register (length values) r ≡ true
       → cell_in news r ≡ issued_over writes done r (new_value r) (cell_in olds r)
@@ -181,16 +150,7 @@ module _ (olds ones twos news : File) (writes left done register : ℕ) (values 
 
   out_issued : (r : ℕ) → r < 32 → in_group register (length values) r ≡ false
       → cell_in news r ≡ issued_over writes done r (new_value r) (cell_in olds r)
-  out_issued r low out =
-      let old = cell_in olds r in
-      let bit = bits r (omega (arith, low)) ∙ rest_out register (length values) writes r out in
-      let kept = group r ∙ planned_out register (length values) values done r old out in
-      let value = written_out (latest_of olds) register values r out in
-      last r low
-      ∙ rest r low
-      ∙ ap (λ (c : Cell). issued_over left done r (latest c) c) kept
-      ∙ issued_same left writes done r (latest old) old bit
-      ∙ ap (λ (v : ℕ). issued_over writes done r v old) (sym value)
+  out_issued r low out = grind (arith, rest_out, planned_out, written_out, issued_same)
 
   register_issued : (r : ℕ) → r < 32
       → cell_in news r ≡ issued_over writes done r (new_value r) (cell_in olds r)
@@ -201,12 +161,7 @@ module _ (olds ones twos news : File) (writes left done register : ℕ) (values 
 
   by_code : (r : ℕ) (b : Bool) → r < 33 → eqb r 32 ≡ b
       → cell_in news r ≡ issued_over writes done r (cond b code (new_value r)) (cell_in olds r)
-  by_code r true few is =
-      let same : r ≡ 32 = grind (arith, nat_tests, is) in
-      ap (cell_in news) same
-      ∙ code_issued
-      ∙ ap (λ (k : ℕ). issued_over writes done k code (cell_in olds k)) (sym same)
-  by_code r false few is = register_issued r (grind (arith, nat_tests, is, few))
+  by_code r b few is = grind (arith, nat_tests, code_issued, register_issued)
 
   pub all_issued : (r : ℕ) → r < resources
       → cell_in news r ≡ issued_over writes done r (issued_value olds register values code r) (cell_in olds r)
@@ -229,8 +184,7 @@ module _ (olds news : File) (writes left done register : ℕ) (values : List ℕ
     (group : (r : ℕ) → cell_in news r ≡ planned_cell register (length values) values done r (cell_in olds r))
     (bits : (r : ℕ) → r < 64 → bit_at left r ≡ rest_bit register (length values) writes r) where
   beside : (r : ℕ) → r < 64 → (r ≡ register → ⊥) → bit_at writes r ≡ 0
-  beside r few apart =
-      ap (λ (n : ℕ). bit_at n r) lone ∙ other_bit register r (omega (arith, range)) few apart
+  beside r few apart = grind (arith, other_bit)
 
   none_left : (r : ℕ) → r < 32 → bit_at left r ≡ 0
   none_left r low =

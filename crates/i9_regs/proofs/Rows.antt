@@ -16,11 +16,7 @@ row_in : (row rest : List ℕ) (n r : ℕ) → length row ≡ n → r < n → sl
 row_in row rest n r size low = get_or_append_left row rest 0 r (omega (arith, size, low))
 
 row_out : (row xs : List ℕ) (n r : ℕ) → length row ≡ n → n ≤ r → slice_index (row ++ drop n xs) r ≡ slice_index xs r
-row_out row xs n r size high =
-    let place : n + (r - n) ≡ r = omega (arith, high) in
-    get_or-append_right row (drop n xs) n r 0 size high
-    ∙ get_or-drop n xs (r - n) 0
-    ∙ ap (slice_index xs) place
+row_out row xs n r size high = grind (arith, get_or-append_right, get_or-drop)
 
 module _ (old new : File) (locals : List ℕ) (done : ℕ)
     (size : length locals ≡ 16)
@@ -65,16 +61,10 @@ module _ (old new : File) (locals : List ℕ) (done : ℕ)
       ∙ ap (λ (t : ℕ). cell (slice_index old.before r) (Some (slice_index old.latest r, t))) then
 
   sixteen_planned : (r : ℕ) → cell_in new r ≡ planned_cell 0 16 locals done r (cell_in old r)
-  sixteen_planned r = elim (cases_lt r 16) [
-    | inl low ↦
-        row_low r low ∙ sym (planned_in 0 16 locals done r (cell_in old r) (grind (arith, nat_tests, low)))
-    | inr high ↦
-        row_high r high ∙ sym (planned_out 0 16 locals done r (cell_in old r) (grind (arith, nat_tests, high)))
-  ]
+  sixteen_planned r = grind (arith, cases_lt, row_low, planned_in, nat_tests, row_high, planned_out)
 
   pub row_planned : (r : ℕ) → cell_in new r ≡ planned_cell 0 (length locals) locals done r (cell_in old r)
-  row_planned r =
-      sixteen_planned r ∙ ap (λ (n : ℕ). planned_cell 0 n locals done r (cell_in old r)) (sym size)
+  row_planned r = grind (arith, sixteen_planned)
 
 -- no value yet
 pub zero_at : (n r : ℕ) → slice_index (replicate n 0) r ≡ 0

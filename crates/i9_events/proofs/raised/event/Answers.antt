@@ -1,18 +1,13 @@
-use Rattle.std.proofs.Common.{None, sym, arith}
+use Rattle.std.proofs.Common.{None, arith}
 use Rattle.i9_model.specs.Tracing.{has_match}
 use Rattle.i9_events.proofs.Events.{not_enabled, modes_are, flags_of_modes, counted_small, not_raised, made_is, raised_made, trace_gains, trace_none}
 use Rattle.i9_events.proofs.raised.event.Goals as goal
 
 pub returns-then-not-has_bit-clause-trace : goal.returns-then-not-has_bit-clause-trace
-returns-then-not-has_bit-clause-trace c =
-    not_enabled c.args.tc c.args.pc c.args.i.now c.args.s.now c.args.b.now (sym c.if-not-has_bit.ensures)
+returns-then-not-has_bit-clause-trace c = grind (arith, not_enabled)
 
 pub returns-then-counting-eq0-clause-trace : goal.returns-then-counting-eq0-clause-trace
-returns-then-counting-eq0-clause-trace c =
-    let i = c.args.i.now in
-    let s = c.args.s.now in
-    let b = c.args.b.now in
-    not_raised c.args.tc c.args.pc i s b _ (modes_are c.args.tc c.args.pc i s b _ _ _ c.break_flags-breakpoints.ensures c.coming_modes.ensures c.forced_modes.ensures) c.if-counting-eq0.true
+returns-then-counting-eq0-clause-trace c = grind (arith, not_raised, modes_are)
 
 pub returns-then-counting-eq0-clause-none : goal.returns-then-counting-eq0-clause-none
 returns-then-counting-eq0-clause-none c =
@@ -28,13 +23,7 @@ overflow_cast-result c =
     omega (arith, modes, small)
 
 pub returns-clause-trace : goal.returns-clause-trace
-returns-clause-trace c =
-    let i = c.args.i.now in
-    let s = c.args.s.now in
-    let b = c.args.b.now in
-    let modes = modes_are c.args.tc c.args.pc i s b c.break_flags-breakpoints.result c.coming_modes.result c.forced_modes.result c.break_flags-breakpoints.ensures c.coming_modes.ensures c.forced_modes.ensures in
-    let flags = flags_of_modes c.args.tc c.args.pc i s b c.break_flags-breakpoints.result c.coming_modes.result c.break_flags-breakpoints.ensures c.coming_modes.ensures in
-    raised_made c.args.tc c.args.pc i s b _ _ (sym c.if-not-has_bit.ensures) modes c.if-counting-eq0.false (made_is c.args.tc c.args.pc i s b _ _ _ flags c.break_flags-breakpoints.ensures modes)
+returns-clause-trace c = grind (arith, modes_are, flags_of_modes, raised_made, made_is)
 
 pub returns-clause-none : goal.returns-clause-none
 returns-clause-none c = trace_none c.args.tc c.args.pc c.args.i.now c.args.s.now c.args.b.now _ (returns-clause-trace c)

@@ -2,7 +2,7 @@ use Rattle.std.proofs.Common.{◌≡◌, ◌<◌, ◌≤◌, true, subst, arith}
 use Rattle.i9_model.specs.Interrupts.{line_vector}
 use Rattle.i9_ints.specs.Ints.{interrupts_of}
 use Rattle.i9_ints.specs.Best.{is_ready, IsBestLine}
-use Rattle.i9_ints.proofs.BestLines.{best_kept, best_stays, best_changes, best_first}
+use Rattle.i9_ints.proofs.BestLines.{best_kept, best_stays, best_changes}
 use Rattle.i9_ints.proofs.state.Ints.better.Goals as goal
 
 pub returns-then-not-is_ready : goal.returns-then-not-is_ready
@@ -24,8 +24,4 @@ returns-in_default c =
     best_changes s c.args.pc c.args.k c.in-Some.b best ready less
 
 pub returns-in_default-2 : goal.returns-in_default-2
-returns-in_default-2 c =
-    let s = interrupts_of c.args.self.now in
-    let none = subst (IsBestLine s c.args.pc c.args.k) c.in_default.is c.requires.best in
-    let ready : is_ready s c.args.pc c.args.k ≡ true = cc in
-    best_first s c.args.pc c.args.k none ready
+returns-in_default-2 c = grind arith

@@ -34,10 +34,7 @@ early : (c : After-keep_open-kept) → IsEarly (before c) c.args.n.now
 early c = subst (λ (p : Pending). IsEarly p c.args.n.now) (sym c.self.view_is) c.requires.early
 
 done_is : (c : After-keep_open-kept) → c.done_turn-done.result ≡ done_turn (before c).records c.args.n.now c.args.issue
-done_is c =
-    let n = c.args.n.now in
-    let t = c.args.issue in
-    c.done_turn-done.ensures ∙ ap (λ (m : ℕ). cond n.request m t + n.cost) (request-turn c.self.inside.last t c.self.inside.asked (before c).records (issues c).can.in_order c.self.invariant.request)
+done_is c = grind (arith, request-turn, issues)
 
 fits_after : (c : After-keep_open-kept) → Fits c.args.issue (open_after c)
 fits_after c = place-fits (before c) c.args.n.now c.args.issue c.done_turn-done.result c.self.invariant.fits c.requires.cost (issues c) (done_is c)
@@ -121,10 +118,7 @@ invariant_of-self c =
     subst (λ (xs : List TimedNeed). Holds c.args.issue until asked (p.keep_open-kept.result + 1) xs) (sym written) (holds_after p until asked c.max-self-inside.ensures c.asked_until-self-inside.ensures)
 
 pub returns-clause-after : goal.returns-clause-after
-returns-clause-after c =
-    let p = (goal.at.returns-clause-after c).After-keep_open-kept in
-    let written : c.put.new.records ≡ places_after p = c.put.ensures in
-    ap (open_by p) written ∙ after_is p
+returns-clause-after c = grind (arith, after_is)
 
 pub returns-clause-of_all : goal.returns-clause-of_all
 returns-clause-of_all c rs s =
