@@ -1,87 +1,32 @@
 -- The events of a schedule are in range, in order, and not too many.
-use Rattle.std.proofs.Common.{◌≡◌, ℕ, ◌-◌, ◌*◌, ◌<◌, ◌≤◌, Bool, true, false, cond, ltb, List, [], ◌∷◌, ◌++◌, length, Option, Some, None, Result, Ok, Err, refl, sym, ap, subst, ◌∙◌, arith, inl, inr, ◌⊎◌, length-append, ◌||◌, ◌==◌}
-use Rattle.std.specs.Option.{option_and_then}
-use Rattle.std.specs.Result.{result_ok}
+use Rattle.std.proofs.Common.{◌≡◌, ℕ, ◌-◌, ◌<◌, ◌≤◌, Bool, List, [], ◌∷◌, ◌++◌, length, Option, Some, None, refl, sym, ap, subst, ◌∙◌, arith, length-append}
 use Rattle.std.specs.List.{slice_get, AllByRecursion}
-use Rattle.std.proofs.lemmas.Bool.{ltb-false, le-ltb, cases_lt}
-use Rattle.hex.specs.Hex.{decode_of, IsBytes}
 use Rattle.hex.proofs.HexLemmas.{decode_of-ok}
-use Rattle.i9_text.specs.Text.{number_of}
 use Rattle.i9_text.specs.FirstFault.{SaysAll}
-use Rattle.i9_model.specs.Events.{Words, within, number_in, bytes_in, IsInRange, IsUnit, IsEvent, is_pin, is_low, is_high, is_nmi, is_dma, is_feed, is_show, last_pin, last_channel, last_address, most_shown}
-use Rattle.i9_model.specs.ScheduleText.{last_count, last_turn, most_events, earlier_fault, order_fault, fault_after, fault_of_count, first_fault, levels_version, IsVersion, IsOfVersion, AreOfVersion, version_in, SoFar, nothing_yet, Contents, Says, says_nothing, says_version, says_event, IsTimed, is_at, is_turn, IsSchedule, time_of, at_time, is_counted, AreCounted, IsTimedInRange, InOrder, IsPlan}
+use Rattle.i9_model.specs.Events.{Words, number_in, bytes_in}
+use Rattle.i9_model.specs.ScheduleText.{most_events, order_fault, fault_after, fault_of_count, first_fault, levels_version, IsVersion, IsOfVersion, AreOfVersion, version_in, SoFar, Contents, Says, says_nothing, says_version, says_event, IsTimed, IsSchedule, time_of, at_time, is_counted, AreCounted, IsTimedInRange, InOrder, IsPlan}
 use Rattle.i9_model.specs.declared.event.Event.{Event}
-use Rattle.i9_model.specs.declared.event.Event.TheVariants.{Low, High}
 use Rattle.i9_model.specs.declared.event.When.{When}
-use Rattle.i9_model.specs.declared.event.When.TheVariants.{At, Turn}
 use Rattle.i9_model.specs.declared.event.Timed.{Timed}
 
 -- ---- what is read is in range
 
-within_some : (low high m n : ℕ) (a b : Bool) → ltb m low ≡ a → ltb high m ≡ b → within low high m ≡ Some n → (low ≤ n) × (n ≤ high)
-within_some low high m n true b e f h = absurd (cc (rw e at h))
-within_some low high m n false true e f h = absurd (cc (rw (e, f) at h))
-within_some low high m n false false e f h =
-    let same : m ≡ n = cc (rw (e, f) at h) in
-    (omega (arith, same, ltb-false _ _ e), omega (arith, same, ltb-false _ _ f))
-
-number_within : (low high n : ℕ) (o : Option ℕ) → option_and_then (within low high) o ≡ Some n → (low ≤ n) × (n ≤ high)
-number_within low high n None h = absurd cc
-number_within low high n (Some m) h = within_some low high m n _ _ refl refl h
-
 pub in_range : (radix most low high n : ℕ) (word : List ℕ) → number_in radix most low high word ≡ Some n → (low ≤ n) × (n ≤ high)
 unfolding number_in
-in_range radix most low high n word h = number_within low high n (number_of radix most word) h
-
-feed_cases : (n : ℕ) → (n == 2 || n == 4 || n == 8 || n == 32) ≡ true → ((n ≡ 2) ⊎ (n ≡ 4)) ⊎ ((n ≡ 8) ⊎ (n ≡ 32))
-feed_cases n h = grind (arith)
-
-feed_length : (n m : ℕ) → ((m ≡ 2) ⊎ (m ≡ 4)) ⊎ ((m ≡ 8) ⊎ (m ≡ 32)) → m ≡ 2 * n → IsUnit n
-feed_length n m digits len = grind arith
-
-ok_some : {A E : Type 0} (r : Result A E) (x : A) → result_ok r ≡ Some x → r ≡ Ok x
-ok_some (Ok y) x h = let e : y ≡ x = cc in ap Ok e
-ok_some (Err e) x h = absurd cc
-
-bytes_read : (word bs : List ℕ) (b : Bool) → (length word == 2 || length word == 4 || length word == 8 || length word == 32) ≡ b → cond b (result_ok (decode_of word)) None ≡ Some bs → IsUnit (length bs) × IsBytes bs
-bytes_read word bs false test h = absurd cc
-bytes_read word bs true test h =
-    let d = decode_of-ok word bs (ok_some (decode_of word) bs h) in
-    (feed_length (length bs) (length word) (feed_cases (length word) test) d.2, d.3)
-
-bytes_in-range : (word bs : List ℕ) → bytes_in word ≡ Some bs → IsUnit (length bs) × IsBytes bs
-unfolding bytes_in
-bytes_in-range word bs h = bytes_read word bs _ refl h
-
-event_in_range : (version : ℕ) (name : List ℕ) (ws : Words) (e : Event) → IsEvent version name ws e → IsInRange e
-event_in_range version name ws e (is_pin x n h) = (in_range 10 10 0 last_pin n x h).1
-event_in_range version name ws e (is_low x n levels h) = (in_range 10 10 0 last_pin n x h).1
-event_in_range version name ws e (is_high x n levels h) = (in_range 10 10 0 last_pin n x h).1
-event_in_range version name ws e is_nmi = tt
-event_in_range version name ws e (is_dma c n h) = (in_range 10 10 0 last_channel n c h).1
-event_in_range version name ws e (is_feed c x n bs h g) = let b = bytes_in-range x bs g in ((in_range 10 10 0 last_channel n c h).1, b.0, b.1)
-event_in_range version name ws e (is_show a l m n h g) = let b = in_range 10 10 1 most_shown n l g in ((in_range 16 8 0 last_address m a h).1, b.0, b.1)
+in_range radix most low high n word h = grind arith
 
 timed_in_range : (version : ℕ) (ws : Words) (t : Timed) → IsTimed version ws t → IsTimedInRange t
-timed_in_range version ws t (is_at k name operands n e h is) = record { time = (in_range 10 13 0 last_count n k h).1; event = event_in_range version name operands e is }
-timed_in_range version ws t (is_turn k name operands n e h is) = record { time = (in_range 10 13 0 last_turn n k h).1; event = event_in_range version name operands e is }
+unfolding bytes_in
+timed_in_range version ws t h = grind (arith, in_range, decode_of-ok)
 
 -- ---- and of its version
 
-event_of_version : (version : ℕ) (name : List ℕ) (ws : Words) (e : Event) → IsEvent version name ws e → IsOfVersion version e
-event_of_version version name ws e (is_low x n levels h) = levels
-event_of_version version name ws e (is_high x n levels h) = levels
-event_of_version version name ws e _ = tt
-
 timed_of_version : (version : ℕ) (ws : Words) (t : Timed) → IsTimed version ws t → IsOfVersion version t.event
-timed_of_version version ws t (is_at k name operands n e h is) = event_of_version version name operands e is
-timed_of_version version ws t (is_turn k name operands n e h is) = event_of_version version name operands e is
+timed_of_version version ws t h = grind arith
 
 -- the version of levels has all events
 levels_have : (version : ℕ) (e : Event) → IsOfVersion version e → IsOfVersion levels_version e
-levels_have version (Low x) h = refl
-levels_have version (High x) h = refl
-levels_have version _ h = tt
+levels_have version e h = grind arith
 
 levels_have_all : (version : ℕ) (ts : List Timed) → AreOfVersion version ts → AreOfVersion levels_version ts
 levels_have_all version [] h = tt
@@ -113,30 +58,16 @@ last_at : (x : Timed) (ts : List Timed) (y : Timed) → slice_get (x ∷ ts) (le
 last_at x ts y h = let e : length (x ∷ ts) - 1 ≡ length ts = omega arith in ap (slice_get (x ∷ ts)) e ∙ h
 
 order_times : (w v : When) → is_counted w ≡ is_counted v → at_time w ≤ at_time v → order_fault w v ≡ None
-order_times (At m) (At n) same h = rw (le-ltb _ _ h) refl
-order_times (Turn m) (Turn n) same h = rw (le-ltb _ _ h) refl
-order_times _ _ same h = absurd (cc same)
-
-number_order : (m n : ℕ) → earlier_fault m n ≡ None → m ≤ n
-number_order m n h = elim (cases_lt n m) [
-  | inl lt ↦ absurd (grind (arith))
-  | inr ge ↦ ge
-]
+order_times w v same h = grind arith
 
 times_order : (w v : When) → order_fault w v ≡ None → (at_time w ≤ at_time v) × (is_counted v ≡ is_counted w)
-times_order (At m) (At n) h = (number_order m n h, refl)
-times_order (Turn m) (Turn n) h = (number_order m n h, refl)
-times_order _ _ h = absurd (cc h)
+times_order w v h = grind arith
 
 first_none : (a b : Option ℕ) → first_fault a b ≡ None → (a ≡ None) × (b ≡ None)
-first_none None b h = (refl, h)
-first_none (Some k) b h = absurd cc
+first_none a b h = grind arith
 
 few_none : (n : ℕ) → fault_of_count n ≡ None → n < most_events
-few_none n h = elim (cases_lt n most_events) [
-  | inl lt ↦ lt
-  | inr ge ↦ absurd (grind (arith))
-]
+few_none n h = grind arith
 
 few_fine : (n : ℕ) → n < most_events → fault_of_count n ≡ None
 few_fine n h = grind (arith)
@@ -195,11 +126,7 @@ record MayBegin (s : SoFar) : Type 0 where
 
 line_begins : (s u : SoFar) (line : List ℕ) → Says s line u → MayBegin s → MayBegin u
 line_begins s u line (says_nothing x l ascii skipped) may = may
-line_begins s u line (says_version x l ascii some none is) may = record {
-  plan = may.plan;
-  version = inr refl;
-  of_version = levels_have_all (version_in x.version) x.events may.of_version;
-}
+line_begins s u line (says_version x l ascii some none is) may = grind (arith, levels_have_all)
 line_begins s u line (says_event x l t ascii some is fine) may =
     let f = fine_follows x.events t fine in
     let c = fine_alike x.events t may.plan.alike.0 fine may.plan.alike.1 in
@@ -220,19 +147,13 @@ lines_begin s u (line ∷ lines) h may = lines_begin h.0 u lines h.2 (line_begin
 
 -- what a schedule's lines say
 schedule_begins : (lines : List (List ℕ)) (c : Contents) (h : IsSchedule lines c) → MayBegin h.0
-schedule_begins lines c h = lines_begin nothing_yet h.0 lines h.1 (record {
-  plan = record { each = tt; order = tt; few = omega arith; alike = (true, tt) };
-  version = inl refl;
-  of_version = tt;
-})
+schedule_begins lines c h = grind (arith, lines_begin)
 
 pub schedule_is_plan : (lines : List (List ℕ)) (c : Contents) → IsSchedule lines c → IsPlan c.events
 schedule_is_plan lines c h = subst (λ (x : Contents). IsPlan x.events) h.2 (schedule_begins lines c h).plan
 
 pub schedule_of_version : (lines : List (List ℕ)) (c : Contents) → IsSchedule lines c → IsVersion c.version × AreOfVersion c.version c.events
-schedule_of_version lines c h =
-    let may = schedule_begins lines c h in
-    subst (λ (x : Contents). IsVersion x.version × AreOfVersion x.version x.events) h.2 (may.version, may.of_version)
+schedule_of_version lines c h = grind (arith, lines_begin)
 
 -- ---- the front of a plan is one
 
@@ -249,9 +170,4 @@ front_alike b [] us h = tt
 front_alike b (t ∷ ts) us h = (h.0, front_alike b ts us h.1)
 
 pub front_is_plan : (ts us : List Timed) → IsPlan (ts ++ us) → IsPlan ts
-front_is_plan ts us h = record {
-  each = front_each ts us h.each;
-  order = front_order 0 ts us h.order;
-  few = omega (arith, h.few, length-append ts us);
-  alike = (h.alike.0, front_alike h.alike.0 ts us h.alike.1);
-}
+front_is_plan ts us h = grind (arith, front_each, front_order, length-append, front_alike)

@@ -1,9 +1,8 @@
 -- A journal's line says its event at its count.
-use Rattle.std.proofs.Common.{◌≡◌, ℕ, suc, ◌*◌, ◌^◌, ◌<◌, ◌≤◌, true, false, ltb, eqb, List, [], ◌∷◌, length, Option, None, Some, Ok, refl, arith, lit<, lit≤, get_or, ◌==◌, ◌||◌}
+use Rattle.std.proofs.Common.{◌≡◌, ℕ, suc, ◌^◌, ◌<◌, ◌≤◌, true, false, List, [], ◌∷◌, length, Option, Some, Ok, refl, arith, lit<, lit≤}
 use Rattle.std.specs.List.{join_with_byte, AllByRecursion}
 use Rattle.std.specs.Fmt.{decimal}
 use Rattle.std.proofs.lemmas.Bool.{le-ltb}
-use Rattle.std.proofs.Math.Dec.{eqb-suc-zero}
 use Rattle.hex.specs.Hex.{encode_upper, upper_digits, IsBytes}
 use Rattle.hex.proofs.HexLemmas.{decode_of-encode_upper, length-encode_with}
 use Rattle.i9_text.specs.Text.{words_of}
@@ -20,10 +19,7 @@ use Rattle.i9_replay.proofs.EventForms.{timed_is}
 
 number_in-decimal : (most low high n : ℕ) → 0 < most → n < 10 ^ most → n < 2 ^ 64 → low ≤ n → n ≤ high → number_in 10 most low high (decimal n) ≡ Some n
 unfolding number_in
-number_in-decimal most low high n some few small above below =
-    let t1 : ltb n low ≡ false = le-ltb _ _ above in
-    let t2 : ltb high n ≡ false = le-ltb _ _ below in
-    rw (number_of-decimal most n some few small, t1, t2) refl
+number_in-decimal most low high n some few small above below = grind (arith, le-ltb, number_of-decimal)
 
 -- ---- the words
 
@@ -54,19 +50,11 @@ event_words-words (Show a l) h = (record { test = refl }, (address_word a, (IsWo
 
 address_digits : (a : ℕ) → a ≤ last_address → address_of (word_text a) ≡ Some a
 unfolding number_in
-address_digits a small =
-    let below : ltb a 0 ≡ false = le-ltb _ _ (omega arith) in
-    let above : ltb last_address a ≡ false = le-ltb _ _ small in
-    rw (number_of-word a (omega (arith, small)), below, above) refl
-
-feed_test : (n : ℕ) (m : ℕ) → IsUnit n → m ≡ 2 * n → (m == 2 || m == 4 || m == 8 || m == 32) ≡ true
-feed_test n m unit len = grind arith
+address_digits a small = grind (arith, le-ltb, number_of-word)
 
 bytes_in-encode : (bs : List ℕ) → IsUnit (length bs) → IsBytes bs → bytes_in (encode_upper bs) ≡ Some bs
 unfolding bytes_in
-bytes_in-encode bs len h =
-    let test = feed_test (length bs) (length (encode_upper bs)) len (length-encode_with upper_digits bs) in
-    rw (test, decode_of-encode_upper bs h) refl
+bytes_in-encode bs len h = grind (arith, length-encode_with, decode_of-encode_upper)
 
 decimal_back : (low high n : ℕ) → high < 10 ^ 10 → low ≤ n → n ≤ high → decimal_in low high (decimal n) ≡ Some n
 decimal_back low high n small above below = number_in-decimal 10 low high n (lit< tt) (omega (arith, small, below)) (omega (arith, small, below)) above below
@@ -117,15 +105,9 @@ pub journal_words_back : (k : ℕ) (e : Event) → k ≤ last_count → IsInRang
 unfolding journal_text
 journal_words_back k e few h = words_of-join (journal_words k e) (journal_is_words k e few h)
 
-not_hash : (k : ℕ) (e : Event) → get_or (journal_text k e) 0 0 ≡ 97
-unfolding journal_text
-not_hash k e = refl
-
 pub journal_not_skipped : (k : ℕ) (e : Event) → k ≤ last_count → IsInRange e → is_skipped (journal_text k e) ≡ false
-journal_not_skipped k e few h =
-    let words = journal_words_back k e few h in
-    let some : eqb (length (journal_words k e)) 0 ≡ false = eqb-suc-zero _ in
-    rw (not_hash k e, words, some) refl
+unfolding journal_text
+journal_not_skipped k e few h = grind arith
 
 -- its words say the event
 pub journal_says : (version k : ℕ) (e : Event) → IsOfVersion version e → k ≤ last_count → IsInRange e → IsTimed version (words_of (journal_text k e)) (timed_at k e)
@@ -134,8 +116,7 @@ journal_says version k e of few h = rw (journal_words_back k e few h) (event_bac
 -- and the line is read as the event, whether a line before told the version or not
 said_journal : (told : Option ℕ) (k : ℕ) (e : Event) → timed_of (version_in told) (journal_words k e) ≡ Ok (timed_at k e) → said_of told (journal_words k e) ≡ Ok (said.Event (timed_at k e))
 unfolding opening_of
-said_journal None k e is = rw is refl
-said_journal (Some version) k e is = rw is refl
+said_journal told k e is = grind arith
 
 pub line_of-journal : (told : Option ℕ) (k : ℕ) (e : Event) → IsOfVersion (version_in told) e → k ≤ last_count → IsInRange e → line_of told (journal_text k e) ≡ Ok (said.Event (timed_at k e))
 unfolding line_of

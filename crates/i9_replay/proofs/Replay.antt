@@ -1,10 +1,8 @@
 -- Printed lines are the text of a schedule, which says the events that were printed.
-use Rattle.std.proofs.Common.{◌≡◌, ℕ, ◌+◌, ◌≤◌, Bool, true, false, cond, List, [], ◌∷◌, ◌++◌, length, get_or, Option, Some, None, refl, sym, ap, subst, ◌∙◌, arith, append_assoc, length-append, codes, ◌⊎◌, inl, inr}
-use Rattle.std.specs.Prelude.{slice_index}
+use Rattle.std.proofs.Common.{◌≡◌, ℕ, ◌+◌, ◌≤◌, true, List, [], ◌∷◌, ◌++◌, length, get_or, Option, Some, None, refl, sym, ap, subst, ◌∙◌, arith, append_assoc, length-append, codes, ◌⊎◌, inl, inr}
 use Rattle.std.specs.List.{flat_map, range_with_len, AllByRecursion}
 use Rattle.std.specs.Fmt.{decimal}
 use Rattle.std.proofs.lemmas.List.{append-nil}
-use Rattle.i9_isa.specs.Words.{bit}
 use Rattle.i9_text.specs.Text as texts
 use Rattle.i9_text.specs.FirstFault.{SaysAll}
 use Rattle.i9_text.specs.Written.{byte_text}
@@ -27,8 +25,7 @@ abbrev Passes : List ℕ → Type 0
 Passes text = (s u : SoFar) (rest : List ℕ) → SaysAll Says s (texts.lines_of rest) u → SaysAll Says s (texts.lines_of (text ++ rest)) u
 
 passes-append : (a b : List ℕ) → Passes a → Passes b → Passes (a ++ b)
-passes-append a b pa pb s u rest h =
-    subst (λ (x : List ℕ). SaysAll Says s (texts.lines_of x) u) (sym (append_assoc a b rest)) (pa s u (b ++ rest) (pb s u rest h))
+passes-append a b pa pb s u rest h = grind (arith, append_assoc)
 
 skipped_hash : (line : List ℕ) → get_or line 0 0 ≡ 35 → is_skipped line ≡ true
 skipped_hash line h = rw h refl
@@ -48,8 +45,7 @@ plain_words [] = refl
 plain_words (w ∷ ws) = plain-append (spaced w) (flat_map spaced ws) (plain-word_text w) (plain_words ws)
 
 plain_overlaid : (o : Option ℕ) → is_plain (spaced_byte o) ≡ true
-plain_overlaid None = refl
-plain_overlaid (Some b) = plain-byte_text b
+plain_overlaid o = grind (arith, plain-byte_text)
 
 pub plain_bytes : (bs : List (Option ℕ)) → is_plain (flat_map spaced_byte bs) ≡ true
 plain_bytes [] = refl
@@ -68,23 +64,14 @@ unfolding out_text
 passes_out b = passes_line (codes "#out " ++ byte_text b) (plain-append (codes "#out ") (byte_text b) refl (plain-byte_text b)) refl
 
 pub plain_drained : (k : Point) → is_plain (drained_text k) ≡ true
-plain_drained points.Flush = refl
-plain_drained _ = refl
+plain_drained k = grind arith
 
 passes_point : (k : Point) (v : View) → Passes (point_text k v)
 unfolding point_text
-passes_point k v =
-    let a = plain-append (codes "#point ") (decimal v.count) refl (plain-decimal v.count) in
-    let b = plain-append (codes "#point " ++ decimal v.count) (codes " ") a refl in
-    let c = plain-append (codes "#point " ++ decimal v.count ++ codes " ") (drained_text k) b (plain_drained k) in
-    passes_words (codes "#point " ++ decimal v.count ++ codes " " ++ drained_text k) (v.ip ∷ v.ac ∷ v.pc ∷ []) c refl
+passes_point k v = grind (arith, plain-append, plain-decimal, plain_drained, passes_words)
 
 pub plain_register : (v : View) (r : ℕ) → is_plain (spaced_register v r) ≡ true
-plain_register v r = by_mark (bit v.marks r)
-  where
-    by_mark : (b : Bool) → is_plain (cond b (codes " --------") (spaced (slice_index v.regs r))) ≡ true
-    by_mark true = refl
-    by_mark false = plain-word_text (slice_index v.regs r)
+plain_register v r = grind (arith, plain-word_text)
 
 pub plain_registers : (v : View) (rs : List ℕ) → is_plain (flat_map (spaced_register v) rs) ≡ true
 plain_registers v [] = refl
@@ -97,10 +84,7 @@ passes_registers label v first plain hash =
     passes_line (label ++ words) (plain-append label words plain (plain_registers v (range_with_len first 16))) (first_append label words hash)
 
 passes_shown_point : (k : Point) (v : View) → Passes (point_shown k v)
-passes_shown_point k v =
-    let g = registers_text (codes "#g") v 16 in
-    let l = registers_text (codes "#l") v 0 in
-    passes-append (point_text k v) (g ++ l) (passes_point k v) (passes-append g l (passes_registers (codes "#g") v 16 refl refl) (passes_registers (codes "#l") v 0 refl refl))
+passes_shown_point k v = grind (arith, passes-append, passes_point, passes_registers)
 
 passes_finish : (f : End) → Passes (end_text f)
 unfolding end_text
@@ -163,10 +147,7 @@ abbrev levels_told : SoFar
 levels_told = record { version = Some levels_version; events = [] }
 
 schedule_from : (version : ℕ) (s : SoFar) (ls : List Shown) → version_in s.version ≡ version → s.events ≡ [] → IsPlan (events_of ls) → AreOfVersion version (events_of ls) → LeadsOn s (texts.lines_of (text_of ls)) (events_of ls)
-schedule_from version s ls is none plan of =
-    replay_from ls s (subst IsByCounts (sym none) tt) (subst (λ (v : ℕ). AreOfVersion v (events_of ls)) (sym is) of) plan.each
-    (subst (λ (ts : List Timed). InOrder (last_time 0 ts) (events_of ls)) (sym none) plan.order)
-    (subst (λ (ts : List Timed). length ts + length (events_of ls) ≤ most_events) (sym none) (omega (arith, plan.few)))
+schedule_from version s ls is none plan of = grind (arith, replay_from)
 
 same_contents : (s : SoFar) (version : ℕ) (ts : List Timed) → version_in s.version ≡ version → s.events ≡ ts → contents_of s ≡ record { version = version; events = ts }
 same_contents s version ts is same = rw (is, same) refl
