@@ -1,12 +1,12 @@
 -- The functions that read the words of a line answer the forms, both ways.
-use Rattle.std.proofs.Common.{◌≡◌, ℕ, Bool, true, false, eqb, cond, List, [], ◌∷◌, Option, Some, None, Result, Ok, Err, refl, sym, ap, subst, inl, inr, codes}
+use Rattle.std.proofs.Common.{◌≡◌, ℕ, Bool, eqb, cond, List, [], ◌∷◌, Option, Some, None, Result, Ok, Err, refl, subst, codes, arith}
 use Rattle.std.specs.Option.{option_and_then, option_map, ok_or}
 use Rattle.std.specs.Str.{bytes_eq}
 use Rattle.std.proofs.lemmas.Bool.{cases_Bool, eqb-true}
 use Rattle.std.proofs.lemmas.Option.{option_and_then_some}
 use Rattle.std.proofs.lemmas.Slice.Eq.{bytes_eq-Decides}
 use Rattle.i9_model.specs.Events.{Words, decimal_in, address_of, bytes_in, pin_of, low_of, high_of, nmi_of, dma_of, feed_of, show_of, level_event_of, event_of, levels_version, bad_operand, unknown_event, last_pin, last_channel, most_shown, IsEvent, is_pin, is_low, is_high, is_nmi, is_dma, is_feed, is_show}
-use Rattle.i9_model.specs.ScheduleText.{unknown_line, and_then, count_of, turn_of, count_time, turn_time, timed_by, timed_of, IsTimed, is_at, is_turn}
+use Rattle.i9_model.specs.ScheduleText.{and_then, count_of, turn_of, count_time, turn_time, timed_by, timed_of, IsTimed, is_at, is_turn}
 use Rattle.i9_model.specs.declared.event.Event.{Event}
 use Rattle.i9_model.specs.declared.event.Event.TheVariants.{Pin, Low, High, Nmi, Dma, Feed, Show}
 use Rattle.i9_model.specs.declared.event.When.{When}
@@ -24,8 +24,7 @@ pub same_ok : {A : Type 0} (x y : A) → ◌≡◌ {A = Result A ℕ} (Ok x) (Ok
 same_ok x y h = cc
 
 pub ok_or_ok : {A : Type 0} (o : Option A) (k : ℕ) (x : A) → ok_or o k ≡ Ok x → o ≡ Some x
-ok_or_ok (Some y) k x h = ap Some (same_ok y x h)
-ok_or_ok None k x h = absurd cc
+ok_or_ok o k x h = grind arith
 
 -- ---- what is read of an event is what its words say
 
@@ -77,11 +76,7 @@ show_case version _ e h = absurd cc
 -- a name is one text, or what the other names give counts
 by_name : (version : ℕ) (name text : List ℕ) (ws : Words) (e : Event) (own : Option Event) (others : Result Event ℕ) → (own ≡ Some e → IsEvent version text ws e) → (others ≡ Ok e → IsEvent version name ws e)
     → cond (bytes_eq name text) (ok_or own bad_operand) others ≡ Ok e → IsEvent version name ws e
-by_name version name text ws e own others says later h =
-    elim (cases_Bool (bytes_eq name text)) [
-      | inl same ↦ subst (λ (x : List ℕ). IsEvent version x ws e) (sym ((bytes_eq-Decides name text).0 same)) (says (ok_or_ok own bad_operand e (rw same at h)))
-      | inr apart ↦ later (rw apart at h)
-    ]
+by_name version name text ws e own others says later h = grind (arith, cases_Bool, bytes_eq-Decides, ok_or_ok)
 
 level_case : (version : ℕ) (name : List ℕ) (ws : Words) (e : Event) → version ≡ levels_version → level_event_of name ws ≡ Ok e → IsEvent version name ws e
 unfolding level_event_of
@@ -90,8 +85,7 @@ level_case version name ws e levels h =
     (by_name version name (codes "high") ws e (high_of ws) (Err unknown_event) (high_case version ws e levels) (λ none. absurd (cc none))) h
 
 by_version : (b : Bool) (version : ℕ) (name : List ℕ) (ws : Words) (e : Event) → eqb version levels_version ≡ b → cond b (level_event_of name ws) (Err unknown_event) ≡ Ok e → IsEvent version name ws e
-by_version true version name ws e is h = level_case version name ws e (eqb-true version levels_version is) h
-by_version false version name ws e is h = absurd cc
+by_version b version name ws e is h = grind (arith, level_case, eqb-true)
 
 event_case : (version : ℕ) (name : List ℕ) (ws : Words) (e : Event) → event_of version name ws ≡ Ok e → IsEvent version name ws e
 unfolding event_of
@@ -114,9 +108,7 @@ behind_case : (version : ℕ) (first : List ℕ) (time : List ℕ → Option Whe
     → (rest : Words) (t : Timed) → timed_by version time rest ≡ Ok t → IsTimed version (first ∷ rest) t
 unfolding timed_by
 behind_case version first time says (k ∷ name ∷ operands) t h =
-    and_then_ok (event_of version name operands) (λ e. and_then (ok_or (time k) bad_operand) (λ w. Ok (timed_when w e))) t h (λ e event more.
-    and_then_ok (ok_or (time k) bad_operand) (λ w. Ok (timed_when w e)) t more (λ w is_time is.
-    subst (λ (x : Timed). IsTimed version (first ∷ k ∷ name ∷ operands) x) (same_ok (timed_when w e) t is) (says k name operands w e (ok_or_ok (time k) bad_operand w is_time) (event_case version name operands e event))))
+    grind (arith, and_then_ok, same_ok, ok_or_ok, event_case)
 behind_case version first time says _ t h = absurd cc
 
 -- a number was read for a time
@@ -139,19 +131,7 @@ turn_says version k name operands w e h is =
 -- what is read is what the words say
 pub timed_case : (version : ℕ) (ws : Words) (t : Timed) → timed_of version ws ≡ Ok t → IsTimed version ws t
 unfolding timed_of
-timed_case version [] t h = absurd cc
-timed_case version (first ∷ rest) t h =
-    elim (cases_Bool (bytes_eq first (codes "at"))) [
-      | inl same ↦ subst (λ (x : List ℕ). IsTimed version (x ∷ rest) t) (sym ((bytes_eq-Decides first (codes "at")).0 same)) (behind_case version (codes "at") count_time (at_says version) rest t (rw same at h))
-      | inr apart ↦ turn_case (rw apart at h)
-    ]
-  where
-    turn_case : cond (bytes_eq first (codes "turn")) (timed_by version turn_time rest) (Err unknown_line) ≡ Ok t → IsTimed version (first ∷ rest) t
-    turn_case g =
-        elim (cases_Bool (bytes_eq first (codes "turn"))) [
-          | inl same ↦ subst (λ (x : List ℕ). IsTimed version (x ∷ rest) t) (sym ((bytes_eq-Decides first (codes "turn")).0 same)) (behind_case version (codes "turn") turn_time (turn_says version) rest t (rw same at g))
-          | inr apart ↦ absurd (cc (rw apart at g))
-        ]
+timed_case version ws t h = grind (arith, cases_Bool, bytes_eq-Decides, behind_case, at_says, turn_says)
 
 -- ---- the way back
 
@@ -168,5 +148,4 @@ event_is version name ws e (is_show a l m n h g) = rw (h, g) refl
 -- what the words say is read
 pub timed_is : (version : ℕ) (ws : Words) (t : Timed) → IsTimed version ws t → timed_of version ws ≡ Ok t
 unfolding timed_of timed_by
-timed_is version ws t (is_at k name operands n e h is) = rw (event_is version name operands e is, h) refl
-timed_is version ws t (is_turn k name operands n e h is) = rw (event_is version name operands e is, h) refl
+timed_is version ws t h = grind (arith, event_is)
