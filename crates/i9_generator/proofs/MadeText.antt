@@ -45,8 +45,12 @@ lines_before [] rest h = refl
 lines_before (l ∷ ls) rest h =
     let plain = and_parts (is_plain l) (list_all is_plain ls) h in
     let more = flat_map (λ x. x ++ 10 ∷ []) ls in
-    cc (append_assoc (l ++ 10 ∷ []) more rest, append_assoc l (10 ∷ []) (more ++ rest),
-        lines_of-then l (more ++ rest) plain.0, lines_before ls rest plain.1)
+    cc (
+      append_assoc (l ++ 10 ∷ []) more rest,
+      append_assoc l (10 ∷ []) (more ++ rest),
+      lines_of-then l (more ++ rest) plain.0,
+      lines_before ls rest plain.1,
+    )
 
 lines_front : (rest : List ℕ) → lines_of ((tables_text ++ set_up_text) ++ rest) ≡ front_lines ++ lines_of rest
 unfolding front_lines tables_text set_up_text
@@ -72,7 +76,10 @@ made_text number =
     let d = depth_of number in
     let depth_text = depth_line d ++ 10 ∷ calls_text in
     let start_text = start_line s ++ 10 ∷ depth_text in
-    cc (text_by (tables_text ++ set_up_text) calls_text r s d, lines_front (rounds_line r ++ 10 ∷ start_text),
-        lines_of-then (rounds_line r) start_text (load_is_plain r (codes "g6") refl),
-        lines_of-then (start_line s) depth_text (load_is_plain s (codes "g7") refl),
-        lines_of-then (depth_line d) calls_text (load_is_plain d (codes "g0") refl))
+    cc (
+      text_by (tables_text ++ set_up_text) calls_text r s d,
+      lines_front (rounds_line r ++ 10 ∷ start_text),
+      lines_of-then (rounds_line r) start_text (load_is_plain r (codes "g6") refl),
+      lines_of-then (start_line s) depth_text (load_is_plain s (codes "g7") refl),
+      lines_of-then (depth_line d) calls_text (load_is_plain d (codes "g0") refl),
+    )

@@ -32,14 +32,18 @@ stored_at g a (b ∷ bs) zero h few port =
     let p : ℕ × ℕ = (wrapped a, b) in
     let here : wrapped (a + 0) ≡ wrapped a = omega arith in
     let none : a + 1 ≡ a + 1 + 0 = omega arith in
-    cc (stored-cons g p (upwards (a + 1) bs),
-        stored_kept (stored g (p ∷ [])) (upwards (a + 1) bs) (wrapped a) (inl (is_put-upwards (a + 1) bs (wrapped a) ∙ ap (λ (c : ℕ). in_bytes c (length bs) (wrapped a)) none ∙ not_later a (length bs) 0 (omega arith))),
-        one_put g (wrapped a) b (sym (ap in_port_page here) ∙ port))
+    cc (
+      stored-cons g p (upwards (a + 1) bs),
+      stored_kept (stored g (p ∷ [])) (upwards (a + 1) bs) (wrapped a) (inl (is_put-upwards (a + 1) bs (wrapped a) ∙ ap (λ (c : ℕ). in_bytes c (length bs) (wrapped a)) none ∙ not_later a (length bs) 0 (omega arith))),
+      one_put g (wrapped a) b (sym (ap in_port_page here) ∙ port),
+    )
 stored_at g a (b ∷ bs) (suc k) h few port =
     let p : ℕ × ℕ = (wrapped a, b) in
     let here : wrapped (a + suc k) ≡ wrapped (a + 1 + k) = omega arith in
-    cc (stored-cons g p (upwards (a + 1) bs),
-        stored_at (stored g (p ∷ [])) (a + 1) bs k (omega arith) (omega arith) (sym (ap in_port_page here) ∙ port))
+    cc (
+      stored-cons g p (upwards (a + 1) bs),
+      stored_at (stored g (p ∷ [])) (a + 1) bs k (omega arith) (omega arith) (sym (ap in_port_page here) ∙ port),
+    )
 
 -- ---- a byte of a word of several
 
@@ -51,8 +55,9 @@ byte_of_words m a (w ∷ ws) (suc i) j h k l =
     let less : 4 * suc i + j - 4 ≡ 4 * i + j = omega arith in
     let place : wrapped (wrapped (a + 4) + 4 * i) ≡ wrapped (a + 4 * suc i) = omega arith in
     cc (
-        get_or-append_right (word_bytes m a w) (bytes_of_words m (wrapped (a + 4)) ws) 4 (4 * suc i + j) 0 (four_bytes m a w) (omega arith),
-        byte_of_words m (wrapped (a + 4)) ws i j (omega arith) (omega arith) l)
+      get_or-append_right (word_bytes m a w) (bytes_of_words m (wrapped (a + 4)) ws) 4 (4 * suc i + j) 0 (four_bytes m a w) (omega arith),
+      byte_of_words m (wrapped (a + 4)) ws i j (omega arith) (omega arith) l,
+    )
 
 -- a byte so far above a frame's address
 pub frame_byte : (m : Memory) (a : ℕ) (ws : List ℕ) (i j : ℕ) → a < address_count → length ws ≡ LOCALS → i < LOCALS → j < 4 → in_port_page (wrapped (a + (4 * i + j))) ≡ false
@@ -60,5 +65,8 @@ pub frame_byte : (m : Memory) (a : ℕ) (ws : List ℕ) (i j : ℕ) → a < addr
 frame_byte m a ws i j h whole k l port =
     let bs = bytes_of_words m a ws in
     let long = frame_long m a ws whole in
-    cc (words_as_bytes m a ws, stored_at m.bytes a bs (4 * i + j) (omega (arith, long)) (omega (arith, long)) port,
-        byte_of_words m a ws i j h (omega (arith, whole)) l)
+    cc (
+      words_as_bytes m a ws,
+      stored_at m.bytes a bs (4 * i + j) (omega (arith, long)) (omega (arith, long)) port,
+      byte_of_words m a ws i j h (omega (arith, whole)) l,
+    )

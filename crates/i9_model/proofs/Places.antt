@@ -33,5 +33,10 @@ pub in_bytes-above : (a n x : ℕ) → a < 2 ^ 32 → x < 2 ^ 32 → n ≤ 2 ^ 3
 in_bytes-above a zero x h k few = in_bytes-none a x ∙ sym (lt-zero ((x + (2 ^ 32 - a)) % 2 ^ 32))
 in_bytes-above a (suc n) x h k few =
     let d = (x + (2 ^ 32 - a)) % 2 ^ 32 in
-    cc (add-one n, in_bytes-more a n x, in_bytes-above a n x h k (omega arith), above-test a n x h k (omega arith),
-        lt-suc d n)
+    cc (
+      add-one n,
+      in_bytes-more a n x,
+      in_bytes-above a n x h k (omega arith),
+      above-test a n x h k (omega arith),
+      lt-suc d n,
+    )

@@ -28,9 +28,11 @@ pub stored_agree : (g h : ℕ → ℕ) (ps : List (ℕ × ℕ)) (x : ℕ) → (i
 unfolding written is_put
 stored_agree g h [] x port out = out refl
 stored_agree g h (p ∷ ps) x port out =
-    cc (stored-cons g p ps,
-        stored_agree (stored g (p ∷ [])) (stored h (p ∷ [])) ps x (λ t. one_agree g h p.0 p.1 x port (λ e. port t)) (λ o. one_agree g h p.0 p.1 x port (λ e. out (or_from (x == p.0) (is_put ps x) e o))),
-        stored-cons h p ps)
+    cc (
+      stored-cons g p ps,
+      stored_agree (stored g (p ∷ [])) (stored h (p ∷ [])) ps x (λ t. one_agree g h p.0 p.1 x port (λ e. port t)) (λ o. one_agree g h p.0 p.1 x port (λ e. out (or_from (x == p.0) (is_put ps x) e o))),
+      stored-cons h p ps,
+    )
 
 first_kept : (p : ℕ × ℕ) (ps : List (ℕ × ℕ)) (x : ℕ) → (is_put (p ∷ ps) x ≡ false) ⊎ (in_port_page x ≡ true) → ((x == p.0) ≡ false) ⊎ (in_port_page x ≡ true)
 unfolding is_put
@@ -45,8 +47,11 @@ pub stored_kept : (g : ℕ → ℕ) (ps : List (ℕ × ℕ)) (x : ℕ) → (is_p
 unfolding written
 stored_kept g [] x kept = refl
 stored_kept g (p ∷ ps) x kept =
-    cc (stored-cons g p ps, stored_kept (stored g (p ∷ [])) ps x (later_kept p ps x kept),
-        one_kept g p.0 p.1 x (first_kept p ps x kept))
+    cc (
+      stored-cons g p ps,
+      stored_kept (stored g (p ∷ [])) ps x (later_kept p ps x kept),
+      one_kept g p.0 p.1 x (first_kept p ps x kept),
+    )
 
 -- ---- words in a row
 
@@ -72,5 +77,8 @@ words_as_bytes m a (w ∷ ws) =
     let bs = word_bytes m a w in
     let later = wrapped (a + 4) in
     let one = with_bytes m a bs in
-    cc (words_as_bytes one later ws, stored_words_same m one.bytes later ws,
-        behind_four m a bs (bytes_of_words m later ws) (four_bytes m a w))
+    cc (
+      words_as_bytes one later ws,
+      stored_words_same m one.bytes later ws,
+      behind_four m a bs (bytes_of_words m later ws) (four_bytes m a w),
+    )

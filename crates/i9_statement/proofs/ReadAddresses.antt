@@ -56,8 +56,11 @@ base_of-text : (r : ℕ) (t : List ℕ) → r < 32 → base_of ((open_round ∷ 
 unfolding base_of
 base_of-text r t h =
     let free = free_in is_name_byte close_round (register_text r) refl (register_bytes r (omega arith)) in
-    cc (append_assoc (register_text r) (close_round ∷ []) t, closed-cut close_round (register_text r) t free,
-        base_named-text r h)
+    cc (
+      append_assoc (register_text r) (close_round ∷ []) t,
+      closed-cut close_round (register_text r) t free,
+      base_named-text r h,
+    )
 
 pub scale_name_bytes : (k : ℕ) → k < 5 → list_all is_name_byte (get_or scale_names k []) ≡ true
 scale_name_bytes k h = grind arith
@@ -79,10 +82,13 @@ index_of-text r k hr hk =
     let inside : is_free (is_byte close_square) (reg ++ star ∷ scale) ≡ true =
     list_all-append square_byte reg (star ∷ scale) ∙ rw (free_in is_name_byte close_square reg refl reg_bytes, scale_free) refl in
     let reg_free = free_in is_name_byte star reg refl reg_bytes in
-    cc (closed-cut close_square (reg ++ star ∷ scale) [] inside,
-        from-cut (is_byte star) reg (star ∷ scale) reg_free refl,
-        before-cut (is_byte star) reg (star ∷ scale) reg_free refl, register_place-text r (omega arith),
-        scale_of-text k hk)
+    cc (
+      closed-cut close_square (reg ++ star ∷ scale) [] inside,
+      from-cut (is_byte star) reg (star ∷ scale) reg_free refl,
+      before-cut (is_byte star) reg (star ∷ scale) reg_free refl,
+      register_place-text r (omega arith),
+      scale_of-text k hk,
+    )
 
 -- ---- the whole
 

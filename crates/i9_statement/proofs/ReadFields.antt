@@ -27,8 +27,11 @@ pad_free q = grind arith
 pub words_of-cut : (c : ℕ) (w t : List ℕ) → is_free is_blank (c ∷ w) ≡ true → stops is_blank t ≡ true → words_of ((c ∷ w) ++ t) ≡ (c ∷ w) ∷ words_of t
 words_of-cut c w t free stop =
     let first = not-true (is_blank c) (and_parts (not (is_blank c)) _ free).0 in
-    cc (words_of-first ((c ∷ w) ++ t) 0 (omega arith) first, before-cut is_blank (c ∷ w) t free stop,
-        from-cut is_blank (c ∷ w) t free stop)
+    cc (
+      words_of-first ((c ∷ w) ++ t) 0 (omega arith) first,
+      before-cut is_blank (c ∷ w) t free stop,
+      from-cut is_blank (c ∷ w) t free stop,
+    )
 
 pub words_of-pad : (w : List ℕ) (q : Bool) → has_byte w ≡ true → is_free is_blank w ≡ true → words_of (w ++ pad q) ≡ w ∷ []
 words_of-pad w q some free = grind (arith, words_of-cut)

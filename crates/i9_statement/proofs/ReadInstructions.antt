@@ -44,9 +44,12 @@ unfolding named_by
 named_by-text op hint h =
     let suffix = cond hint (codes ".f") [] in
     let free = free_in is_name_byte dot (mnemonic op) refl (mnemonic_bytes op) in
-    cc (before-cut (is_byte dot) (mnemonic op) suffix free (suffix_stops hint),
-        from-cut (is_byte dot) (mnemonic op) suffix free (suffix_stops hint), op_named-mnemonic op,
-        hint_by-text (row_of op).hint hint h)
+    cc (
+      before-cut (is_byte dot) (mnemonic op) suffix free (suffix_stops hint),
+      from-cut (is_byte dot) (mnemonic op) suffix free (suffix_stops hint),
+      op_named-mnemonic op,
+      hint_by-text (row_of op).hint hint h,
+    )
 
 -- ---- operands
 

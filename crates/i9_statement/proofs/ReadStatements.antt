@@ -54,9 +54,11 @@ spare_of-text bits q small =
     let h = digits_is_IsNumeral 16 true (omega arith) (omega arith) bits (wide_digits bits small) in
     let names = name_bytes ds 16 (lit≤ tt) h.0.1 in
     let blanks = all_append (λ b. not (is_blank b)) ds (close_brace ∷ []) (free_of_blanks is_name_byte ds refl refl names) refl in
-    cc (words_of-pad (open_brace ∷ ds ++ close_brace ∷ []) q refl blanks,
-        closed-cut close_brace ds [] (free_in is_name_byte close_brace ds refl names),
-        number_of-digits 16 8 ds h.0.0 (digits_length bits small) h.0.1)
+    cc (
+      words_of-pad (open_brace ∷ ds ++ close_brace ∷ []) q refl blanks,
+      closed-cut close_brace ds [] (free_in is_name_byte close_brace ds refl names),
+      number_of-digits 16 8 ds h.0.0 (digits_length bits small) h.0.1,
+    )
 
 -- ---- the whole
 
@@ -116,13 +118,21 @@ unfolding statement_text
 statement_of-text ip names i zero q low small v ignored =
     let m = mnemonic_text i.op i.hint in
     let fields = fields_text (operand_fields ip i) in
-    cc (append-nil fields, append_assoc m fields (pad q), append-nil (fields ++ pad q),
-        statement_parts ip names i q [] 0 low v ignored refl (plain_blank (operand_fields ip i) q) no_spare)
+    cc (
+      append-nil fields,
+      append_assoc m fields (pad q),
+      append-nil (fields ++ pad q),
+      statement_parts ip names i q [] 0 low v ignored refl (plain_blank (operand_fields ip i) q) no_spare,
+    )
 statement_of-text ip names i (suc n) q low small v ignored =
     let m = mnemonic_text i.op i.hint in
     let fields = fields_text (operand_fields ip i) in
     let bits = suc n in
     let inner = open_brace ∷ (digits 16 true bits ++ close_brace ∷ []) in
-    cc (eqb-suc-zero n, append_assoc m (fields ++ space ∷ inner) (pad q), append_assoc fields (space ∷ inner) (pad q),
-        append_assoc fields (space ∷ []) (inner ++ pad q),
-        statement_parts ip names i true (inner ++ pad q) bits low v ignored refl (braced_blank (operand_fields ip i) (inner ++ pad q)) (spare_of-text bits q small))
+    cc (
+      eqb-suc-zero n,
+      append_assoc m (fields ++ space ∷ inner) (pad q),
+      append_assoc fields (space ∷ inner) (pad q),
+      append_assoc fields (space ∷ []) (inner ++ pad q),
+      statement_parts ip names i true (inner ++ pad q) bits low v ignored refl (braced_blank (operand_fields ip i) (inner ++ pad q)) (spare_of-text bits q small),
+    )

@@ -58,8 +58,8 @@ pub without_page : (m : Mark) (s : Marks) (f g : ℕ → Bool) (p : ℕ) → (Ha
 without_page m s f g p lacks e h = same_marks _ _ (λ x.
     h x
     ∙ cond_both (x / 256 == p) false (g x) (λ b. b ≡ is_marked m s x)
-        (λ t. sym (unmarked_page m s x (λ has. lacks (subst (HasPage s) (eqb-true _ _ t) has))))
-        (λ _. ap (λ (k : ℕ → Bool). k x) e))
+    (λ t. sym (unmarked_page m s x (λ has. lacks (subst (HasPage s) (eqb-true _ _ t) has))))
+    (λ _. ap (λ (k : ℕ → Bool). k x) e))
 
 -- a mark of a page that is there
 pub marked_at : (m : Mark) (s : Marks) (x : ℕ) (p : Page) → page_at s.pages (x / 256) ≡ Some p → is_marked m s x ≡ has_mark m p (x % 256)

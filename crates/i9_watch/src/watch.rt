@@ -250,11 +250,7 @@ impl Watch {
 
     /// The least soft byte, counted upwards from `a`, of `n` bytes that are to be read.
     #[inline(always)]
-    #[tactic(
-        auto,
-        using(crate::proofs::Watching::least_is_none),
-        unfolding(crate::specs::Watch::frames_of, i9_model::specs::Hazards::read_hazard)
-    )]
+    #[tactic(auto, using(crate::proofs::Watching::least_is_none), unfolding(crate::specs::Watch::frames_of, i9_model::specs::Hazards::read_hazard))]
     pub fn check_read(&self, a: u32, n: u32) -> Option<u32>
         ensures { result ≡ read_hazard (frames_of self.now) a n }
     {
@@ -266,11 +262,7 @@ impl Watch {
 
     /// The least byte, counted upwards from `a`, of `n` bytes that are to be read as after a flush:
     /// one that is soft and in no word of a live frame that is not marked.
-    #[tactic(
-        auto,
-        using(crate::proofs::Watching::least_is_none),
-        unfolding(crate::specs::Watch::frames_of, i9_model::specs::Hazards::read_hazard)
-    )]
+    #[tactic(auto, using(crate::proofs::Watching::least_is_none), unfolding(crate::specs::Watch::frames_of, i9_model::specs::Hazards::read_hazard))]
     pub fn check_flushed_read(&self, a: u32, n: u32) -> Option<u32>
         ensures { result ≡ read_hazard (flushed (frames_of self.now)) a n }
     {
