@@ -1,7 +1,7 @@
 -- What lies ahead issues no earlier than what has issued, and which faults are imprecise.
-use Rattle.std.proofs.Common.{◌≡◌, ℕ, ◌<◌, ◌≤◌, max, Bool, true, cond, ◌&&◌, ltb, List, ◌∷◌, Option, Some, None, ap, ◌⊎◌, arith}
+use Rattle.std.proofs.Common.{◌≡◌, ℕ, ◌<◌, ◌≤◌, max, Bool, true, cond, List, ◌∷◌, Option, Some, None, ap, ◌⊎◌, arith}
 use Rattle.std.specs.Prelude.{IsTrue}
-use Rattle.std.proofs.lemmas.Bool.{le-ltb, and_parts}
+use Rattle.std.proofs.lemmas.Bool.{and_parts}
 use Rattle.std.proofs.lemmas.Bool.Decides.{nat_tests}
 use Rattle.i9_isa.specs.declared.inst.Inst.{Inst}
 use Rattle.i9_model.specs.declared.faults.TheConstants.{ARITHMETIC}
@@ -74,14 +74,11 @@ imprecise_only g h a e = grind (arith, some_both, late_only)
 
 -- ---- where none is
 
-none_overtaken : (b : Bool) (t d : ℕ) (o : Option ℕ) → d ≤ t → cond (b && ltb t d) o None ≡ None
-none_overtaken b t d o le = grind (arith, nat_tests, le-ltb)
-
 -- where the instruction ahead waits until the last record is done
 pub precise_by : (g : Given) (h : List Item)
     → last_done (course g h).late ≤ issue_of_next g h (instruction_ahead (state_after g (records_of h)))
     → (ahead g h).imprecise ≡ None
-precise_by g h le = grind (arith, nat_tests, none_overtaken)
+precise_by g h le = grind arith
 
 -- so it does behind a fence
 pub fenced_precise : (g : Given) (h : List Item) → (ahead g (Fence ∷ h)).imprecise ≡ None

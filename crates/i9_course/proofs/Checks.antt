@@ -1,24 +1,19 @@
 -- The check flag is set only behind a barrier, so that what comes next waits for all.
-use Rattle.std.proofs.Common.{◌≡◌, ℕ, ◌≤◌, true, false, List, [], ◌∷◌, Option, None, refl, sym, ap, ◌∙◌, inl, arith}
+use Rattle.std.proofs.Common.{◌≡◌, ℕ, ◌≤◌, true, List, [], ◌∷◌, None, sym, ap, ◌∙◌, inl, arith}
 use Rattle.std.specs.Prelude.{IsTrue}
 use Rattle.std.specs.List.{AllByRecursion}
 use Rattle.std.proofs.lemmas.Bool.{cases_Bool, both_ways}
-use Rattle.i9_isa.specs.declared.inst.Inst.{Inst}
 use Rattle.i9_model.specs.declared.need.Need.{Need}
 use Rattle.i9_model.specs.declared.need.TimedNeed.{TimedNeed}
-use Rattle.i9_model.specs.declared.trace.Trace.{Trace}
 use Rattle.i9_model.specs.State.{State, started, boot}
-use Rattle.i9_model.specs.Controls.{KeepsControls}
-use Rattle.i9_model.specs.Step.{Action, faulting, moved, flagged, acted}
-use Rattle.i9_model.specs.Traced.{traced_action}
+use Rattle.i9_model.specs.Step.{moved, acted}
 use Rattle.i9_model.specs.HeldFrames.{Cache, sets_in, cache_after}
 use Rattle.i9_model.specs.Run.{Given, Kind, Record, after_kind, state_after}
 use Rattle.i9_model.specs.Turns.{CanIssue, IsTimed, last_issue, end_turn}
-use Rattle.i9_model.specs.Needs.{is_barrier_name}
 use Rattle.i9_model.specs.Late.{turns}
 use Rattle.i9_turns.proofs.TurnFences.{end-least}
 use Rattle.i9_course.specs.NeedOf.{need_of}
-use Rattle.i9_course.specs.Course.{Item, Step, Fence, records_of, course, issue_of_next, event_ahead, ahead, IsCourse}
+use Rattle.i9_course.specs.Course.{Item, Step, Fence, records_of, course, event_ahead, ahead, IsCourse}
 use Rattle.i9_course.proofs.Timed.{course_timed}
 use Rattle.i9_course.proofs.Barriers.{waits_for_all, kind_barrier}
 use Rattle.i9_course.proofs.Ahead.{ahead_precise, ahead_can, ahead_by_end}
@@ -27,24 +22,11 @@ use Rattle.i9_course.proofs.NeedActs.{instruction_keeps}
 
 -- ---- the check flag behind a record
 
-flagged_check : (t : Option Trace) (s : State) → (flagged t s).check ≡ s.check
-flagged_check t s = grind arith
-
--- what keeps the controls leaves the check flag as it says
-acted_check : (s : State) (a : Action) → a.control ≡ KeepsControls → (acted s a).check ≡ a.check
-unfolding acted moved
-acted_check s a keeps = grind (arith, flagged_check)
-
-instruction_check : (i : Inst) (s : State) → is_barrier_name i.op ≡ false → (acted s (traced_action i s)).check ≡ false
-instruction_check i s other = grind (arith, instruction_keeps, acted_check)
-
-fault_check : (words : ℕ) (s : State) → (acted s (faulting words s)).check ≡ false
-fault_check words s = acted_check s (faulting words s) refl
-
 -- only a barrier leaves it set
 check_barrier : (n : ℕ) (c : Cache) (s : State) (k : Kind) → (after_kind k s).check ≡ true
     → IsTrue (need_of n c s k).barrier
-check_barrier n c s k set = grind (arith, cases_Bool, kind_barrier, both_ways, instruction_check, fault_check)
+unfolding acted moved
+check_barrier n c s k set = grind (arith, cases_Bool, kind_barrier, both_ways, instruction_keeps)
 
 -- ---- behind a barrier
 
@@ -91,9 +73,4 @@ behind_barrier n t (r ∷ rs) h b can =
 pub checked_waits : (g : Given) (h : List Item) → IsCourse g h → (ahead g h).imprecise ≡ None
     → (state_after g (records_of h)).check ≡ true → (ahead g h).turn ≡ end_turn (turns (course g h).late)
 checked_waits g h c precise set =
-    let rs = turns (course g h).late in
-    let turn : (ahead g h).turn ≡ issue_of_next g h (ahead g h).next = ahead_precise g h precise in
-    let late : (ahead g h).turn ≤ end_turn rs = ahead_by_end g h in
-    let all : end_turn rs ≤ issue_of_next g h (ahead g h).next =
-    behind_barrier _ _ rs (course_timed g h) (last_barrier g h c set) (ahead_can g h precise) in
-    omega (arith, turn, late, all)
+    grind (arith, ahead_precise, ahead_by_end, behind_barrier, course_timed, last_barrier, ahead_can)

@@ -1,5 +1,5 @@
 -- A spill and a flush write 64 bytes for each frame that they move.
-use Rattle.std.proofs.Common.{◌≡◌, ◌≢◌, ℕ, suc, ◌+◌, ◌*◌, ◌≤◌, Bool, cond, ltb, List, [], ◌∷◌, length, refl, ap, arith, length-append}
+use Rattle.std.proofs.Common.{◌≡◌, ◌≢◌, ℕ, suc, ◌+◌, ◌*◌, ◌≤◌, List, [], ◌∷◌, length, refl, ap, arith, length-append}
 use Rattle.std.proofs.lemmas.Bool.Decides.{nat_tests}
 use Rattle.i9_model.specs.declared.frame.Frame.{Frame}
 use Rattle.i9_model.specs.declared.layout.TheConstants.{LOCALS, FRAME_SIZE}
@@ -9,7 +9,7 @@ use Rattle.i9_model.specs.Step.{Move, Returns}
 use Rattle.i9_model.specs.HeldFrames.{Cache, AreWhole}
 use Rattle.i9_model.proofs.Lengths.{words_long}
 use Rattle.i9_course.specs.NeedOf.{moved_frames}
-use Rattle.i9_course.specs.Course.{frame_writes, oldest_writes, all_writes, move_writes}
+use Rattle.i9_course.specs.Course.{frame_writes, all_writes, move_writes}
 
 as_long : (a : ℕ) (bs : List ℕ) → length (upwards a bs) ≡ length bs
 as_long a [] = refl
@@ -20,16 +20,8 @@ frame_long m f whole = grind (arith, as_long, words_long)
 
 all_long : (m : Memory) (fs : List Frame) → AreWhole fs → length (all_writes m fs) ≡ FRAME_SIZE * length fs
 all_long m [] whole = refl
-all_long m (f ∷ fs) whole =
-    let both = length-append (frame_writes m f) (all_writes m fs) in
-    let one = frame_long m f whole.0 in
-    let rest = all_long m fs whole.1 in
-    omega (arith, both, one, rest)
-
-spill_long : (b : Bool) (n : ℕ) (m : Memory) (fs : List Frame) → ltb (length fs) n ≡ b → 1 ≤ n → AreWhole fs
-    → length (cond b [] (oldest_writes m fs)) ≡ FRAME_SIZE * cond b 0 1
-spill_long b n m fs room some whole = grind (arith, nat_tests, frame_long)
+all_long m (f ∷ fs) whole = grind (arith, length-append, frame_long, all_long m fs whole.1)
 
 pub writes_counted : (n : ℕ) (c : Cache) (v : Move) → 1 ≤ n → AreWhole c.held → v ≢ Returns
     → length (move_writes n c v) ≡ FRAME_SIZE * moved_frames n c v
-writes_counted n c v some whole other = grind (arith, nat_tests, spill_long, all_long)
+writes_counted n c v some whole other = grind (arith, nat_tests, as_long, words_long, all_long)

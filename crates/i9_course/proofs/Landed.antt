@@ -1,5 +1,5 @@
 -- What has landed at a turn, and in which order it lands.
-use Rattle.std.proofs.Common.{◌≡◌, ℕ, ◌≤◌, true, List, [], ◌∷◌, sym, ap, ◌∙◌, subst, arith}
+use Rattle.std.proofs.Common.{◌≡◌, ℕ, ◌≤◌, true, List, [], ◌∷◌, sym, ◌∙◌, subst, arith}
 use Rattle.std.specs.List.{AllByRecursion}
 use Rattle.i9_model.specs.Memory.{stored}
 use Rattle.i9_model.specs.HeldFrames.{cache_after}
@@ -51,5 +51,4 @@ pub acts_at_once : (g : Given) (h : List Item) (r : Record) (k j : Kernel) → L
     → j.bytes ≡ (cache_after g (r ∷ records_of h)).behind.bytes → j.bytes ≡ stored k.bytes (late_after g h r).puts
 acts_at_once g h r k j lands none is =
     let x = late_after g h r in
-    is ∙ sym (course_settles g (Step r ∷ h))
-    ∙ ap (λ (m : ℕ → ℕ). stored m x.puts) (course_settles g h ∙ settled_now g h k lands none)
+    cc (course_settles g (Step r ∷ h), course_settles g h, settled_now g h k lands none)

@@ -1,14 +1,11 @@
 -- What a record does, by what its need says: what is no barrier keeps frames and controls, and leaves the check flag
 -- clear, and what is no request besides writes no memory.
 use Rattle.std.proofs.Common.{◌≡◌, ℕ, Bool, true, false, ◌&&◌, [], ◌⊎◌, arith}
-use Rattle.i9_isa.specs.declared.op.Op.{Op}
-use Rattle.i9_isa.specs.declared.size.Size.{Size}
-use Rattle.i9_isa.specs.declared.size.Direction.{Direction}
 use Rattle.i9_isa.specs.declared.inst.Inst.{Inst}
 use Rattle.i9_model.specs.State.{State}
 use Rattle.i9_model.specs.HeldFrames.{Cache}
 use Rattle.i9_model.specs.Controls.{KeepsControls}
-use Rattle.i9_model.specs.Step.{Action, Stays, moving, action_by_name, action_of}
+use Rattle.i9_model.specs.Step.{Action, Stays, action_of}
 use Rattle.i9_model.specs.Run.{Kind, Instruction, action_by_kind}
 use Rattle.i9_model.specs.Needs.{is_request_name, is_barrier_name}
 use Rattle.i9_turns.proofs.NeedLaws.{first_false, quiet}
@@ -22,23 +19,10 @@ pub record Keeps (s : State) (a : Action) : Type 0 where
   pub check : a.check ≡ false
   pub tc : a.tc ≡ s.trace.tc
 
-name_keeps : (op : Op) (i : Inst) (s : State) → is_barrier_name op ≡ false → Keeps s (action_by_name op i s)
-name_keeps op i s b = grind arith
-
-moving_keeps : (d : Direction) (size : Size) (signed : Bool) (i : Inst) (s : State)
-    → ((moving d size signed i s).move ≡ Stays) × Keeps s (moving d size signed i s)
-moving_keeps d size signed i s = grind arith
-
 -- so does one that is no barrier by its name
 pub instruction_keeps : (i : Inst) (s : State) → is_barrier_name i.op ≡ false → Keeps s (action_of i s)
 unfolding action_of
-instruction_keeps i s b = grind (arith, Keeps, moving_keeps, name_keeps)
-
--- a load or a store moves no frames and keeps the controls
-request_keeps : (i : Inst) (s : State) → is_request_name i.op ≡ true
-    → ((action_of i s).move ≡ Stays) × ((action_of i s).control ≡ KeepsControls)
-unfolding action_of
-request_keeps i s q = grind (arith, moving_keeps)
+instruction_keeps i s b = grind arith
 
 -- ---- by the kind
 
@@ -54,8 +38,8 @@ need_still n c s k q b = grind (arith, first_false, quiet, calm_request, instruc
 
 pub need_requests : (n : ℕ) (c : Cache) (s : State) (k : Kind) → (need_of n c s k).request ≡ true
     → ((action_by_kind k s).move ≡ Stays) × ((action_by_kind k s).control ≡ KeepsControls)
-unfolding need_of
-need_requests n c s k q = grind (arith, request_keeps, calm_request)
+unfolding action_of need_of
+need_requests n c s k q = grind arith
 
 pub need_named : (n : ℕ) (c : Cache) (s : State) (k : Kind) → (need_of n c s k).request ≡ true
     → ((i : Inst) × (k ≡ Instruction i) × (is_request_name i.op ≡ true)) ⊎ ((action_by_kind k s).writes ≡ [])

@@ -1,5 +1,5 @@
 -- States that are alike give the same need.
-use Rattle.std.proofs.Common.{◌≡◌, ℕ, Bool, false, Option, Some, None, refl, sym, ap, ◌∙◌, arith}
+use Rattle.std.proofs.Common.{◌≡◌, ℕ, Bool, false, Option, Some, None, refl, ap, ◌∙◌, arith}
 use Rattle.std.specs.Option.{option_map}
 use Rattle.std.proofs.lemmas.Bool.{cases_Bool}
 use Rattle.i9_isa.specs.declared.op.Op.{Op}
@@ -13,16 +13,15 @@ use Rattle.i9_model.specs.declared.trace.Seen.{Seen}
 use Rattle.i9_model.specs.State.{State}
 use Rattle.i9_model.specs.Branches.{is_taken}
 use Rattle.i9_model.specs.Operands.{value}
-use Rattle.i9_model.specs.Tracing.{trace_of}
 use Rattle.i9_model.specs.Step.{Action, Message, moving, asked_message, message_action, action_by_name, action_by, action_of, moved, acted}
 use Rattle.i9_model.specs.Access.{Access, message_access, access_by_name, access_by, access_of, data_of}
-use Rattle.i9_model.specs.Traced.{switches, traced_action}
+use Rattle.i9_model.specs.Traced.{traced_action}
 use Rattle.i9_model.specs.Alike.{with_other, with_memory, AreAlike, AreNextAlike}
 use Rattle.i9_model.specs.HeldFrames.{Cache}
 use Rattle.i9_model.specs.Run.{Next, Kind, Instruction}
 use Rattle.i9_model.specs.Needs.{is_barrier_name, inst_need}
 use Rattle.i9_past.proofs.Untraced.{action_untraced}
-use Rattle.i9_course.proofs.NeedActs.{Keeps, instruction_keeps}
+use Rattle.i9_course.proofs.NeedActs.{instruction_keeps}
 use Rattle.i9_course.specs.NeedOf.{moved_frames, access_waits, facts_of, need_of, need_ahead}
 
 -- ---- the frames that are moved and the access do not depend on bytes of memory
@@ -60,13 +59,6 @@ module _ (n : ℕ) (c : Cache) (i : Inst) (s : State) (bytes : ℕ → ℕ) wher
 
 -- ---- nor do the trace events of what is no barrier by its name
 
-trace_kept : (s : State) (a : Action) → a.trace ≡ None → Keeps s a → (acted s a).trace ≡ s.trace
-unfolding acted moved
-trace_kept s a none k = grind arith
-
-no_switch : (op : Op) (s : State) (a : Action) → is_barrier_name op ≡ false → switches op s a ≡ false
-no_switch op s a h = grind arith
-
 -- what is seen of it
 abbrev plain_seen : Inst → State → Access → Seen
 plain_seen i s x = record {
@@ -76,17 +68,11 @@ plain_seen i s x = record {
   switched = false;
 }
 
-plain_trace : (i : Inst) (s : State) → is_barrier_name i.op ≡ false
-    → (traced_action i s).trace ≡ trace_of s.trace.tc s.pc i (plain_seen i s (access_of i s)) s.trace.breaks
-plain_trace i s h = grind (arith, trace_kept, action_untraced, instruction_keeps, no_switch)
-
 trace_same : (i : Inst) (s : State) (bytes : ℕ → ℕ) → access_of i (with_memory s bytes) ≡ access_of i s
     → is_barrier_name i.op ≡ false
     → (traced_action i (with_memory s bytes)).trace ≡ (traced_action i s).trace
-trace_same i s bytes access h =
-    plain_trace i (with_memory s bytes) h
-    ∙ ap (λ (x : Access). trace_of s.trace.tc s.pc i (plain_seen i s x) s.trace.breaks) access
-    ∙ sym (plain_trace i s h)
+unfolding acted moved
+trace_same i s bytes access h = grind (arith, action_untraced, instruction_keeps)
 
 -- ---- the facts of an instruction
 

@@ -23,7 +23,7 @@ use Rattle.i9_model.proofs.LastPuts.{push_beside}
 use Rattle.i9_turns.proofs.CodeLaws.{code_beside}
 use Rattle.i9_turns.proofs.Outside.{not_in, is_kept, IsRestart, restarts, set_with}
 use Rattle.i9_regs.specs.Covered.{StartsAnew, IsCovered}
-use Rattle.i9_course.specs.NeedOf.{is_early, facts_of, need_of}
+use Rattle.i9_course.specs.NeedOf.{facts_of, need_of}
 
 -- ---- what is in the set of a need
 
@@ -73,8 +73,7 @@ pub need_covers : (n : ℕ) (c : Cache) (s : State) (k : Kind)
 unfolding need_of last_put
 need_covers n c s (Instruction i) = instruction_covers (facts_of i s 0 false false) i s
 need_covers n c s (Faulted None fault) = still_covers 0 s _ (λ r. refl) refl refl
-need_covers n c s (Faulted (Some i) fault) =
-    still_covers (inst_need i (facts_of i s 0 (is_early fault) false)).writes s _ (λ r. refl) refl refl
+need_covers n c s (Faulted (Some i) fault) = grind (arith, still_covers)
 need_covers n c s (Entered e) = push_covers 0 e.push s _ refl refl refl
 need_covers n c s (Interrupted x e) = push_covers 0 e.push s _ refl refl refl
 need_covers n c s (Reached e u) = still_covers 0 s _ (λ r. refl) refl refl

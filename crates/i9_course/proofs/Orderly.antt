@@ -1,17 +1,15 @@
 -- The records of a course issue and land in order, and each leaves what it does not write.
-use Rattle.std.proofs.Common.{◌≡◌, ℕ, zero, suc, ◌<◌, ◌≤◌, true, false, cond, List, [], ◌∷◌, length, Option, Some, None, refl, sym, ap, ◌∙◌, arith}
+use Rattle.std.proofs.Common.{◌≡◌, ℕ, zero, suc, ◌<◌, ◌≤◌, false, List, [], ◌∷◌, length, Option, refl, sym, ap, ◌∙◌, arith}
 use Rattle.std.specs.Prelude.{◌==◌}
 use Rattle.std.specs.Int.{bit_at}
 use Rattle.std.proofs.lemmas.Bool.Decides.{nat_tests}
 use Rattle.std.proofs.lemmas.Nat.Bits.{bit_at-lt}
 use Rattle.i9_model.specs.Memory.{stored}
-use Rattle.i9_model.specs.State.{State, boot}
+use Rattle.i9_model.specs.State.{boot}
 use Rattle.i9_model.specs.HeldFrames.{sets_in, cache_after}
 use Rattle.i9_model.specs.declared.event.Event.{Event}
 use Rattle.i9_model.specs.declared.event.Timed.{Timed}
-use Rattle.i9_model.specs.declared.event.When.{When}
-use Rattle.i9_model.specs.declared.event.When.TheVariants.{At, Turn}
-use Rattle.i9_model.specs.ScheduleText.{is_counted, IsByCounts, has_come_at, has_come_by, standing, standing_by}
+use Rattle.i9_model.specs.ScheduleText.{IsByCounts, standing, standing_by}
 use Rattle.i9_model.specs.Run.{Given, Record, IsPast, IsPastOfSome, Does, record_of, state_after, reached_after, next_with, next, due_after}
 use Rattle.i9_model.specs.Turns.{last_issue}
 use Rattle.i9_model.specs.Late.{turns, last_state, resource, resources, Leaves, IsOrderly, cell_at, latest, waiting, acted_memory, all_puts}
@@ -44,11 +42,7 @@ course_past g h c = past_of_events g (records_of h) (course_events g h c)
 -- where the plan is by counts, it knows no turns
 counted_standing : (ts : List Timed) (place k t : ℕ) → IsByCounts ts → standing_by ts place k t ≡ standing ts place k
 counted_standing [] place k t counted = refl
-counted_standing (x ∷ ts) zero k t counted = by_form x.when counted.0
-  where
-    by_form : (w : When) → is_counted w ≡ true → cond (has_come_by k t w) (Some x.event) None ≡ cond (has_come_at k w) (Some x.event) None
-    by_form (At n) is = refl
-    by_form (Turn n) is = absurd (cc is)
+counted_standing (x ∷ ts) zero k t counted = grind arith
 counted_standing (x ∷ ts) (suc place) k t counted = counted_standing ts place k t counted.1
 
 pub counted_next : (g : Given) (h : List Item) → IsByCounts g.plan → comes_next g h ≡ next g (records_of h)
@@ -88,9 +82,7 @@ step_leaves g h r k e lt none = grind (arith, kind_keeps, last_after)
 pub course_leaves : (g : Given) (h : List Item) → IsCourse g h → Leaves (boot g.image) (course g h).late
 course_leaves g [] c = tt
 course_leaves g (Fence ∷ h) c = course_leaves g h c
-course_leaves g (Step r ∷ h) c =
-    let is = comes_after g (event_ahead g h) (records_of h) r c.2 in
-    ((λ k lt none. step_leaves g h r k is lt (no_mark _ k none)), course_leaves g h c.0)
+course_leaves g (Step r ∷ h) c = grind (arith, comes_after, step_leaves, no_mark, course_leaves g h c.0)
 
 -- ---- with what is planned and waits
 
@@ -98,9 +90,7 @@ pub registers_settle : (g : Given) (h : List Item) (t r : ℕ) → IsCourse g h
     → last_issue (turns (course g h).late) ≤ t → r < resources
     → latest (cell_at (boot g.image) t (course g h).late r) ≡ resource (state_after g (records_of h)) r
 registers_settle g h t r c le lt =
-    cell-latest (boot g.image) t r (course g h).late lt (issued-by t (course g h).late (course_timed g h) le)
-    (course_orderly g h) (course_leaves g h c)
-    ∙ ap (λ (s : State). resource s r) (last_after g h)
+    grind (arith, cell-latest, issued-by, course_timed, course_orderly, course_leaves, last_after)
 
 pub memory_settles : (g : Given) (h : List Item) (t : ℕ) → last_issue (turns (course g h).late) ≤ t
     → stored (acted_memory (boot g.image).memory.bytes t (course g h).late) (all_puts (waiting t (course g h).late))

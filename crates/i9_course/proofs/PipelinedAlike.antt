@@ -1,37 +1,22 @@
 -- Which fault is imprecise depends on the records and the length alone: frames that are moved cost turns in barriers.
-use Rattle.std.proofs.Common.{◌≡◌, ℕ, ◌≤◌, Bool, false, ◌&&◌, List, [], ◌∷◌, Option, refl, ap, ◌∙◌, arith}
+use Rattle.std.proofs.Common.{◌≡◌, ℕ, ◌≤◌, Bool, ◌&&◌, List, [], ◌∷◌, Option, refl, arith}
 use Rattle.std.specs.Prelude.{nat_lt}
 use Rattle.std.specs.List.{AllZip}
-use Rattle.i9_isa.specs.declared.op.Op.{Op}
-use Rattle.i9_isa.specs.declared.inst.Inst.{Inst}
 use Rattle.i9_model.specs.declared.need.Need.{Need}
 use Rattle.i9_model.specs.declared.need.TimedNeed.{TimedNeed}
 use Rattle.i9_model.specs.State.{State}
 use Rattle.i9_model.specs.HeldFrames.{Cache, cache_after}
 use Rattle.i9_model.specs.Run.{Given, Kind, Record, Next, Does, state_after}
-use Rattle.i9_model.specs.Turns.{HaveCosts, IsAlike, last_issue, issue_turn, waiting_until, with_need, timed}
-use Rattle.i9_model.specs.Needs.{moves_frames, is_barrier_name, cost_by, inst_need}
+use Rattle.i9_model.specs.Turns.{HaveCosts, IsAlike, last_issue, issue_turn, waiting_until, timed}
 use Rattle.i9_model.specs.Late.{Late, turns}
-use Rattle.i9_turns.proofs.NeedLaws.{first_false}
 use Rattle.i9_turns.proofs.TurnAlike.{alike-overtakes}
-use Rattle.i9_course.specs.NeedOf.{facts_of, need_of, record_need, need_ahead}
-use Rattle.i9_course.specs.Course.{records_of, course, instruction_ahead, last_done, is_overtaken, imprecise_at}
+use Rattle.i9_course.specs.NeedOf.{need_of, record_need, need_ahead}
+use Rattle.i9_course.specs.Course.{course, instruction_ahead, last_done, is_overtaken, imprecise_at}
 use Rattle.i9_course.specs.PipelinedRun.{steps}
 use Rattle.i9_course.proofs.Timed.{need_cost}
 use Rattle.i9_course.proofs.PipelinedRuns.{records_of-steps, either_none}
 
 -- ---- needs with other sets
-
-unmoved : (op : Op) → is_barrier_name op ≡ false → moves_frames op ≡ false
-unmoved op h = grind arith
-
-cost_same : (op : Op) (waits a b : ℕ) → is_barrier_name op ≡ false → cost_by op waits a ≡ cost_by op waits b
-cost_same op waits a b h = grind (arith, unmoved)
-
--- an instruction that moves so many frames
-frames_alike : (i : Inst) (s : State) (a b : ℕ) (fault trace : Bool)
-    → IsAlike (inst_need i (facts_of i s a fault trace)) (inst_need i (facts_of i s b fault trace))
-frames_alike i s a b fault trace = grind (arith, first_false, cost_same)
 
 need_itself : (n : Need) → n.not_before ≡ 0 → IsAlike n n
 need_itself n e = record { barrier = refl; same = λ h. refl; wait = λ h. e }
@@ -39,7 +24,7 @@ need_itself n e = record { barrier = refl; same = λ h. refl; wait = λ h. e }
 -- the same, or barriers
 pub sets_alike : (n m : ℕ) (c d : Cache) (s : State) (k : Kind) → IsAlike (need_of n c s k) (need_of m d s k)
 unfolding need_of
-sets_alike n m c d s k = grind (arith, frames_alike, need_itself)
+sets_alike n m c d s k = grind arith
 
 ahead_alike : (asked other : Option ℕ) (c d : Cache) (o : Next) → IsAlike (need_ahead asked c o) (need_ahead other d o)
 ahead_alike asked other c d o = grind (arith, sets_alike, need_itself)
@@ -73,13 +58,7 @@ no_fence g (r ∷ rs) = no_fence g rs
 
 pub steps_turns : (g : Given) (rs : List Record) → turns (course g (steps rs)).late ≡ timed (needs g rs)
 steps_turns g [] = refl
-steps_turns g (r ∷ rs) =
-    let before = turns (course g (steps rs)).late in
-    let need : List Record → Need = λ qs. record_need g.sets (cache_after g qs) r in
-    ap (λ (t : ℕ). with_need before (waiting_until t (need (records_of (steps rs))))) (no_fence g rs)
-    ∙ ap (with_need before) (waits_none (need (records_of (steps rs))))
-    ∙ ap (λ (qs : List Record). with_need before (need qs)) (records_of-steps rs)
-    ∙ ap (λ (ts : List TimedNeed). with_need ts (need rs)) (steps_turns g rs)
+steps_turns g (r ∷ rs) = grind (arith, no_fence, waits_none, records_of-steps, steps_turns g rs)
 
 -- ---- an overtaking
 

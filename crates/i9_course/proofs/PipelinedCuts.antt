@@ -1,26 +1,21 @@
 -- A length cuts a pipelined run, but for arithmetic faults at the length itself, which are precise there.
-use Rattle.std.proofs.Common.{◌≡◌, ◌≢◌, ℕ, ◌+◌, ◌<◌, ◌≤◌, Bool, true, false, cond, eqb, List, [], ◌∷◌, Option, Some, None, refl, sym, ap, ◌∙◌, subst, ◌⊎◌, inl, inr, ◌↔◌, arith}
-use Rattle.std.specs.Prelude.{nat_lt}
-use Rattle.std.proofs.lemmas.Bool.{lt-ltb}
-use Rattle.std.proofs.lemmas.Bool.Decides.{nat_tests}
+use Rattle.std.proofs.Common.{◌≡◌, ◌≢◌, ℕ, ◌+◌, ◌<◌, ◌≤◌, false, List, [], ◌∷◌, Option, Some, None, refl, sym, ap, ◌∙◌, subst, ◌⊎◌, inl, inr, ◌↔◌, arith}
 use Rattle.i9_model.specs.declared.event.Event.{Event}
 use Rattle.i9_model.specs.declared.run.Due.{Due}
 use Rattle.i9_model.specs.declared.run.Due.TheVariants as dues
 use Rattle.i9_model.specs.declared.run.End.TheVariants.{Limit, Imprecise}
 use Rattle.i9_model.specs.State.{State}
-use Rattle.i9_model.specs.Before.{choice_in}
-use Rattle.i9_model.specs.Run.{Given, Kind, Instruction, Faulted, Entered, Interrupted, Reached, Record, Ends, counts_of, action_by_kind, Next, Does, due_by, due_after, next_by_choice, next_in, next_with, state_after, IsPastOfSome, Finish, finish}
+use Rattle.i9_model.specs.Run.{Given, Kind, Record, Ends, counts_of, action_by_kind, Next, Does, due_by, due_after, next_with, state_after, IsPastOfSome, Finish, finish}
 use Rattle.i9_model.proofs.ControlLaws.{acted-count}
 use Rattle.i9_past.proofs.Comes.{MayCome, next_comes}
 use Rattle.i9_past.proofs.Ends.{some_within}
 use Rattle.i9_past.proofs.Cuts.{state_by, next_longer}
-use Rattle.i9_course.specs.Course.{records_of, event_ahead, comes_next, last_fault, is_overtaken, imprecise_at}
+use Rattle.i9_course.specs.Course.{records_of, event_ahead, comes_next, last_fault, imprecise_at}
 use Rattle.i9_course.specs.PipelinedRun.{steps, IsPipelinedPast, IsPipelinedRun, is_imprecise}
 use Rattle.i9_course.proofs.Ahead.{imprecise_overtaken}
 use Rattle.i9_course.proofs.Orderly.{course_events}
 use Rattle.i9_course.proofs.Same.{same_event}
-use Rattle.i9_course.proofs.PipelinedRuns.{records_of-steps, next_of_steps, late_events, with_step, run_imprecise, imprecise_run, run_ends, precise_run, either_none}
-use Rattle.i9_course.proofs.PipelinedAlike.{imprecise_where}
+use Rattle.i9_course.proofs.PipelinedRuns.{records_of-steps, next_of_steps, late_events, with_step, run_imprecise, imprecise_run, run_ends, precise_run}
 
 abbrev at_length : Given → ℕ → Given
 at_length g more = record g { length = more }
@@ -36,11 +31,7 @@ below a b le other = grind (arith, le, other)
 
 kind_below : (limit : ℕ) (due : Due) (stands : Option Event) (s u : State) (k : Kind) → s.count ≤ limit
     → MayCome limit due stands s k → ComesBelow limit s k u
-kind_below limit due stands s u (Instruction i) le may = inl (below s.count limit le may.1)
-kind_below limit due stands s u (Faulted inst f) le may = inl (below s.count limit le may.1)
-kind_below limit due stands s u (Entered e) le may = inr (refl, refl)
-kind_below limit due stands s u (Interrupted c e) le may = inl (below s.count limit le may.1)
-kind_below limit due stands s u (Reached e x) le may = inl (below s.count limit le may.1)
+kind_below limit due stands s u k le may = grind arith
 
 at_most : (a b : ℕ) → a ≤ b → (a < b) ⊎ (a ≡ b)
 at_most a b le = grind arith
@@ -70,10 +61,7 @@ last_below g rs r past =
 -- where the run does not end there by its length, it is below it
 ends_there : (g : Given) (stands : Option Event) (rs : List Record) (r : Record) → due_after (r ∷ rs) ≡ dues.Nothing
     → r.after.count ≡ g.length → next_with g stands (r ∷ rs) ≡ Ends (finish Limit)
-ends_there g stands rs r none at =
-    let test : eqb r.after.count g.length ≡ true = grind (arith, nat_tests, at) in
-    ap (λ (due : Due). next_in g.length due stands r.after) none
-    ∙ ap (λ (b : Bool). cond b (Ends (finish Limit)) (next_by_choice stands r.after (choice_in r.after))) test
+ends_there g stands rs r none at = grind arith
 
 goes_below : (g : Given) (rs : List Record) (r : Record) → IsPipelinedPast g (r ∷ rs) → comes_next g (steps (r ∷ rs)) ≢ Ends (finish Limit)
     → (state_after g rs).count < g.length
@@ -95,12 +83,7 @@ counts_below g rs r late lt = elim (last_below g rs r (late_events g (r ∷ rs) 
 -- below the length a greater one makes no other fault imprecise
 pub imprecise_more : (g : Given) (more : ℕ) (rs : List Record) → g.length ≤ more → (state_after g rs).count < g.length
     → imprecise_at (at_length g more) (steps rs) ≡ imprecise_at g (steps rs)
-imprecise_more g more rs longer lt =
-    let k = at_length g more in
-    let n = (state_after g rs).count in
-    imprecise_where g k rs
-    (ap (λ (s : State). nat_lt s.count more) (state_by g k rs refl)
-    ∙ lt-ltb n more (omega (arith, longer, lt)) ∙ sym (lt-ltb n g.length lt))
+imprecise_more g more rs longer lt = grind arith
 
 -- what comes next but for the end of the length comes next at a greater one
 comes_more : (g : Given) (more : ℕ) (rs : List Record) (x : Next) → g.length ≤ more → IsPipelinedPast g rs → x ≢ Ends (finish Limit)
@@ -109,9 +92,8 @@ comes_more g more rs x longer late other e =
     let k = at_length g more in
     let h = steps rs in
     let qs = records_of h in
-    ap (λ (o : Option Event). next_with k o qs) (same_event g k refl refl h refl)
-    ∙ ap (λ (s : State). next_in more (due_after qs) (event_ahead g h) s) (state_by g k qs refl)
-    ∙ next_longer g.length more (due_after qs) (event_ahead g h) (state_after g qs) x (some_within g qs (course_events g h late)) longer other e
+    cc (same_event g k refl refl h refl, state_by g k qs refl,
+        next_longer g.length more (due_after qs) (event_ahead g h) (state_after g qs) x (some_within g qs (course_events g h late)) longer other e)
 
 no_limit : (r : Record) → Does r ≢ Ends (finish Limit)
 no_limit r same = cc same
@@ -146,14 +128,12 @@ below_more g more (r ∷ rs) longer lt late =
 
 -- no fault is imprecise where none was raised, whatever the length
 pub none_raised : (g : Given) (rs : List Record) → last_fault rs ≡ None → imprecise_at g (steps rs) ≡ None
-none_raised g [] none = either_none (is_overtaken g []) None refl
-none_raised g (r ∷ rs) none = either_none (is_overtaken g (steps (r ∷ rs))) (last_fault (r ∷ rs)) none
+none_raised g rs none = grind arith
 
 pub precise_more : (g : Given) (more : ℕ) (rs : List Record) → g.length ≤ more → IsPipelinedPast g rs
     → imprecise_at g (steps rs) ≡ None → (last_fault rs ≡ None) ⊎ ((state_after g rs).count < g.length)
     → imprecise_at (at_length g more) (steps rs) ≡ None
-precise_more g more rs longer late none (inl calm) = none_raised (at_length g more) rs calm
-precise_more g more rs longer late none (inr lt) = imprecise_more g more rs longer lt ∙ none
+precise_more g more rs longer late none h = grind arith
 
 pub late_longer : (g : Given) (more : ℕ) (rs : List Record) (r : Record) → g.length ≤ more → IsPipelinedPast g (r ∷ rs)
     → (last_fault rs ≡ None) ⊎ ((state_after g rs).count < g.length) → IsPipelinedPast (at_length g more) (r ∷ rs)

@@ -65,8 +65,7 @@ pub late_of_past : (g k : Given) (rs : List Record)
     → IsByCounts k.plan → IsPast k rs → IsPipelinedPast g rs → IsPipelinedPast k rs
 late_of_past g k [] precise counted past late = tt
 late_of_past g k (r ∷ rs) precise counted past late =
-    with_step k rs r (late_of_past g k rs precise counted past.0 late.0) (precise rs late.1)
-    (steps_counted k rs counted ∙ past.1)
+    grind (arith, with_step, steps_counted, late_of_past g k rs precise counted past.0 late.0)
 
 -- ---- its end
 
@@ -79,11 +78,7 @@ ended_only o x e plain h = grind (arith, not_both)
 
 imprecise_by : (o : Option ℕ) (x : Next) (a : ℕ) → ((f : Finish) → x ≡ Ends f → is_imprecise f.end ≡ false)
     → finish_by o x ≡ Some (finish (Imprecise a)) → o ≡ Some a
-imprecise_by (Some b) x a plain h =
-    let same : finish (Imprecise b) ≡ finish (Imprecise a) = cc in
-    let one : Imprecise b ≡ Imprecise a = ap (λ (f : Finish). f.end) same in
-    let at : b ≡ a = cc in
-    ap Some at
+imprecise_by (Some b) x a plain h = grind arith
 imprecise_by None (Does r) a plain h = absurd (cc h)
 imprecise_by None (Ends f) a plain h = absurd (not_both a f (sym h) (plain f refl))
 
@@ -186,14 +181,11 @@ finish_only o x f h = grind arith
 
 past_of_pipelined : (g : Given) (rs : List Record) → IsPipelinedPast g rs → IsPastOf (comes_late g) rs
 past_of_pipelined g [] late = tt
-past_of_pipelined g (r ∷ rs) late =
-    (past_of_pipelined g rs late.0, ap (λ (o : Option ℕ). comes_by o (comes_next g (steps rs))) late.1 ∙ late.2)
+past_of_pipelined g (r ∷ rs) late = grind (arith, past_of_pipelined g rs late.0)
 
 late_of_comes : (g : Given) (rs : List Record) → IsPastOf (comes_late g) rs → IsPipelinedPast g rs
 late_of_comes g [] past = tt
-late_of_comes g (r ∷ rs) past =
-    let both = does_only (imprecise_at g (steps rs)) (comes_next g (steps rs)) r past.1 in
-    with_step g rs r (late_of_comes g rs past.0) both.0 both.1
+late_of_comes g (r ∷ rs) past = grind (arith, does_only, with_step, late_of_comes g rs past.0)
 
 -- ---- it goes on to its end
 

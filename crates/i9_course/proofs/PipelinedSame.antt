@@ -1,17 +1,16 @@
 -- Pipelined runs of a plan by counts are the same with any number of sets; and each pipelined run is that of the events alone that
 -- it reached, each at its count.
-use Rattle.std.proofs.Common.{◌≡◌, ℕ, List, [], ◌∷◌, ◌++◌, Option, refl, sym, ap, ◌∙◌, ◌↔◌, inl, inr, Some, None, subst}
+use Rattle.std.proofs.Common.{◌≡◌, ℕ, List, [], ◌∷◌, ◌++◌, Option, refl, sym, ◌∙◌, ◌↔◌, inl, inr, subst, arith}
 use Rattle.i9_model.specs.declared.event.Timed.{Timed}
 use Rattle.i9_model.specs.State.{State}
 use Rattle.i9_model.specs.ScheduleText.{IsByCounts}
-use Rattle.i9_model.specs.Run.{Given, Kind, Instruction, Faulted, Entered, Interrupted, Reached, Record, reached_by, reached_after, state_after, Finish, reached_in, reached_last}
+use Rattle.i9_model.specs.Run.{Given, Kind, Record, reached_by, reached_after, state_after, Finish, reached_in}
 use Rattle.i9_past.proofs.Cuts.{state_by, next_by_state}
 use Rattle.i9_past.proofs.Heedful.{with_plan, past_to_end}
 use Rattle.i9_course.specs.Course.{comes_next, imprecise_at}
 use Rattle.i9_course.specs.PipelinedRun.{steps, IsPipelinedPast, finish_by, IsPipelinedRun}
 use Rattle.i9_course.proofs.PipelinedRuns.{steps_counted, late_by, late_of_past, pipelined_past, pipelined_run, run_ends, imprecise_run, precise_run, run_cases, late_events}
 use Rattle.i9_course.proofs.PipelinedAlike.{imprecise_same}
-use Rattle.i9_model.specs.declared.event.Event.{Event}
 
 -- ---- sets
 
@@ -22,9 +21,8 @@ next_sets : (g : Given) (asked : Option ℕ) (rs : List Record) → IsByCounts g
     → comes_next (with_sets g asked) (steps rs) ≡ comes_next g (steps rs)
 next_sets g asked rs counted =
     let k = with_sets g asked in
-    steps_counted k rs counted
-    ∙ next_by_state k rs (state_after g rs) (state_by g k rs refl)
-    ∙ sym (steps_counted g rs counted)
+    cc (steps_counted k rs counted, next_by_state k rs (state_after g rs) (state_by g k rs refl),
+        steps_counted g rs counted)
 
 pub imprecise_sets : (g : Given) (asked : Option ℕ) (rs : List Record)
     → imprecise_at (with_sets g asked) (steps rs) ≡ imprecise_at g (steps rs)
@@ -49,10 +47,7 @@ late_sets g asked rs counted = (less_sets g asked rs counted, more_sets g asked 
 ends_sets : (g : Given) (asked : Option ℕ) (rs : List Record) → IsByCounts g.plan
     → finish_by (imprecise_at (with_sets g asked) (steps rs)) (comes_next (with_sets g asked) (steps rs))
     ≡ finish_by (imprecise_at g (steps rs)) (comes_next g (steps rs))
-ends_sets g asked rs counted =
-    let k = with_sets g asked in
-    ap (λ (o : Option ℕ). finish_by o (comes_next k (steps rs))) (imprecise_sets g asked rs)
-    ∙ ap (finish_by (imprecise_at g (steps rs))) (next_sets g asked rs counted)
+ends_sets g asked rs counted = grind (arith, imprecise_sets, next_sets)
 
 pub run_sets : (g : Given) (asked : Option ℕ) (rs : List Record) (f : Finish) → IsByCounts g.plan
     → (IsPipelinedRun (with_sets g asked) rs f ↔ IsPipelinedRun g rs f)
@@ -69,11 +64,7 @@ imprecise_plan g plan rs = imprecise_same g (with_plan g plan) rs refl
 
 -- what is reached is reached at a count
 reached_counted : (k : Kind) (s : State) → IsByCounts (reached_by k s)
-reached_counted (Instruction i) s = tt
-reached_counted (Faulted inst fault) s = tt
-reached_counted (Entered e) s = tt
-reached_counted (Interrupted c e) s = tt
-reached_counted (Reached e u) s = (refl, tt)
+reached_counted k s = grind arith
 
 both_counted : (ts us : List Timed) → IsByCounts ts → IsByCounts us → IsByCounts (ts ++ us)
 both_counted [] us a b = b
@@ -88,15 +79,8 @@ late_again g rs late =
     let plan = reached_after rs in
     late_of_past g (with_plan g plan) rs (λ qs none. imprecise_plan g plan qs ∙ none) (all_counted rs) (pipelined_past g rs late) late
 
--- with the event that was reached with an end
-last_counted : (k : ℕ) (o : Option Event) → IsByCounts (reached_last k o)
-last_counted k None = tt
-last_counted k (Some e) = (refl, tt)
-
 pub in_counted : (g : Given) (rs : List Record) (f : Finish) → IsByCounts (reached_in g rs f)
-in_counted g rs f =
-    let k = (state_after g rs).count in
-    both_counted (reached_after rs) (reached_last k f.event) (all_counted rs) (last_counted k f.event)
+in_counted g rs f = grind (arith, both_counted, all_counted)
 
 late_to_end : (g : Given) (rs : List Record) (f : Finish) → IsPipelinedPast g rs → IsPipelinedPast (with_plan g (reached_in g rs f)) rs
 late_to_end g rs f late =

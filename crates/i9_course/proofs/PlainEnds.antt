@@ -1,7 +1,6 @@
 -- A run of the machine that does one instruction after the other never ends as imprecise, and an arithmetic fault that
 -- comes in it is raised by an instruction, and is named by its address.
 use Rattle.std.proofs.Common.{◌≡◌, ◌≢◌, ℕ, Bool, false, cond, Option, Some, Result, List, arith}
-use Rattle.std.specs.Option.{option_map}
 use Rattle.i9_isa.specs.declared.inst.Inst.{Inst}
 use Rattle.i9_isa.specs.declared.inst.BadWord.{BadWord}
 use Rattle.i9_model.specs.declared.faults.TheConstants.{ARITHMETIC}
@@ -10,15 +9,13 @@ use Rattle.i9_model.specs.declared.faults.FaultStop.{FaultStop}
 use Rattle.i9_model.specs.declared.faults.FaultStop.TheVariants as stops
 use Rattle.i9_model.specs.declared.interrupts.Chosen.{Chosen}
 use Rattle.i9_model.specs.declared.event.Event.{Event}
-use Rattle.i9_model.specs.declared.trace.Trace.{Trace}
 use Rattle.i9_model.specs.declared.run.Due.{Due}
-use Rattle.i9_model.specs.declared.run.End.TheVariants.{Exit}
 use Rattle.i9_model.specs.declared.run.Due.TheVariants as dues
 use Rattle.i9_model.specs.State.{State}
 use Rattle.i9_model.specs.Access.{fetch_hazard}
 use Rattle.i9_model.specs.Before.{Received}
-use Rattle.i9_model.specs.Standing.{Standing, Meets, Refused, by_access, by_later, by_raised, by_word, by_fetch, stands_at}
-use Rattle.i9_model.specs.Run.{Given, Kind, Faulted, Record, Next, Does, Ends, due_in, due_by, due_after, next_by_standing, next_by_entry, next_by_event, next_by_interrupt, next_by_choice, next_in, event_after, state_after, next_with, IsRun, Finish, next_by_received}
+use Rattle.i9_model.specs.Standing.{Standing, Meets, Refused, by_later, by_raised, by_word, by_fetch, stands_at}
+use Rattle.i9_model.specs.Run.{Given, Kind, Faulted, Record, Next, Does, Ends, due_after, next_by_standing, next_by_entry, next_by_event, next_by_interrupt, next_by_choice, next_in, event_after, state_after, next_with, IsRun, Finish, next_by_received}
 use Rattle.i9_course.specs.PipelinedRun.{is_imprecise}
 
 -- ---- a word that is refused raises none
@@ -27,11 +24,8 @@ abbrev IsOther : Standing → Type 0
 IsOther (Refused number) = number.0 ≢ ARITHMETIC
 IsOther _ = Unit {0}
 
-access_other : (i : Inst) (o : Option ℕ) → IsOther (by_access i o)
-access_other i o = grind arith
-
 later_other : (i : Inst) (s : State) (o : Option (ℕ × ℕ)) → IsOther (by_later i s o)
-later_other i s o = grind (arith, access_other)
+later_other i s o = grind arith
 
 raised_other : (i : Inst) (s : State) (o : Option (ℕ × ℕ)) → IsOther (by_raised i s o)
 raised_other i s o = grind (arith, later_other)
@@ -56,14 +50,8 @@ IsPlainDue (dues.End e) = is_imprecise e ≡ false
 IsPlainDue (dues.Entry fault) = Unit {0}
 IsPlainDue dues.Nothing = Unit {0}
 
-exit_plain : (s : State) (t : Option Trace) (o : Option ℕ) → IsPlainDue (due_in s t (option_map Exit o))
-exit_plain s t o = grind arith
-
-kind_plain : (k : Kind) (s : State) → IsPlainDue (due_by k s)
-kind_plain k s = grind (arith, exit_plain)
-
 due_plain : (rs : List Record) → IsPlainDue (due_after rs)
-due_plain rs = grind (arith, kind_plain)
+due_plain rs = grind arith
 
 -- ---- what comes next
 

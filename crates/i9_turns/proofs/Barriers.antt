@@ -24,11 +24,7 @@ all_permit m t [] k h = tt
 all_permit m t (r ∷ rs) k h = (permits-done m t r k.0 h.0, all_permit m t rs k.1 h.1)
 
 barrier_can : (n m : Need) (last t : ℕ) (rs : List TimedNeed) → IsTrue n.barrier → n.not_before ≡ m.not_before → AllByRecursion (λ r. r.issue < r.done) rs → CanIssue last rs n t → CanIssue last rs m t
-barrier_can n m last t rs b e time can =
-    let done = all_done n t rs b can.each in
-    let none = none_open t rs done in
-    let wait : n.not_before ≤ t = can.waited in
-    record { in_order = can.in_order; waited = omega (arith, e, wait); each = all_permit m t rs time done; room = λ q. omega (arith, none) }
+barrier_can n m last t rs b e time can = grind (arith, all_done, none_open, all_permit)
 
 pub barriers_alike : (n m : Need) (rs : List TimedNeed) → IsTimed rs → TakesTurns rs → IsTrue n.barrier → IsTrue m.barrier → n.not_before ≡ m.not_before → issue_turn (last_issue rs) rs n ≡ issue_turn (last_issue rs) rs m
 barriers_alike n m rs h c bn bm e =

@@ -80,8 +80,7 @@ memory-lands m t u xs le i o = moves m t u xs le i o
 -- and the others stay in the queue
 pub waiting-lands : (t u : ℕ) (xs : List Late) → t ≤ u → waiting u xs ≡ left_waiting u (waiting t xs)
 waiting-lands t u [] le = refl
-waiting-lands t u (x ∷ xs) le =
-    grind (arith, nat_tests, waiting-lands t u xs le, left-append u (waiting t xs) (wait_of x ∷ []), append-nil (left_waiting u (waiting t xs)))
+waiting-lands t u (x ∷ xs) le = grind (arith, nat_tests, left-append, append-nil, waiting-lands t u xs le)
 
 -- The memory after all waiting requests is the settled one.
 all-last : (vs : List Wait) (w : Wait) → all_puts (vs ++ w ∷ []) ≡ all_puts vs ++ w.puts

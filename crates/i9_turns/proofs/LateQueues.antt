@@ -1,30 +1,24 @@
 -- The waiting requests as a queue.
-use Rattle.std.proofs.Common.{◌≡◌, ℕ, ◌≤◌, cond, ◌&&◌, List, [], ◌∷◌, length, refl, inl, inr, arith, length-append}
+use Rattle.std.proofs.Common.{◌≡◌, ℕ, cond, ◌&&◌, List, [], ◌∷◌, length, refl, arith, length-append}
 use Rattle.std.specs.Prelude.{nat_lt}
 use Rattle.std.proofs.lemmas.List.Sums.{sum_by-cons}
 use Rattle.std.proofs.lemmas.Bool.{cases_Bool, and_parts}
 use Rattle.std.proofs.lemmas.Bool.Decides.{nat_tests}
 use Rattle.i9_model.specs.Turns.{open_requests}
-use Rattle.i9_model.specs.Late.{Late, wait_of, turns, is_waiting, waiting, AreDueInOrder, RequestsDone, IsOrderly}
+use Rattle.i9_model.specs.Late.{Late, wait_of, turns, waiting, AreDueInOrder, RequestsDone, IsOrderly}
 use Rattle.i9_turns.proofs.LateMemories.{waiting-yes, waiting-no}
 use Rattle.i9_model.proofs.Queues.{AllBefore, all-append, order-append}
 
 pub waits-before : (t d : ℕ) (xs : List Late) → RequestsDone d xs → AllBefore d (waiting t xs)
 waits-before t d [] h = tt
 waits-before t d (x ∷ xs) h =
-    elim (cases_Bool (is_waiting t x)) [
-      | inl w ↦ rw (waiting-yes t x xs w) (all-append (λ v. v.due ≤ d) (waiting t xs) (wait_of x) (waits-before t d xs h.1) (h.0 (and_parts _ _ w).0))
-      | inr n ↦ rw (waiting-no t x xs n) (waits-before t d xs h.1)
-    ]
+    grind (arith, cases_Bool, waiting-yes, all-append, and_parts, waiting-no, waits-before t d xs h.1)
 
 -- The requests wait in the order of their turns.
 pub waiting-in-order : (t : ℕ) (xs : List Late) → IsOrderly xs → AreDueInOrder (waiting t xs)
 waiting-in-order t [] o = tt
 waiting-in-order t (x ∷ xs) o =
-    elim (cases_Bool (is_waiting t x)) [
-      | inl w ↦ rw (waiting-yes t x xs w) (order-append (waiting t xs) (wait_of x) (waiting-in-order t xs o.1) (waits-before t x.timed.done xs (o.0.requests (and_parts _ _ w).0)))
-      | inr n ↦ rw (waiting-no t x xs n) (waiting-in-order t xs o.1)
-    ]
+    grind (arith, cases_Bool, waiting-yes, order-append, waits-before, and_parts, waiting-no, waiting-in-order t xs o.1)
 
 -- There are as many as there are open requests.
 pub waiting-count : (t : ℕ) (xs : List Late) → length (waiting t xs) ≡ open_requests t (turns xs)

@@ -37,12 +37,7 @@ lands : (first : State) (t u r : ℕ) (xs : List Late) → t ≤ u → IssuedBy 
 unfolding Lands
 lands first t u r [] le i o = (refl, refl)
 lands first t u r (x ∷ xs) le i o =
-    let before = lands first t u r xs le i.1 o.1 in
-    let done : marks x r ≡ true → WritersDone r t xs = λ w. writers-later r x.timed.issue t xs i.0 (o.0.writers r w) in
-    let none : marks x r ≡ true → planned t xs r ≡ None = λ w. plan-none t r xs (done w) in
-    let later : marks x r ≡ true → planned u xs r ≡ None = λ w. plan-none u r xs (writers-later r t u xs le (done w)) in
-    let still : marks x r ≡ true → raw_value first u xs r ≡ raw_value first t xs r = λ w. raw-still first t u r xs le (done w) in
-    (grind (arith, nat_tests), grind (arith, nat_tests))
+    grind (arith, writers-later, plan-none, raw-still, nat_tests, lands first t u r xs le i.1 o.1)
 
 make_cell : (v w : ℕ) (p q : Option (ℕ × ℕ)) → v ≡ w → p ≡ q → cell v p ≡ cell w q
 make_cell v w p q e f = ap (λ x. cell x p) e ∙ ap (cell w) f

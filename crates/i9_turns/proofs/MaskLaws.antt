@@ -1,5 +1,5 @@
 -- A record leaves the registers that its need does not write.
-use Rattle.std.proofs.Common.{◌≡◌, ℕ, ◌+◌, ◌*◌, ◌≤◌, Bool, true, false, cond, ◌&&◌, ◌||◌, List, [], ◌∷◌, length, Option, Some, None, refl, sym, ap, ◌∙◌, arith}
+use Rattle.std.proofs.Common.{◌≡◌, ℕ, ◌≤◌, Bool, true, false, cond, ◌&&◌, ◌||◌, List, [], ◌∷◌, length, Option, Some, None, refl, sym, ap, ◌∙◌, arith}
 use Rattle.std.specs.Prelude.{◌==◌, nat_le, not}
 use Rattle.std.proofs.lemmas.Bool.{cond-false, leb-true, eqb-true}
 use Rattle.std.proofs.lemmas.Bool.Decides.{nat_tests}
@@ -7,27 +7,25 @@ use Rattle.std.proofs.lemmas.List.FromFn.{length-map-range_with_len}
 use Rattle.i9_isa.specs.declared.op.Op.{Op}
 use Rattle.i9_isa.specs.declared.op.Op.TheVariants.{Lda, Atadd, Atmod, Balx, Bal, Call, Callx, Calls, Ret, Modac, Modtc, Modpc, Addi}
 use Rattle.i9_isa.specs.declared.size.Size.{Size}
-use Rattle.i9_isa.specs.declared.size.Size.TheVariants.{Byte, Half, Words}
 use Rattle.i9_isa.specs.declared.size.Direction.{Direction}
-use Rattle.i9_isa.specs.declared.size.Direction.TheVariants.{Load, Store}
+use Rattle.i9_isa.specs.declared.size.Direction.TheVariants.{Load}
 use Rattle.i9_isa.specs.declared.size.Transfer.{Transfer}
 use Rattle.i9_isa.specs.declared.inst.Operand.{Operand}
-use Rattle.i9_isa.specs.declared.inst.Operand.TheVariants.{Reg, Lit, Sfr}
 use Rattle.i9_isa.specs.declared.inst.Inst.{Inst}
 use Rattle.i9_isa.specs.Operands.{words_written}
-use Rattle.i9_isa.specs.Resources.{is_in_group, is_in_operand, is_in_frame, changes_frame, writes_link}
+use Rattle.i9_isa.specs.Resources.{is_in_operand, is_in_frame, changes_frame, writes_link}
 use Rattle.i9_isa.specs.declared.resources.TheConstants.{LINK}
 use Rattle.i9_isa.specs.Table.{row_of}
 use Rattle.i9_isa.specs.Transfers.{register_count, transfer_of}
 use Rattle.i9_isa.proofs.Moved.{loads_registers}
-use Rattle.i9_model.specs.Writes.{wrapped, last_put}
+use Rattle.i9_model.specs.Writes.{last_put}
 use Rattle.i9_model.specs.declared.layout.TheConstants.{FP, SP, LOCAL_RETURN}
 use Rattle.i9_model.specs.Frames.{pushed}
 use Rattle.i9_model.specs.State.{State}
 use Rattle.i9_model.specs.Operands.{assigned, address}
 use Rattle.i9_model.specs.Memory.{Memory, word_in, words_in}
 use Rattle.i9_model.specs.Numbers.{signed}
-use Rattle.i9_model.specs.Results.{words, results_by, destination_words, long}
+use Rattle.i9_model.specs.Results.{words, results_by, destination_words}
 use Rattle.i9_model.specs.Branches.{asks, question_of}
 use Rattle.i9_model.specs.Step.{values_of, destination, loaded, moving, action_by_name, action_by, action_of, branching, resulting, answer_in, atomic_address, following, return_in, system_call}
 use Rattle.i9_model.specs.Stale.{legible, left_memory}
@@ -41,14 +39,9 @@ few_values _ a b c ac = grind arith
 
 -- ---- registers beside a destination
 
-in_fewer : (r m n k : ℕ) → m ≤ n → is_in_group r n k ≡ false → is_in_group r m k ≡ false
-in_fewer r m n k le h = grind (arith, nat_tests, le, h)
-
 operand_beside : (o : Operand) (n k : ℕ) (vs : List ℕ) → length vs ≤ n → is_in_operand o n k ≡ false → last_put (assigned o vs) k ≡ None
 unfolding last_put
-operand_beside (Reg r) n k vs few h = group_beside r k vs (in_fewer r (length vs) n k few h)
-operand_beside (Lit l) n k vs few h = refl
-operand_beside (Sfr j) n k vs few h = refl
+operand_beside o n k vs few h = grind (arith, group_beside, nat_tests)
 
 -- ---- an instruction
 
@@ -64,23 +57,15 @@ c_beside op i k vs e few h =
 
 -- no name writes two operands
 pub one_target : (op : Op) → ((words_written (row_of op).a == 0) || (words_written (row_of op).c == 0)) ≡ true
-one_target Addi = refl
-one_target _ = refl
+one_target op = grind arith
 
 answer_beside : (first : Bool) (i : Inst) (k : ℕ) (vs : List ℕ) → (words_written (row_of i.op).a == 0) ≡ first → length vs ≤ destination_words i.op → IsOutside i k → last_put (assigned (destination i) vs) k ≡ None
-answer_beside true i k vs e few h =
-    let none : words_written (row_of i.op).a ≡ 0 = eqb-true _ _ e in
-    ap (λ (b : Bool). last_put (assigned (cond b i.c i.a) vs) k) e
-    ∙ operand_beside i.c (words_written (row_of i.op).c) k vs (omega (arith, none, few)) h.c
-answer_beside false i k vs e few h =
-    let none : words_written (row_of i.op).c ≡ 0 = eqb-true _ _ (sym (ap (λ (b : Bool). b || (words_written (row_of i.op).c == 0)) e) ∙ one_target i.op) in
-    ap (λ (b : Bool). last_put (assigned (cond b i.c i.a) vs) k) e
-    ∙ operand_beside i.a (words_written (row_of i.op).a) k vs (omega (arith, none, few)) h.a
+unfolding last_put
+answer_beside first i k vs e few h = grind (arith, eqb-true, group_beside, nat_tests, one_target)
 
 other_beside : (b : Bool) (i : Inst) (s : State) (k : ℕ) → IsOutside i k → last_put (cond b (branching i s) (resulting i s (answer_in i s))).sets k ≡ None
 unfolding last_put
-other_beside true i s k h = refl
-other_beside false i s k h = answer_beside (words_written (row_of i.op).a == 0) i k (values_of (answer_in i s)) refl (leb-true _ _ (few_values i.op _ _ _ s.ac)) h
+other_beside b i s k h = grind (arith, answer_beside, leb-true, few_values)
 
 one_beside : (r v k : ℕ) → (k == r) ≡ false → last_put ((r, v) ∷ []) k ≡ None
 unfolding last_put
@@ -107,17 +92,11 @@ name_beside op i s k e h = grind (arith, other_beside (asks (question_of op)) i 
 
 -- a load has the words of its size
 loaded_long : (size : Size) (signed : Bool) (m : Memory) (a : ℕ) → length (loaded size signed m a) ≡ register_count size
-loaded_long Byte signed m a = refl
-loaded_long Half signed m a = refl
-loaded_long (Words n) signed m a = length-map-range_with_len (λ (k : ℕ). word_in m (wrapped (a + 4 * k))) 0 n
+loaded_long size signed m a = grind (arith, length-map-range_with_len)
 
 moving_beside : (d : Direction) (size : Size) (signed : Bool) (i : Inst) (s : State) (k : ℕ) → (d ≡ Load → words_written (row_of i.op).c ≡ register_count size) → IsOutside i k → last_put (moving d size signed i s).sets k ≡ None
 unfolding last_put
-moving_beside Load size signed i s k row h =
-    let long = loaded_long size signed (legible s) (address s i.ea) in
-    let words = row refl in
-    operand_beside i.c (words_written (row_of i.op).c) k (loaded size signed (legible s) (address s i.ea)) (omega (arith, long, words)) h.c
-moving_beside Store size signed i s k row h = refl
+moving_beside d size signed i s k row h = grind (arith, loaded_long, operand_beside)
 
 -- a register that the need does not write is not set
 pub sets_beside : (i : Inst) (s : State) (k : ℕ) → IsOutside i k → last_put (action_of i s).sets k ≡ None

@@ -1,31 +1,22 @@
 -- Laws of needs: what they cost, and what writes no memory.
 use Rattle.std.proofs.Common.{◌≡◌, ℕ, ◌≤◌, Bool, true, false, cond, ◌&&◌, ◌||◌, [], refl, ◌∙◌, inl, inr, arith}
-use Rattle.std.specs.Prelude.{not, Option, Some, None, is_some}
+use Rattle.std.specs.Prelude.{not}
 use Rattle.std.proofs.lemmas.Bool.{cases_Bool, cond-true, cond-false}
 use Rattle.i9_isa.specs.declared.op.Op.{Op}
-use Rattle.i9_isa.specs.declared.op.Op.TheVariants.{Mulo, Call}
-use Rattle.i9_isa.specs.declared.size.Transfer.{Transfer}
-use Rattle.i9_isa.specs.Transfers.{transfer_of}
 use Rattle.i9_isa.specs.declared.inst.Inst.{Inst}
-use Rattle.i9_isa.specs.Costs.{latency_of}
 use Rattle.i9_model.specs.declared.need.Facts.{Facts}
 use Rattle.i9_model.specs.State.{State}
-use Rattle.i9_model.specs.Step.{Stays, action_by_name, action_by, action_of}
+use Rattle.i9_model.specs.Step.{Stays, action_of}
 use Rattle.i9_model.specs.Turns.{HasCost}
 use Rattle.i9_model.specs.Needs.{is_request_name, is_slow_name, is_barrier_name, writes_sfr, is_calm, cost_by, inst_need, refused_need, event_need, entry_need}
 
 -- ---- costs
 
-some_turns : (op : Op) → 1 ≤ latency_of op
-some_turns Mulo = omega arith
-some_turns _ = omega arith
-
 some_cost : (op : Op) (waits frames : ℕ) → 1 ≤ cost_by op waits frames
-some_cost op waits frames = omega (arith, some_turns op)
+some_cost op waits frames = grind arith
 
 plain_cost : (op : Op) (waits frames : ℕ) → is_request_name op ≡ false → is_slow_name op ≡ false → is_barrier_name op ≡ false → cost_by op waits frames ≡ 1
-plain_cost Mulo waits frames q s b = grind (arith, q, s, b)
-plain_cost _ waits frames q s b = grind (arith, q, s, b)
+plain_cost op waits frames q s b = grind arith
 
 calm_some : (b : Bool) (n : ℕ) → 1 ≤ n → 1 ≤ cond b n 1
 calm_some b n h = grind arith
@@ -53,22 +44,13 @@ pub refused_cost : (ip : ℕ) → HasCost (refused_need ip)
 refused_cost ip = record { some = omega arith; plain = λ h. refl }
 
 pub event_cost : (moves : Bool) (turn : ℕ) → HasCost (event_need moves turn)
-event_cost true turn = record { some = omega arith; plain = λ h. absurd (cc h) }
-event_cost false turn = record { some = omega arith; plain = λ h. refl }
+event_cost moves turn = grind arith
 
 pub entry_cost : (frames : ℕ) → HasCost (entry_need frames)
 entry_cost frames = record { some = omega arith; plain = λ h. absurd (cc h) }
 
 -- ---- what is neither a request nor a barrier
 
-quiet_name : (op : Op) (i : Inst) (s : State) → is_barrier_name op ≡ false → ((action_by_name op i s).writes ≡ []) × ((action_by_name op i s).move ≡ Stays)
-quiet_name Call i s b = absurd (cc b)
-quiet_name _ i s b = grind arith
-
 pub quiet : (i : Inst) (s : State) → is_request_name i.op ≡ false → is_barrier_name i.op ≡ false → ((action_of i s).writes ≡ []) × ((action_of i s).move ≡ Stays)
 unfolding action_of
-quiet i s q b = by_transfer (transfer_of i.op) q
-  where
-    by_transfer : (o : Option Transfer) → is_some o ≡ false → ((action_by o i s).writes ≡ []) × ((action_by o i s).move ≡ Stays)
-    by_transfer (Some t) e = absurd (cc e)
-    by_transfer None e = quiet_name i.op i s b
+quiet i s q b = grind arith

@@ -1,32 +1,22 @@
 -- An action leaves the resources that its need does not write.
-use Rattle.std.proofs.Common.{◌≡◌, ℕ, ◌<◌, ◌+◌, ◌-◌, ◌%◌, Bool, true, false, ◌||◌, ◌&&◌, List, ◌∷◌, Option, Some, None, unwrap_or, refl, sym, ap, ◌∙◌, arith}
+use Rattle.std.proofs.Common.{◌≡◌, ℕ, ◌<◌, ◌+◌, ◌-◌, ◌%◌, Bool, true, false, ◌||◌, ◌&&◌, List, ◌∷◌, Option, None, unwrap_or, refl, sym, ap, ◌∙◌, arith}
 use Rattle.std.specs.Prelude.{◌==◌, replicate}
 use Rattle.std.specs.Int.{bit_at, from_bool}
 use Rattle.std.proofs.lemmas.Bool.{both_ways}
-use Rattle.i9_isa.specs.declared.op.Op.{Op}
-use Rattle.i9_isa.specs.declared.op.Op.TheVariants.{Sysctl}
-use Rattle.i9_isa.specs.declared.size.Size.{Size}
-use Rattle.i9_isa.specs.declared.size.Direction.{Direction}
-use Rattle.i9_isa.specs.declared.size.Direction.TheVariants.{Load, Store}
-use Rattle.i9_isa.specs.declared.size.Transfer.{Transfer}
-use Rattle.i9_isa.specs.Transfers.{transfer_of}
 use Rattle.i9_isa.specs.declared.inst.Inst.{Inst}
-use Rattle.i9_isa.specs.declared.resources.TheConstants.{CONDITION_CODE, LINK}
-use Rattle.i9_isa.specs.Operands.{words_written}
-use Rattle.i9_isa.specs.Resources.{is_in_frame, is_in_operand, writes_link, changes_frame, writes_code, is_written}
-use Rattle.i9_isa.specs.Table.{row_of}
+use Rattle.i9_isa.specs.declared.resources.TheConstants.{CONDITION_CODE}
+use Rattle.i9_isa.specs.Resources.{is_in_frame, changes_frame, writes_code, is_written}
 use Rattle.i9_model.specs.declared.faults.Entry.{Entry}
 use Rattle.i9_model.specs.declared.need.Facts.{Facts}
 use Rattle.i9_model.specs.Writes.{last_put, wrapped}
 use Rattle.i9_model.specs.declared.layout.TheConstants.{FRAME_SIZE}
 use Rattle.i9_model.specs.declared.setup.Setup.{Setup}
 use Rattle.i9_model.specs.State.{State, started, start_sets, first_frame}
-use Rattle.i9_model.specs.Boot.{setup_of}
 use Rattle.i9_model.specs.Tables.{group_words}
 use Rattle.i9_model.specs.Controls.{Control, KeepsControls, Restarts, LoadsGroup, controlled, with_group}
 use Rattle.i9_model.specs.Traced.{traced_action}
 use Rattle.i9_model.proofs.ControlLaws.{flagged-others}
-use Rattle.i9_model.specs.Step.{Action, moving, action_by_name, action_by, action_of, entering, faulting, moved, acted}
+use Rattle.i9_model.specs.Step.{Action, action_of, entering, faulting, moved, acted}
 use Rattle.i9_model.specs.Late.{resource, resources}
 use Rattle.i9_model.specs.Needs.{set_of, inst_need, entry_need}
 use Rattle.i9_model.proofs.Stored.{written-last}
@@ -49,13 +39,10 @@ pub record IsKept (i : Inst) (r : ℕ) : Type 0 where
   pub code : (writes_code i.op && (r == CONDITION_CODE)) ≡ false
 
 pub all_false : (a b c d e : Bool) → (a || b || c || d || e) ≡ false → (a ≡ false) × (b ≡ false) × (c ≡ false) × (d ≡ false) × (e ≡ false)
-all_false a b c d e h =
-    (grind arith, grind arith, grind arith, grind arith, grind arith)
+all_false a b c d e h = grind arith
 
 pub is_kept : (i : Inst) (r : ℕ) → is_written i r ≡ false → IsKept i r
-is_kept i r h =
-    let f = all_false (is_in_operand i.a (words_written (row_of i.op).a) r) (is_in_operand i.c (words_written (row_of i.op).c) r) (writes_link i.op && (r == LINK)) (changes_frame i.op && is_in_frame r) (writes_code i.op && (r == CONDITION_CODE)) h in
-    record { outside = record { a = f.0; c = f.1; link = f.2; frame = f.3 }; code = f.4 }
+is_kept i r h = grind (arith, all_false)
 
 -- ---- the state after an action
 
@@ -78,11 +65,7 @@ controls_keep : (s : State) (c : Control) (r : ℕ) → (IsRestart c → ((r == 
 unfolding started
 controls_keep s KeepsControls r h = refl
 controls_keep s (LoadsGroup group) r h = group_keeps s group (group_words s.memory s.tables.control_table group) r
-controls_keep s (Restarts first prcb) r h =
-    let q = h tt in
-    let u = setup_of s.memory first prcb in
-    by_resource (controlled s (Restarts first prcb)) s r (λ code. absurd (both_ways (r == CONDITION_CODE) q.0 code))
-    (λ register. written-last s.regs (start_sets u) r ∙ ap (λ (o : Option ℕ). unwrap_or o (s.regs r)) (start_beside u r q.1))
+controls_keep s (Restarts first prcb) r h = grind (arith, by_resource, both_ways, written-last, start_beside)
 
 moved_keeps : (s : State) (a : Action) (r : ℕ) → last_put a.sets r ≡ None → ((r == CONDITION_CODE) ≡ true → a.ac % 8 ≡ s.ac % 8) → resource (moved s a) r ≡ resource s r
 unfolding moved
@@ -91,28 +74,13 @@ moved_keeps s a r none code = by_resource (moved s a) s r code (λ register. wri
 acted_keeps : (s : State) (a : Action) (r : ℕ) → last_put a.sets r ≡ None → ((r == CONDITION_CODE) ≡ true → a.ac % 8 ≡ s.ac % 8)
     → (IsRestart a.control → ((r == CONDITION_CODE) ≡ false) × (is_in_frame r ≡ false)) → resource (acted s a) r ≡ resource s r
 unfolding acted
-acted_keeps s a r none code restart =
-    ap (λ (x : State). resource x r) (flagged-others a.trace (controlled (moved s a) a.control))
-    ∙ controls_keep (moved s a) a.control r restart ∙ moved_keeps s a r none code
+acted_keeps s a r none code restart = grind (arith, flagged-others, controls_keep, moved_keeps)
 
 -- ---- an instruction
 
--- only what writes the frame and the condition code starts the processor anew
-name_restarts : (op : Op) (i : Inst) (s : State) → IsRestart (action_by_name op i s).control → (changes_frame op ≡ true) × (writes_code op ≡ true)
-name_restarts Sysctl i s h = (refl, refl)
-name_restarts _ i s h = absurd h
-
-moving_keeps : (d : Direction) (size : Size) (signed : Bool) (i : Inst) (s : State) → IsRestart (moving d size signed i s).control → ⊥
-moving_keeps Load size signed i s h = h
-moving_keeps Store size signed i s h = h
-
 pub restarts : (i : Inst) (s : State) → IsRestart (action_of i s).control → (changes_frame i.op ≡ true) × (writes_code i.op ≡ true)
 unfolding action_of
-restarts i s h = by_transfer (transfer_of i.op) h
-  where
-    by_transfer : (o : Option Transfer) → IsRestart (action_by o i s).control → (changes_frame i.op ≡ true) × (writes_code i.op ≡ true)
-    by_transfer (Some t) k = absurd (moving_keeps t.direction t.size t.signed i s k)
-    by_transfer None k = name_restarts i.op i s k
+restarts i s h = grind arith
 
 unset : (b c : Bool) → b ≡ true → (b && c) ≡ false → c ≡ false
 unset b c e h = grind arith

@@ -1,8 +1,8 @@
 -- What barriers cost decides no overtaking.
-use Rattle.std.proofs.Common.{◌≡◌, ◌≤◌, true, List, [], ◌∷◌, ◌++◌, sym, refl, ap, ◌∙◌, subst, inl, inr}
+use Rattle.std.proofs.Common.{◌≡◌, true, List, [], ◌∷◌, ◌++◌, sym, refl, ap, ◌∙◌, subst, inl, inr, arith}
 use Rattle.std.specs.Prelude.{IsTrue, map}
 use Rattle.std.specs.List.{AllZip}
-use Rattle.std.proofs.lemmas.Bool.{cases_Bool, le-ltb}
+use Rattle.std.proofs.lemmas.Bool.{cases_Bool}
 use Rattle.i9_model.specs.declared.need.Need.{Need}
 use Rattle.i9_model.specs.declared.need.TimedNeed.{TimedNeed}
 use Rattle.i9_model.specs.Turns.{IsTimed, TakesTurns, WaitForNone, timed, issue_turn, last_issue, done_turn, overtakes, IsAlike, HaveCosts}
@@ -33,12 +33,7 @@ splits (n ∷ front) back =
 
 -- a barrier overtakes nothing and is not overtaken
 pub overtakes-barrier : (xs : List TimedNeed) (b : TimedNeed) (ys : List TimedNeed) → IsTrue b.need.barrier → IsTimed (xs ++ b ∷ ys) → overtakes (xs ++ b ∷ ys) ≡ overtakes xs
-overtakes-barrier [] b [] is h = refl
-overtakes-barrier [] b (y ∷ ys) is h =
-    let le : y.done ≤ b.issue = h.0.issue.can.each.0.alone (inl is) in le-ltb b.issue y.done le
-overtakes-barrier (x ∷ []) b ys is h =
-    let le : b.done ≤ x.issue = h.0.issue.can.each.0.barrier is in le-ltb x.issue b.done le
-overtakes-barrier (x ∷ z ∷ xs) b ys is h = refl
+overtakes-barrier xs b ys is h = grind arith
 
 -- the overtaking after a barrier is that of what follows it
 pub overtakes-front : (front : List Need) (b : Need) (back : List Need) → b.barrier ≡ true → HaveCosts (front ++ b ∷ back) → NeedsWaitForNone front → overtakes (timed (front ++ b ∷ back)) ≡ overtakes (timed front)
@@ -74,9 +69,7 @@ parts (n ∷ ns) (m ∷ ms) h =
 parts _ _ h = absurd h
 
 pub parts-overtakes : (ns ms : List Need) → HaveCosts ns → HaveCosts ms → Parts ns ms → overtakes (timed ns) ≡ overtakes (timed ms)
-parts-overtakes ns ms c d (Same ks) = refl
-parts-overtakes ns ms c d (Apart front b k back other x y w) =
-    overtakes-front front b back x c w ∙ sym (overtakes-front front k other y d w)
+parts-overtakes ns ms c d h = grind (arith, overtakes-front)
 
 pub alike-overtakes : (ns ms : List Need) → HaveCosts ns → HaveCosts ms → AllZip IsAlike ns ms → overtakes (timed ns) ≡ overtakes (timed ms)
 alike-overtakes ns ms c d h = parts-overtakes ns ms c d (parts ns ms h)

@@ -1,5 +1,5 @@
 -- After a barrier the turns depend on what follows it alone.
-use Rattle.std.proofs.Common.{◌≡◌, ℕ, ◌+◌, ◌-◌, ◌<◌, ◌≤◌, max, cond, ◌&&◌, ltb, List, [], ◌∷◌, ◌++◌, sym, refl, ap, ◌∙◌, subst, inl, arith}
+use Rattle.std.proofs.Common.{◌≡◌, ℕ, ◌+◌, ◌-◌, ◌<◌, ◌≤◌, max, cond, ◌&&◌, ltb, List, [], ◌∷◌, ◌++◌, sym, refl, ap, ◌∙◌, subst, arith}
 use Rattle.std.specs.Prelude.{IsTrue, nat_lt, map}
 use Rattle.std.specs.List.{AllByRecursion}
 use Rattle.std.proofs.lemmas.List.Sums.{sum_by-cons}
@@ -25,13 +25,11 @@ IsTimedFrom base [] = Unit {0}
 IsTimedFrom base (r ∷ rs) = FollowsFrom base rs r × IsTimedFrom base rs
 
 pub last_issue-from : (rs : List TimedNeed) → last_issue rs ≡ last_from 1 rs
-last_issue-from [] = refl
-last_issue-from (r ∷ rs) = refl
+last_issue-from rs = grind arith
 
 pub from-IsTimed : (rs : List TimedNeed) → IsTimed rs → IsTimedFrom 1 rs
 from-IsTimed [] h = tt
-from-IsTimed (r ∷ rs) h =
-    (record { issue = subst (λ l. IssuesAt l rs r.need r.issue) (last_issue-from rs) h.0.issue; done = h.0.done }, from-IsTimed rs h.1)
+from-IsTimed (r ∷ rs) h = grind (arith, last_issue-from, from-IsTimed rs h.1)
 
 -- ---- the past of a barrier
 
@@ -55,35 +53,24 @@ open-all u (x ∷ xs) ys h k = open-yes u x (xs ++ ys) h.0 ∙ ap (λ zs. x ∷ 
 -- each record issues at the base or later
 pub from-base : (base : ℕ) (rs : List TimedNeed) → IsTimedFrom base rs → base ≤ last_from base rs
 from-base base [] h = omega arith
-from-base base (r ∷ rs) h =
-    let a : base ≤ last_from base rs = from-base base rs h.1 in
-    let b : last_from base rs ≤ r.issue = h.0.issue.can.in_order in
-    omega arith
+from-base base (r ∷ rs) h = grind (arith, from-base base rs h.1)
 
 pub from-later : (base : ℕ) (rs : List TimedNeed) → IsTimedFrom base rs → TakeTime rs → AllByRecursion (λ r. base < r.done) rs
 from-later base [] h w = tt
-from-later base (r ∷ rs) h w =
-    let a : base ≤ last_from base rs = from-base base rs h.1 in
-    let b : last_from base rs ≤ r.issue = h.0.issue.can.in_order in
-    let c : r.issue < r.done = w.0 in
-    (omega arith, from-later base rs h.1 w.1)
+from-later base (r ∷ rs) h w = grind (arith, from-base, from-later base rs h.1 w.1)
 
 -- all before a barrier is done when the barrier is
 pub before-barrier : (b : TimedNeed) (rs : List TimedNeed) → IsTrue b.need.barrier → b.issue < b.done → AllByRecursion (Permits b.need b.issue) rs → AllByRecursion (λ r. r.done ≤ b.done) rs
 before-barrier b [] is time h = tt
-before-barrier b (r ∷ rs) is time h =
-    let le : r.done ≤ b.issue = h.0.alone (inl is) in
-    (omega arith, before-barrier b rs is time h.1)
+before-barrier b (r ∷ rs) is time h = grind (arith, before-barrier b rs is time h.1)
 
 -- the last turn of a list with a barrier in it is no later than that of what follows it, from the barrier's done
 -- turn on
 pub last-le : (xs : List TimedNeed) (b : TimedNeed) (ys : List TimedNeed) → b.issue < b.done → last_issue (xs ++ b ∷ ys) ≤ last_from b.done xs
-last-le [] b ys h = omega arith
-last-le (x ∷ xs) b ys h = omega arith
+last-le xs b ys h = grind arith
 
 pub from-le : (xs : List TimedNeed) (b : TimedNeed) (ys : List TimedNeed) (t : ℕ) → b.done ≤ t → last_issue (xs ++ b ∷ ys) ≤ t → last_from b.done xs ≤ t
-from-le [] b ys t h k = h
-from-le (x ∷ xs) b ys t h k = k
+from-le xs b ys t h k = grind arith
 
 pub with-last : (last other : ℕ) (rs : List TimedNeed) (n : Need) (t : ℕ) → other ≤ t → CanIssue last rs n t → CanIssue other rs n t
 with-last last other rs n t le h = record { in_order = le; waited = h.waited; each = h.each; room = h.room }
@@ -129,26 +116,10 @@ timed-after (x ∷ xs) b ys is h c =
 -- ---- the same, later
 
 pub later-permits : (d : ℕ) (n : Need) (t : ℕ) (r : TimedNeed) → Permits n t r → Permits n (t + d) (later d r)
-later-permits d n t r p =
-    record {
-      side = λ k e. p.side k (omega arith);
-      values = λ k. let le : r.done ≤ t = p.values k in omega arith;
-      slow = λ a b. let le : r.done ≤ t = p.slow a b in omega arith;
-      words = λ k. let le : r.done ≤ t = p.words k in omega arith;
-      barrier = λ k. let le : r.done ≤ t = p.barrier k in omega arith;
-      alone = λ k. let le : r.done ≤ t = p.alone k in omega arith;
-    }
+later-permits d n t r p = grind arith
 
 pub permits-sooner : (d : ℕ) (n : Need) (t : ℕ) (r : TimedNeed) → Permits n (t + d) (later d r) → Permits n t r
-permits-sooner d n t r p =
-    record {
-      side = λ k e. p.side k (omega arith);
-      values = λ k. let le : r.done + d ≤ t + d = p.values k in omega arith;
-      slow = λ a b. let le : r.done + d ≤ t + d = p.slow a b in omega arith;
-      words = λ k. let le : r.done + d ≤ t + d = p.words k in omega arith;
-      barrier = λ k. let le : r.done + d ≤ t + d = p.barrier k in omega arith;
-      alone = λ k. let le : r.done + d ≤ t + d = p.alone k in omega arith;
-    }
+permits-sooner d n t r p = grind arith
 
 pub later-each : (d : ℕ) (n : Need) (t : ℕ) (rs : List TimedNeed) → AllByRecursion (Permits n t) rs → AllByRecursion (Permits n (t + d)) (later_by d rs)
 later-each d n t [] h = tt
@@ -209,12 +180,10 @@ last_request-later d t [] = omega arith
 last_request-later d t (r ∷ rs) = grind (arith, nat_tests, last_request-later d t rs)
 
 pub done_turn-later : (d t : ℕ) (rs : List TimedNeed) (n : Need) → done_turn (later_by d rs) n (t + d) ≡ done_turn rs n t + d
-done_turn-later d t rs n =
-    grind (arith, nat_tests, last_request-later d t rs)
+done_turn-later d t rs n = grind (arith, nat_tests, last_request-later)
 
 pub last_from-later : (d base : ℕ) (rs : List TimedNeed) → last_from (base + d) (later_by d rs) ≡ last_from base rs + d
-last_from-later d base [] = refl
-last_from-later d base (r ∷ rs) = refl
+last_from-later d base rs = grind arith
 
 pub later-timed : (d base : ℕ) (rs : List TimedNeed) → WaitForNone rs → IsTimedFrom base rs → IsTimedFrom (base + d) (later_by d rs)
 later-timed d base [] z h = tt
@@ -269,12 +238,5 @@ between xs b ys is h c z =
     let shifted : IsTimedFrom b.done (later_by d alone) = subst (λ m. IsTimedFrom m (later_by d alone)) base (later-timed d 1 alone za (from-IsTimed alone (IsTimed-timed ns))) in
     from-unique b.done xs (later_by d alone) (sym (needs-later d alone ∙ e)) (timed-after xs b ys is h c) shifted
 
--- whether a record overtakes the one before it depends on what follows the barrier alone
-overtakes-later : (d : ℕ) (rs : List TimedNeed) → overtakes (later_by d rs) ≡ overtakes rs
-overtakes-later d [] = refl
-overtakes-later d (r ∷ []) = refl
-overtakes-later d (r ∷ earlier ∷ rs) = ltb-later d r.issue earlier.done
-
 pub between-overtakes : (xs : List TimedNeed) (b : TimedNeed) (ys : List TimedNeed) → IsTrue b.need.barrier → IsTimed (xs ++ b ∷ ys) → TakesTurns (xs ++ b ∷ ys) → WaitForNone xs → overtakes xs ≡ overtakes (timed (map (λ r. r.need) xs))
-between-overtakes xs b ys is h c z =
-    ap overtakes (between xs b ys is h c z) ∙ overtakes-later (b.done - 1) (timed (map (λ r. r.need) xs))
+between-overtakes xs b ys is h c z = grind (arith, between, ltb-later)

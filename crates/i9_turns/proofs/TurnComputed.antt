@@ -7,7 +7,7 @@ use Rattle.std.proofs.lemmas.Bool.Decides.{nat_tests}
 use Rattle.std.proofs.lemmas.List.Sums.{sum_by-cons}
 use Rattle.i9_model.specs.declared.need.Need.{Need}
 use Rattle.i9_model.specs.declared.need.TimedNeed.{TimedNeed}
-use Rattle.i9_model.specs.Turns.{RequestsInOrder, ChangesValue, Permits, CanIssue, IssuesAt, open_requests, last_request, keeps_side, changes_value, changes_words, waits_for, least_turn, turn_from, issue_turn}
+use Rattle.i9_model.specs.Turns.{RequestsInOrder, Permits, CanIssue, IssuesAt, open_requests, last_request, keeps_side, changes_value, changes_words, waits_for, least_turn, turn_from, issue_turn}
 use Rattle.i9_turns.proofs.TurnTests.{changes_value-from, changes_value-none, changes_words-from, changes_words-true}
 
 pub cond-le : (b : Bool) (m v : ℕ) → (b ≡ true → m ≤ v) → cond b m 0 ≤ v
@@ -28,38 +28,17 @@ pub waits-done : (n : Need) (v : ℕ) (r : TimedNeed) → Waits n v r → waits_
 waits-done n v r w h = grind (arith, nat_tests, h, w.values, w.slow, w.words, w.barrier, w.alone)
 
 pub done-waits : (n : Need) (v : ℕ) (r : TimedNeed) → (waits_for n r.need ≡ true → r.done ≤ v) → Waits n v r
-done-waits n v r h = record {
-  values = λ e. h (grind (arith, nat_tests, e));
-  slow = λ e f. h (grind (arith, nat_tests, e, f));
-  words = λ e. h (grind (arith, nat_tests, e));
-  barrier = λ e. h (grind (arith, nat_tests, e));
-  alone = λ e. h (grind (arith, nat_tests, e));
-}
+done-waits n v r h = grind arith
 
 -- a fact that may be refuted by a smaller turn
 pub done-unless : (v d : ℕ) → ((v < d → ⊥) → d ≤ v)
 done-unless v d h = elim (cases_lt v d) [ inl lt ↦ absurd (h lt) | inr le ↦ le ]
 
 pub permits-waits : (n : Need) (v : ℕ) (r : TimedNeed) → Permits n v r → Waits n v r
-permits-waits n v r p =
-    record {
-      values = λ e. done-unless v r.done (λ lt. let none : ChangesValue r.need n → ⊥ = λ c. let le : r.done ≤ v = p.values c in omega arith in both_ways (changes_value r.need n) (changes_value-none r.need n none) e);
-      slow = p.slow;
-      words = λ e. p.words (changes_words-true r.need.store n.code e);
-      barrier = p.barrier;
-      alone = p.alone;
-    }
+permits-waits n v r p = grind (arith, done-unless, both_ways, changes_value-none, changes_words-true)
 
 pub waits-permits : (n : Need) (v : ℕ) (r : TimedNeed) → (IsTrue (keeps_side r.need.side n) → r.issue ≢ v) → Waits n v r → Permits n v r
-waits-permits n v r side w =
-    record {
-      side = side;
-      values = λ c. w.values (changes_value-from r.need n c);
-      slow = w.slow;
-      words = λ c. w.words (changes_words-from r.need.store n.code c);
-      barrier = w.barrier;
-      alone = w.alone;
-    }
+waits-permits n v r side w = grind (arith, changes_value-from, changes_words-from)
 
 -- the request is one of the two newest, or done
 abbrev pub IsOldDone : Need → ℕ → ℕ → TimedNeed → Type 0
@@ -117,10 +96,7 @@ turn_from-least n t k v (r ∷ rs) le h =
 
 pub turn_from-above : (n : Need) (t k v : ℕ) (rs : List TimedNeed) → turn_from n t k rs ≤ v → (t ≤ v) × AllBelow n k v rs
 turn_from-above n t k v [] h = (h, tt)
-turn_from-above n t k v (r ∷ rs) h =
-    let rest = turn_from-above n (max t (least_turn n k r)) (more k r) v rs h in
-    let le : max t (least_turn n k r) ≤ v = rest.0 in
-    (omega (arith, le), (omega (arith, le), rest.1))
+turn_from-above n t k v (r ∷ rs) h = grind (arith, turn_from-above n (max t (least_turn n k r)) (more k r) v rs h)
 
 -- each record issued at v or before
 abbrev pub IssuedBy : ℕ → List TimedNeed → Type 0
@@ -132,10 +108,7 @@ each-below n k v (r ∷ rs) b p o = (least-le n k v r b.0 p.0 o.0, each-below n 
 
 pub below-each : (n : Need) (k v : ℕ) (rs : List TimedNeed) → AllBelow n k v rs → AllByRecursion (Permits n v) rs × OldDone n k v rs
 below-each n k v [] h = (tt, tt)
-below-each n k v (r ∷ rs) h =
-    let one = le-least n k v r h.0 in
-    let rest = below-each n (more k r) v rs h.1 in
-    ((one.0, rest.0), (one.1, rest.1))
+below-each n k v (r ∷ rs) h = grind (arith, le-least, below-each n (more k r) v rs h.1)
 
 -- ---- the number of open requests
 

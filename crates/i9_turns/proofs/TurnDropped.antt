@@ -21,23 +21,11 @@ open-no u r rs h = cond-false (ltb u r.done) (r ∷ open_at u rs) (open_at u rs)
 
 pub each-open : (P : TimedNeed → Type 0) (u : ℕ) (rs : List TimedNeed) → AllByRecursion P rs → AllByRecursion P (open_at u rs)
 each-open P u [] h = tt
-each-open P u (r ∷ rs) h =
-    elim (cases_lt u r.done) [
-      | inl later ↦ subst (AllByRecursion P) (sym (open-yes u r rs later)) (h.0, each-open P u rs h.1)
-      | inr over ↦ subst (AllByRecursion P) (sym (open-no u r rs over)) (each-open P u rs h.1)
-    ]
+each-open P u (r ∷ rs) h = grind (arith, cases_lt, open-yes, open-no, each-open P u rs h.1)
 
 -- what is done permits
 pub permits-done : (n : Need) (t : ℕ) (r : TimedNeed) → r.issue < r.done → r.done ≤ t → Permits n t r
-permits-done n t r before done =
-    record {
-      side = λ _ same. absurd (omega arith);
-      values = λ _. done;
-      slow = λ _ _. done;
-      words = λ _. done;
-      barrier = λ _. done;
-      alone = λ _. done;
-    }
+permits-done n t r before done = grind arith
 
 pub open-each : (n : Need) (u t : ℕ) → u ≤ t → (rs : List TimedNeed) → TakeTime rs → AllByRecursion (Permits n t) (open_at u rs) → AllByRecursion (Permits n t) rs
 open-each n u t le [] w h = tt
@@ -94,10 +82,7 @@ open-issues u last rs n t le w h =
 
 -- there is one issue turn
 pub issues-once : (last : ℕ) (rs : List TimedNeed) (n : Need) (t u : ℕ) → IssuesAt last rs n t → IssuesAt last rs n u → t ≡ u
-issues-once last rs n t u a b =
-    let le : t ≤ u = a.least u b.can in
-    let ge : u ≤ t = b.least t a.can in
-    omega arith
+issues-once last rs n t u a b = grind arith
 
 pub last_request-yes : (r : TimedNeed) (rs : List TimedNeed) → IsTrue r.need.request → last_request (r ∷ rs) ≡ r.done
 last_request-yes r rs h = cond-true r.need.request r.done (last_request rs) h
@@ -107,8 +92,7 @@ last_request-no r rs h = cond-false r.need.request r.done (last_request rs) h
 
 pub max-last_request-open : (u t : ℕ) → u ≤ t → (rs : List TimedNeed) → RequestsInOrder rs → max t (last_request (open_at u rs)) ≡ max t (last_request rs)
 max-last_request-open u t le [] h = refl
-max-last_request-open u t le (r ∷ rs) h =
-    grind (arith, nat_tests, h.0, max-last_request-open u t le rs h.1)
+max-last_request-open u t le (r ∷ rs) h = grind (arith, nat_tests, max-last_request-open u t le rs h.1)
 
 pub done_turn-open : (u t : ℕ) → u ≤ t → (rs : List TimedNeed) (n : Need) → RequestsInOrder rs → done_turn (open_at u rs) n t ≡ done_turn rs n t
 done_turn-open u t le rs n h = ap (λ m. cond n.request m t + n.cost) (max-last_request-open u t le rs h)

@@ -9,10 +9,7 @@ use Rattle.i9_turns.proofs.TurnWhole.{IsTimed-with_need, timed-issues}
 
 pub done_from-above : (t v : ℕ) (rs : List TimedNeed) → done_from t rs ≤ v → (t ≤ v) × AllByRecursion (λ r. r.done ≤ v) rs
 done_from-above t v [] h = (h, tt)
-done_from-above t v (r ∷ rs) h =
-    let rest = done_from-above (max t r.done) v rs h in
-    let le : max t r.done ≤ v = rest.0 in
-    (omega (arith, le), (omega (arith, le), rest.1))
+done_from-above t v (r ∷ rs) h = grind (arith, done_from-above (max t r.done) v rs h)
 
 -- a list with fences has the turns of a list of needs
 pub fenced-timed : (items : List Item) → IsTimed (fenced items).records

@@ -16,23 +16,10 @@ solves-issued [] h = tt
 solves-issued (r ∷ rs) h = (omega arith, issued-later (last_issue rs) r.issue h.0.in_order rs (solves-issued rs h.2))
 
 pub last-no_later : (xs ys : List TimedNeed) → NoLater xs ys → last_issue xs ≤ last_issue ys
-last-no_later [] [] h = omega arith
-last-no_later (x ∷ xs) (y ∷ ys) h = h.0.issue
-last-no_later _ _ h = absurd h
+last-no_later xs ys h = grind arith
 
 pub permits-no_later : (n : Need) (t : ℕ) (x y : TimedNeed) → y.issue ≤ t → IsNoLater x y → Permits n t y → Permits n t x
-permits-no_later n t x y before h p =
-    let issue : x.issue ≤ y.issue = h.issue in
-    let done : x.done ≤ y.done = h.done in
-    let q : Permits n t (record y { need = x.need }) = rw h.need p in
-    record {
-      side = λ k same. q.side k (omega arith);
-      values = λ k. let le : y.done ≤ t = q.values k in omega arith;
-      slow = λ a k. let le : y.done ≤ t = q.slow a k in omega arith;
-      words = λ k. let le : y.done ≤ t = q.words k in omega arith;
-      barrier = λ k. let le : y.done ≤ t = q.barrier k in omega arith;
-      alone = λ k. let le : y.done ≤ t = q.alone k in omega arith;
-    }
+permits-no_later n t x y before h p = grind arith
 
 pub each-no_later : (n : Need) (t : ℕ) (xs ys : List TimedNeed) → IssuedBy t ys → NoLater xs ys → AllByRecursion (Permits n t) ys → AllByRecursion (Permits n t) xs
 each-no_later n t [] [] b h p = tt
@@ -40,10 +27,7 @@ each-no_later n t (x ∷ xs) (y ∷ ys) b h p = (permits-no_later n t x y b.0 h.
 each-no_later n t _ _ b h p = absurd h
 
 pub one-no_later : (t : ℕ) (x y : TimedNeed) → IsNoLater x y → one_if (x.need.request && nat_lt t x.done) ≤ one_if (y.need.request && nat_lt t y.done)
-one-no_later t x y h =
-    let done : x.done ≤ y.done = h.done in
-    let same : x.need.request ≡ y.need.request = ap (λ (m : Need). m.request) h.need in
-    grind (arith, nat_tests, done, same)
+one-no_later t x y h = grind arith
 
 pub requests-no_later : (t : ℕ) (xs ys : List TimedNeed) → NoLater xs ys → open_requests t xs ≤ open_requests t ys
 requests-no_later t [] [] h = omega arith
@@ -53,10 +37,7 @@ requests-no_later t _ _ h = absurd h
 
 pub last_request-no_later : (xs ys : List TimedNeed) → NoLater xs ys → last_request xs ≤ last_request ys
 last_request-no_later [] [] h = omega arith
-last_request-no_later (x ∷ xs) (y ∷ ys) h =
-    let done : x.done ≤ y.done = h.0.done in
-    let same : x.need.request ≡ y.need.request = ap (λ (m : Need). m.request) h.0.need in
-    grind (arith, nat_tests, last_request-no_later xs ys h.1)
+last_request-no_later (x ∷ xs) (y ∷ ys) h = grind (arith, nat_tests, last_request-no_later xs ys h.1)
 last_request-no_later _ _ h = absurd h
 
 pub can-no_later : (xs ys : List TimedNeed) (n : Need) (t : ℕ) → IssuedBy (last_issue ys) ys → NoLater xs ys → CanIssue (last_issue ys) ys n t → CanIssue (last_issue xs) xs n t
@@ -70,8 +51,7 @@ can-no_later xs ys n t b h c =
     }
 
 pub done-no_later : (xs ys : List TimedNeed) (n : Need) (t u : ℕ) → NoLater xs ys → t ≤ u → done_turn xs n t ≤ done_turn ys n u
-done-no_later xs ys n t u h le =
-    grind (arith, nat_tests, last_request-no_later xs ys h)
+done-no_later xs ys n t u h le = grind (arith, nat_tests, last_request-no_later)
 
 pub timed-least : (xs ys : List TimedNeed) → IsTimed xs → Solves ys → map (λ r. r.need) xs ≡ map (λ r. r.need) ys → NoLater xs ys
 timed-least [] [] h s e = tt

@@ -1,5 +1,5 @@
 -- The open records alone decide the turns of the next one.
-use Rattle.std.proofs.Common.{◌≡◌, ℕ, ◌<◌, ◌≤◌, max, List, [], ◌∷◌, sym, refl, ap, ◌∙◌, subst, inl, inr, arith}
+use Rattle.std.proofs.Common.{◌≡◌, ℕ, ◌<◌, ◌≤◌, max, List, [], ◌∷◌, refl, ◌∙◌, subst, inl, inr, arith}
 use Rattle.std.specs.Prelude.{IsTrue}
 use Rattle.std.proofs.lemmas.Bool.{cond-true, cases_lt}
 use Rattle.std.specs.List.{AllByRecursion}
@@ -18,13 +18,11 @@ request-after rs n t is = omega (arith, cond-true n.request (max t (last_request
 
 pub timed-take_time : (rs : List TimedNeed) → IsTimed rs → TakesTurns rs → TakeTime rs
 timed-take_time [] h c = tt
-timed-take_time (r ∷ rs) h c =
-    (rw h.0.done (done-after rs r.need r.issue c.0), timed-take_time rs h.1 c.1)
+timed-take_time (r ∷ rs) h c = grind (arith, done-after, timed-take_time rs h.1 c.1)
 
 pub timed-in_order : (rs : List TimedNeed) → IsTimed rs → RequestsInOrder rs
 timed-in_order [] h = tt
-timed-in_order (r ∷ rs) h =
-    (λ is. rw h.0.done (request-after rs r.need r.issue is), timed-in_order rs h.1)
+timed-in_order (r ∷ rs) h = grind (arith, request-after, timed-in_order rs h.1)
 
 pub open-open : (t u : ℕ) → t ≤ u → (rs : List TimedNeed) → open_at u (open_at t rs) ≡ open_at u rs
 open-open t u le [] = refl
@@ -32,13 +30,7 @@ open-open t u le (r ∷ rs) = grind (arith, nat_tests, open-open t u le rs)
 
 -- the first law: a record that follows the open ones follows them all, and the other way round
 pub follows-open : (rs : List TimedNeed) (r : TimedNeed) → IsTimed rs → TakesTurns rs → Follows rs r → FollowsOpen (pending_of rs) r
-follows-open rs r h c f =
-    let last = last_issue rs in
-    let in_order : last_issue rs ≤ r.issue = f.issue.can.in_order in
-    record {
-      issue = issues-open last last rs r.need r.issue (omega arith) (timed-take_time rs h c) f.issue;
-      done = f.done ∙ sym (done_turn-open last r.issue in_order rs r.need (timed-in_order rs h));
-    }
+follows-open rs r h c f = grind (arith, issues-open, timed-take_time, done_turn-open, timed-in_order)
 
 pub open-follows : (rs : List TimedNeed) (r : TimedNeed) → IsTimed rs → TakesTurns rs → FollowsOpen (pending_of rs) r → Follows rs r
 open-follows rs r h c f =
@@ -50,10 +42,7 @@ open-follows rs r h c f =
     }
 
 pub pending-next : (rs : List TimedNeed) (r : TimedNeed) → r.issue < r.done → last_issue rs ≤ r.issue → pending_of (r ∷ rs) ≡ pending_after (pending_of rs) r
-pending-next rs r time in_order =
-    let e : open_at r.issue (r ∷ rs) ≡ r ∷ open_at r.issue (open_at (last_issue rs) rs) =
-    open-yes r.issue r rs time ∙ ap (λ xs. r ∷ xs) (sym (open-open (last_issue rs) r.issue in_order rs)) in
-    ap (λ xs. record { last = r.issue; records = xs }) e
+pending-next rs r time in_order = grind (arith, open-yes, open-open)
 
 -- ---- the least turn at which all is done
 
@@ -69,6 +58,4 @@ pub all_done-open : (rs : List TimedNeed) (t : ℕ) → AreAllDone rs t → IsAl
 all_done-open rs t h = record { in_order = h.in_order; done = each-open (λ r. r.done ≤ t) (last_issue rs) rs h.done }
 
 pub open-all_done : (rs : List TimedNeed) (t : ℕ) → IsAllDone (pending_of rs) t → AreAllDone rs t
-open-all_done rs t h =
-    let le : last_issue rs ≤ t = h.in_order in
-    record { in_order = le; done = done-open (last_issue rs) t le rs h.done }
+open-all_done rs t h = grind (arith, done-open)

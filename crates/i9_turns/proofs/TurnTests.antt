@@ -1,9 +1,8 @@
 -- What the tests on two needs say.
-use Rattle.std.proofs.Common.{◌≡◌, ℕ, ◌+◌, ◌-◌, ◌%◌, ◌^◌, ◌<◌, ◌≤◌, true, false, ◌&&◌, eqb, Option, Some, None, sym, ap, ◌∙◌, inl, inr, arith}
+use Rattle.std.proofs.Common.{◌≡◌, ℕ, ◌+◌, ◌-◌, ◌%◌, ◌^◌, ◌<◌, ◌≤◌, true, false, ◌&&◌, eqb, Option, sym, ap, ◌∙◌, inl, inr, arith}
 use Rattle.std.specs.Prelude.{nat_lt, bit_and, bit_or}
 use Rattle.std.specs.Int.{bit_at}
 use Rattle.std.proofs.lemmas.Bool.{cases_lt, ltb-true, eq-eqb, ne_eqb, or_cases, and_parts, not_from_false, not_from_true, false≢true}
-use Rattle.std.proofs.lemmas.Bool.Decides.{nat_tests}
 use Rattle.std.proofs.lemmas.Nat.Bits.{bit_at_and, bit_at_or, bit_at-zero, same_from_bits, bit_at-lt}
 use Rattle.i9_model.specs.declared.need.Need.{Need}
 use Rattle.i9_model.specs.Turns.{ChangesValue, Overlaps, ChangesWords, changes_value, overlaps, changes_words, distance}
@@ -46,20 +45,7 @@ pub distance-back : (x y : ℕ) → (y + distance y x) % 2 ^ 32 ≡ x % 2 ^ 32
 distance-back x y = omega arith
 
 pub overlaps-from : (a b : ℕ × ℕ) → Overlaps a b → overlaps a b ≡ true
-overlaps-from a b h =
-    let i = h.0 in
-    let j = h.1 in
-    let ia : i < a.1 = h.2 in
-    let jb : j < b.1 = h.3 in
-    let same : (a.0 + i) % 2 ^ 32 ≡ (b.0 + j) % 2 ^ 32 = h.4 in
-    elim (cases_lt i j) [
-      | inl before ↦
-          let near : distance b.0 a.0 ≤ j - i = distance-small a.0 b.0 i j same (omega arith) in
-          grind (arith, nat_tests, ia, jb, near)
-      | inr behind ↦
-          let near : distance a.0 b.0 ≤ i - j = distance-small b.0 a.0 j i (sym same) behind in
-          grind (arith, nat_tests, ia, jb, near)
-    ]
+overlaps-from a b h = grind arith
 
 pub overlaps-true : (a b : ℕ × ℕ) → overlaps a b ≡ true → Overlaps a b
 overlaps-true a b h = elim (or_cases (nat_lt 0 a.1 && nat_lt (distance b.0 a.0) b.1) (nat_lt 0 b.1 && nat_lt (distance a.0 b.0) a.1) h) [
@@ -72,9 +58,7 @@ overlaps-true a b h = elim (or_cases (nat_lt 0 a.1 && nat_lt (distance b.0 a.0) 
 ]
 
 pub changes_words-from : (s : Option (ℕ × ℕ)) (code : ℕ × ℕ) → ChangesWords s code → changes_words s code ≡ true
-changes_words-from None code h = absurd h
-changes_words-from (Some store) code h = overlaps-from store code h
+changes_words-from s code h = grind arith
 
 pub changes_words-true : (s : Option (ℕ × ℕ)) (code : ℕ × ℕ) → changes_words s code ≡ true → ChangesWords s code
-changes_words-true None code h = absurd (false≢true h)
-changes_words-true (Some store) code h = overlaps-true store code h
+changes_words-true s code h = grind (arith, false≢true, overlaps-true)

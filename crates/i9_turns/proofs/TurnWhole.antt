@@ -3,7 +3,7 @@ use Rattle.std.proofs.Common.{◌≡◌, List, [], ◌∷◌, refl, ap, ◌∙�
 use Rattle.std.specs.Prelude.{map}
 use Rattle.i9_model.specs.declared.need.Need.{Need}
 use Rattle.i9_model.specs.declared.need.TimedNeed.{TimedNeed}
-use Rattle.i9_model.specs.Turns.{Follows, IssuesAt, IsTimed, last_issue, done_turn, issue_turn, with_need, timed}
+use Rattle.i9_model.specs.Turns.{Follows, IssuesAt, IsTimed, last_issue, issue_turn, with_need, timed}
 use Rattle.i9_turns.proofs.TurnDropped.{issues-once}
 use Rattle.i9_turns.proofs.TurnOpen.{timed-in_order}
 use Rattle.i9_turns.proofs.TurnComputed.{IssuedBy, issued-later, issue_turn-issues}
@@ -28,12 +28,7 @@ needs-timed (n ∷ ns) = ap (λ ms. n ∷ ms) (needs-timed ns)
 
 -- the record that follows is the one that is computed
 pub follows-with_need : (rs : List TimedNeed) (r : TimedNeed) → IsTimed rs → Follows rs r → r ∷ rs ≡ with_need rs r.need
-follows-with_need rs r h f =
-    let n = r.need in
-    let t = issue_turn (last_issue rs) rs n in
-    let e : r.issue ≡ t = issues-once (last_issue rs) rs n r.issue t f.issue (timed-issues rs n h) in
-    let d : r.done ≡ done_turn rs n t = f.done ∙ ap (λ u. done_turn rs n u) e in
-    ap (λ u. record { need = n; issue = u; done = r.done } ∷ rs) e ∙ ap (λ u. record { need = n; issue = t; done = u } ∷ rs) d
+follows-with_need rs r h f = grind (arith, issues-once, timed-issues)
 
 pub timed-unique : (rs : List TimedNeed) → IsTimed rs → rs ≡ timed (map (λ r. r.need) rs)
 timed-unique [] h = refl

@@ -1,3 +1,4 @@
+use Rattle.std.proofs.Common.{arith}
 use Rattle.i9_turns.proofs.LateRegisters.{cell-latest}
 use Rattle.i9_turns.proofs.LateMemories.{memory-settles}
 use Rattle.i9_turns.proofs.LateOrder.{landed_latest}
@@ -5,9 +6,4 @@ use Rattle.i9_model.proofs.Queues.{landed_settles}
 use Rattle.i9_turns.proofs.late_laws.landing_settles.Goals as goal
 
 pub returns : goal.returns
-returns c = record {
-  registers = cell-latest;
-  memory = memory-settles;
-  cell = landed_latest;
-  queue = landed_settles;
-}
+returns c = grind (arith, cell-latest, memory-settles, landed_latest, landed_settles)
