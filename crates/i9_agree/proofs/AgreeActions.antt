@@ -1,27 +1,21 @@
 -- In states that agree an instruction that marks allow does what is alike.
-use Rattle.std.proofs.Common.{◌≡◌, ℕ, zero, suc, ◌+◌, ◌*◌, ◌%◌, ◌^◌, ◌<◌, Bool, true, false, cond, List, [], ◌∷◌, ◌++◌, refl, sym, ap, ◌∙◌, subst, arith}
+use Rattle.std.proofs.Common.{◌≡◌, ℕ, zero, suc, ◌+◌, ◌<◌, Bool, true, false, cond, List, [], ◌∷◌, ◌++◌, refl, sym, ap, ◌∙◌, subst, arith}
 use Rattle.std.specs.Prelude.{◌&&◌}
 use Rattle.std.specs.List.{list_any, range_with_len}
 use Rattle.std.proofs.lemmas.List.Folds.{list_any-append}
 use Rattle.std.proofs.lemmas.Bool.Decides.{nat_tests}
 use Rattle.std.proofs.lemmas.Bool.{or_parts}
 use Rattle.i9_isa.specs.declared.size.Size.{Size}
-use Rattle.i9_isa.specs.declared.size.Size.TheVariants.{Byte, Half, Words}
 use Rattle.i9_isa.specs.declared.inst.Operand.{Operand}
-use Rattle.i9_isa.specs.declared.inst.Operand.TheVariants.{Reg, Lit, Sfr}
-use Rattle.i9_isa.specs.declared.inst.Mode.{Mode}
-use Rattle.i9_isa.specs.declared.inst.Mode.TheVariants.{BaseOffset}
 use Rattle.i9_isa.specs.declared.inst.Ea.{Ea}
-use Rattle.i9_isa.specs.Operands.{has_base, has_index}
 use Rattle.i9_model.specs.declared.push.Push.{Push}
 use Rattle.i9_model.specs.Writes.{wrapped}
 use Rattle.i9_model.specs.Memory.{Memory, region_of, is_big, half_in, half_bytes, word_in}
 use Rattle.i9_model.specs.State.{State}
 use Rattle.i9_model.specs.Faults.{is_special}
-use Rattle.i9_model.specs.Operands.{value, word_of, source_words, address}
-use Rattle.i9_model.specs.Addresses.{sum_for}
-use Rattle.i9_model.specs.Step.{Action, bytes_of_words, loaded, filled, stored_of, assigning, marking, pushing, saved_local}
-use Rattle.i9_model.specs.Stale.{byte_marks, mark_of, marks_of, word_mark, legible, loaded_marks, stored_marks, saved_mark, saved_marks, registers_of, address_registers, is_marked}
+use Rattle.i9_model.specs.Operands.{value, word_of, address}
+use Rattle.i9_model.specs.Step.{Action, loaded, stored_of, assigning, marking, pushing, saved_local}
+use Rattle.i9_model.specs.Stale.{mark_of, word_mark, legible, loaded_marks, stored_marks, saved_mark, saved_marks, registers_of, address_registers, is_marked}
 use Rattle.i9_model.specs.Alike.{AgreeWhere, with_other, shows, is_open, with_values, AgreeBeside, ReadAlike, AreValuesAlike, AreWritesAlike, AreMovesAlike, AreActionsAlike}
 use Rattle.i9_model.proofs.Readings.{two}
 use Rattle.std.specs.Int.{w16, from_le_bytes, from_be_bytes}
@@ -43,15 +37,12 @@ pub shown-second : (hides : Bool) (s : State) (xs ys : List ℕ) → AreShown hi
 shown-second hides s xs ys h = shows-second hides (is_marked s xs) (is_marked s ys) (ap (shows hides) (sym (list_any-append s.marks xs ys)) ∙ h)
 
 pub shown-three : (hides : Bool) (s : State) (xs ys zs : List ℕ) → AreShown hides s (xs ++ (ys ++ zs)) → AreShown hides s xs × AreShown hides s ys × AreShown hides s zs
-shown-three hides s xs ys zs h =
-    let later = shown-second hides s xs (ys ++ zs) h in
-    (shown-first hides s xs (ys ++ zs) h, shown-first hides s ys zs later, shown-second hides s ys zs later)
+shown-three hides s xs ys zs h = grind (arith, shown-second, shown-first)
 
 -- one of a group
 shown-group : (hides : Bool) (s : State) (r n k : ℕ) → AreShown hides s (range_with_len r n) → k < n → shows hides (s.marks (r + k)) ≡ true
 shown-group hides s r zero k h l = absurd (omega arith)
-shown-group hides s r (suc n) zero h l =
-    let none : r + 0 ≡ r = omega arith in rw none (shows-first hides (s.marks r) (is_marked s (range_with_len (r + 1) n)) h)
+shown-group hides s r (suc n) zero h l = grind (arith, shows-first)
 shown-group hides s r (suc n) (suc k) h l =
     let next : r + suc k ≡ r + 1 + k = omega arith in
     ap (λ (q : ℕ). shows hides (s.marks q)) next ∙ shown-group hides s (r + 1) n k (shows-second hides (s.marks r) (is_marked s (range_with_len (r + 1) n)) h) (omega (arith, l))
@@ -60,13 +51,11 @@ shown-group hides s r (suc n) (suc k) h l =
 
 -- a word whose mark is shown
 pub word-same : (hides : Bool) (s : State) (regs bytes reading : ℕ → ℕ) (o : Operand) (k : ℕ) → AgreeBeside hides s regs → shows hides (mark_of s o k) ≡ true → word_of (with_values s regs bytes reading) o k ≡ word_of s o k
-word-same hides s regs bytes reading (Reg r) k same h = grind (arith, same r, same (r + k))
-word-same hides s regs bytes reading _ k same h = refl
+word-same hides s regs bytes reading o k same h = grind arith
 
 -- a word of an operand that is shown
 pub shown-word : (hides : Bool) (s : State) (o : Operand) (n k : ℕ) → AreShown hides s (registers_of o n) → k < n → shows hides (mark_of s o k) ≡ true
-shown-word hides s (Reg r) n k h l = grind (arith, nat_tests, shown-group hides s r n k h l)
-shown-word hides s _ n k h l = shows-unmarked hides
+shown-word hides s o n k h l = grind (arith, nat_tests, shown-group, shows-unmarked)
 
 pub operand-same : (hides : Bool) (s : State) (regs bytes reading : ℕ → ℕ) (o : Operand) (n k : ℕ) → AgreeBeside hides s regs → AreShown hides s (registers_of o n) → k < n → word_of (with_values s regs bytes reading) o k ≡ word_of s o k
 operand-same hides s regs bytes reading o n k same h l = word-same hides s regs bytes reading o k same (shown-word hides s o n k h l)
@@ -76,19 +65,13 @@ value-same hides s regs bytes reading o same h = operand-same hides s regs bytes
 
 -- an effective address whose registers are shown
 pub address-same : (hides : Bool) (s : State) (regs bytes reading : ℕ → ℕ) (e : Ea) → AgreeBeside hides s regs → AreShown hides s (address_registers e) → address (with_values s regs bytes reading) e ≡ address s e
-address-same hides s regs bytes reading e same h = ap wrapped (by_mode e.mode e h)
-  where
-    by_mode : (m : Mode) (e : Ea) → AreShown hides s (cond (has_base m) (e.base ∷ []) [] ++ cond (has_index m) (e.index ∷ []) []) → sum_for m e (regs e.base) (regs e.index) s.ip ≡ sum_for m e (s.regs e.base) (s.regs e.index) s.ip
-    by_mode BaseOffset e h = grind (arith, same e.base, same e.index)
-    by_mode _ e h = grind (arith, same e.base, same e.index)
+address-same hides s regs bytes reading e same h = grind arith
 
 -- ---- what is read
 
 pub legible-byte : (hides : Bool) (s : State) (regs bytes reading : ℕ → ℕ) (x : ℕ) → AgreeWhere (is_open hides s.frames) s.memory bytes → ReadAlike hides s reading → shows hides (s.frames.soft x) ≡ true
     → (legible (with_values s regs bytes reading)).bytes x ≡ (legible s).bytes x
-legible-byte hides s regs bytes reading x same read h =
-    let soft : hides ≡ false → reading (bytes x) ≡ s.reading (s.memory.bytes x) = λ e. read e (bytes x) (s.memory.bytes x) in
-    grind (arith, same x)
+legible-byte hides s regs bytes reading x same read h = grind arith
 
 -- a word of which the bytes that are shown are the same
 pub shown-word-same : (hides : Bool) (m : Memory) (bytes : ℕ → ℕ) (stale : ℕ → Bool) (a : ℕ)
@@ -96,11 +79,7 @@ pub shown-word-same : (hides : Bool) (m : Memory) (bytes : ℕ → ℕ) (stale :
     → ((j : ℕ) → 0 < j → j < 4 → shows hides (stale (wrapped (a + j))) ≡ true → bytes (wrapped (a + j)) ≡ m.bytes (wrapped (a + j)))
     → shows hides (word_mark stale a) ≡ true → word_in (with_other m bytes) a ≡ word_in m a
 unfolding word_in
-shown-word-same hides m bytes stale a first later h =
-    let one = later 1 (omega arith) (omega arith) in
-    let two = later 2 (omega arith) (omega arith) in
-    let three = later 3 (omega arith) (omega arith) in
-    rw (first (grind arith), one (grind arith), two (grind arith), three (grind arith)) refl
+shown-word-same hides m bytes stale a first later h = grind arith
 
 pub legible-word : (hides : Bool) (s : State) (regs bytes reading : ℕ → ℕ) (a : ℕ) → AgreeWhere (is_open hides s.frames) s.memory bytes → ReadAlike hides s reading → shows hides (word_mark s.frames.soft a) ≡ true
     → word_in (legible (with_values s regs bytes reading)) a ≡ word_in (legible s) a
@@ -117,19 +96,8 @@ half_from m a bs = cond (is_big m (region_of a)) (from_be_bytes w16 bs) (from_le
 pub loaded-alike : (hides : Bool) (size : Size) (signed : Bool) (s : State) (regs bytes reading : ℕ → ℕ) (a : ℕ) → AgreeWhere (is_open hides s.frames) s.memory bytes → ReadAlike hides s reading
     → AreValuesAlike hides (loaded_marks size s.frames.soft a) (loaded size signed (legible s) a) (loaded size signed (legible (with_values s regs bytes reading)) a)
 unfolding half_in
-loaded-alike hides Byte signed s regs bytes reading a same read = ((λ h. ap (filled signed 8) (legible-byte hides s regs bytes reading a same read h)), tt)
-loaded-alike hides Half signed s regs bytes reading a same read =
-    let m = legible s in
-    let n = (legible (with_values s regs bytes reading)).bytes in
-    let soft = s.frames.soft in (
-      (λ h. ap (filled signed 16) (two (half_from m a) (n a) (n (wrapped (a + 1))) (m.bytes a) (m.bytes (wrapped (a + 1)))
-          (legible-byte hides s regs bytes reading a same read (shows-first hides (soft a) (soft (wrapped (a + 1))) h))
-          (legible-byte hides s regs bytes reading (wrapped (a + 1)) same read (shows-second hides (soft a) (soft (wrapped (a + 1))) h)))),
-      tt,
-    )
-loaded-alike hides (Words n) signed s regs bytes reading a same read =
-    values-mapped hides (λ k. word_mark s.frames.soft (wrapped (a + 4 * k))) (λ k. word_in (legible s) (wrapped (a + 4 * k))) (λ k. word_in (legible (with_values s regs bytes reading)) (wrapped (a + 4 * k))) 0 n
-    (λ k l h. legible-word hides s regs bytes reading (wrapped (a + 4 * k)) same read h)
+loaded-alike hides size signed s regs bytes reading a same read =
+    grind (arith, legible-byte, two, shows-first, shows-second, values-mapped, legible-word)
 
 -- ---- actions
 
@@ -155,42 +123,19 @@ IsAllowed o bs = (is_special o && list_any (λ b. b) bs) ≡ false
 -- a destination gets values with their marks
 pub assigning-alike : (hides : Bool) (o : Operand) (bs : List Bool) (vs ws : List ℕ) (a : Action) → IsAllowed o bs → AreValuesAlike hides bs vs ws → AreMovesAlike hides a.lost a.move a.move
     → AreActionsAlike hides (marking o bs (assigning o vs a)) (marking o bs (assigning o ws a))
-assigning-alike hides (Reg r) bs vs ws a allowed alike move = record {
-  rest = refl;
-  sets = writes-picked hides (λ k. k) r bs vs ws alike;
-  writes = writes-same hides a.stale a.writes;
-  move = move;
-}
-assigning-alike hides (Lit n) bs vs ws a allowed alike move = record { rest = refl; sets = tt; writes = writes-same hides a.stale a.writes; move = move }
-assigning-alike hides (Sfr k) bs vs ws a allowed alike move =
-    alike-by hides (marking (Sfr k) bs (assigning (Sfr k) vs a)) (marking (Sfr k) bs (assigning (Sfr k) ws a)) move
-    (ap (λ (xs : List ℕ). marking (Sfr k) bs (assigning (Sfr k) xs a)) (values-none hides bs vs ws alike allowed))
+assigning-alike hides o bs vs ws a allowed alike move = grind (arith, writes-picked, writes-same, alike-by, values-none)
 
 -- with bytes that are written besides
 pub writing-alike : (hides : Bool) (a b : Action) (ps qs : List (ℕ × ℕ)) (stale : List ℕ) → AreActionsAlike hides a b → AreWritesAlike hides stale ps qs
     → AreActionsAlike hides (record a { writes = ps; stale = stale }) (record b { writes = qs; stale = stale })
-writing-alike hides a b ps qs stale alike writes = record {
-  rest = ap (λ (x : Action). record x { writes = qs; stale = stale }) alike.rest;
-  sets = alike.sets;
-  writes = writes;
-  move = alike.move;
-}
+writing-alike hides a b ps qs stale alike writes = grind arith
 
 -- a store writes bytes that are alike
 pub stored-alike-of : (hides : Bool) (size : Size) (s : State) (regs bytes reading : ℕ → ℕ) (o : Operand) (a : ℕ) → AgreeBeside hides s regs
     → AreValuesAlike hides (stored_marks size s o) (stored_of size s o a) (stored_of size (with_values s regs bytes reading) o a)
 unfolding half_bytes
-stored-alike-of hides Byte s regs bytes reading o a same = ((λ h. ap (λ (v : ℕ). v % 2 ^ 8) (word-same hides s regs bytes reading o 0 same h)), tt)
-stored-alike-of hides Half s regs bytes reading o a same =
-    let t = with_values s regs bytes reading in
-    values-marked hides (mark_of s o 0) 2 (half_bytes s.memory a (value s o % 2 ^ 16)) (half_bytes s.memory a (value t o % 2 ^ 16))
-    (two_bytes s.memory a (value s o % 2 ^ 16)) (two_bytes s.memory a (value t o % 2 ^ 16))
-    (λ h. ap (λ (v : ℕ). half_bytes s.memory a (v % 2 ^ 16)) (word-same hides s regs bytes reading o 0 same h))
-stored-alike-of hides (Words n) s regs bytes reading o a same =
-    let t = with_values s regs bytes reading in
-    subst (λ (bs : List ℕ). AreValuesAlike hides (byte_marks (marks_of s o n)) (bytes_of_words s.memory a (source_words s o n)) bs) (sym (stored_words_same s.memory bytes a (source_words t o n)))
-    (bytes-alike hides s.memory a (marks_of s o n) (source_words s o n) (source_words t o n)
-    (values-mapped hides (mark_of s o) (word_of s o) (word_of t o) 0 n (λ k l h. word-same hides s regs bytes reading o k same h)))
+stored-alike-of hides size s regs bytes reading o a same =
+    grind (arith, word-same, values-marked, two_bytes, stored_words_same, bytes-alike, values-mapped)
 
 -- a push saves words that are alike
 pub pushing-alike : (hides : Bool) (s : State) (regs bytes reading : ℕ → ℕ) (p : Push) (back next : ℕ) → AgreeBeside hides s regs

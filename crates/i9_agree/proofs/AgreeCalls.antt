@@ -17,15 +17,15 @@ use Rattle.i9_model.specs.Writes.{wrapped, pairs_at}
 use Rattle.i9_model.specs.Memory.{word_in, words_in}
 use Rattle.i9_model.specs.State.{State, aligned, frame_sets}
 use Rattle.i9_model.specs.Frames.{pushed, rounded_down, in_bytes, in_frames}
-use Rattle.i9_model.specs.Hazards.{save_hazard, port_hazard, frame_hazard, return_hazard, return_place}
+use Rattle.i9_model.specs.Hazards.{port_hazard, frame_hazard, return_hazard, return_place}
 use Rattle.i9_model.specs.Faults.{is_special}
-use Rattle.i9_model.specs.Calls.{caller_in, call_type, system_entered, takes_record, return_type, controls_hazard, ret_hazard, returned_pc, returned_ac, popped, system_hazard_by}
+use Rattle.i9_model.specs.Calls.{caller_in, call_type, system_entered, return_type, controls_hazard, ret_hazard, returned_pc, returned_ac, popped, system_hazard_by}
 use Rattle.i9_model.specs.Operands.{value, word_of, source_words, address, target}
 use Rattle.i9_model.specs.Sound.{in_returns}
 use Rattle.i9_model.specs.Step.{Action, Returns, going, passing, following, assigning, marking, merged, jumping, linking, modac_action, modtc_action, modpc_action, Message, AsksNothing, AsksCheck, AsksInterrupt, AsksRestart, AsksGroup, message_of, argument_of, message_kind, asked_message, message_action, sdma_action, pushing, call_action, system_call, calls_action, ret_action, action_by_name, action_by, action_of}
-use Rattle.i9_model.specs.Stale.{picked, mark_of, marks_of, word_mark, word_marks, left_memory, left_stale, registers_of, address_registers, is_marked, marks_by_name, marks_by, restart_registers, record_registers, deciding, deciding_by, push_mark, area_hazard}
+use Rattle.i9_model.specs.Stale.{picked, mark_of, marks_of, word_mark, word_marks, left_memory, left_stale, registers_of, address_registers, is_marked, marks_by_name, marks_by, restart_registers, record_registers, deciding, deciding_by, area_hazard}
 use Rattle.i9_model.specs.Access.{access_by_name, message_access, access_by, hazard_in, hazard_of}
-use Rattle.i9_model.specs.Alike.{is_hard, AgreeWhere, with_other, shows, with_values, AgreeBeside, AreValuesAlike, AreActionsAlike}
+use Rattle.i9_model.specs.Alike.{with_other, shows, with_values, AgreeBeside, AreValuesAlike, AreActionsAlike}
 use Rattle.i9_model.proofs.CallLaws.{first_none, second_none}
 use Rattle.i9_model.proofs.Readings.{in_bytes-has}
 use Rattle.i9_model.proofs.FrameLaws.{read_hazard-none}
@@ -38,9 +38,7 @@ use Rattle.i9_agree.proofs.AgreeActions.{AreShown, shown-first, shown-second, sh
 
 -- where nothing is found of a push, fp and sp as far as it goes by them are the same
 pub push-known : (hides : Bool) (s : State) (regs : ℕ → ℕ) → AgreeBeside hides s regs → AreKnown (area_hazard s) (s.regs FP) (s.regs SP) (regs FP) (regs SP)
-push-known hides s regs same = λ b none.
-    let mark = first_none (push_mark s b) (save_hazard s.frames (rounded_down (s.regs FP))) none in
-    (same FP (grind arith), λ e. same SP (grind arith))
+push-known hides s regs same = grind arith
 
 call-agree : (hides : Bool) (i : Inst) (s : State) (regs bytes reading : ℕ → ℕ) (to other : ℕ) → AgreeBeside hides s regs → area_hazard s false ≡ None → other ≡ to
     → AreActionsAlike hides (call_action i s to) (call_action i (with_values s regs bytes reading) other)
@@ -90,10 +88,8 @@ below_count a = omega arith
 
 frame-read : (hides : Bool) (s : State) (regs bytes reading : ℕ → ℕ) (live : List ℕ) (a : ℕ) → s.frames.live ≡ live → AreOther hides s regs bytes reading → ((x : ℕ) → in_returns live x ≡ true → s.frames.marked x ≡ false)
     → frame_hazard live s.frames a ≡ None → FrameRead hides s regs bytes reading live a
-frame-read hides s regs bytes reading [] a is same known none = (
-  (λ k l h. legible-word hides s regs bytes reading (wrapped (a + 4 * k)) same.bytes same.reading h),
-  return_shown hides s.frames.soft (return_place a) (λ x t. read_hazard-none s.frames (return_place a) 4 x none t) (below_count a),
-)
+frame-read hides s regs bytes reading [] a is same known none =
+    grind (arith, legible-word, return_shown, read_hazard-none, below_count)
 frame-read hides s regs bytes reading (g ∷ live) a is same known none = (
   (λ k l h. shown-word-same hides s.memory bytes s.frames.marked (wrapped (a + 4 * k))
       (λ t. byte (4 * k) (omega (arith, l)) t)
@@ -123,21 +119,8 @@ frame-read hides s regs bytes reading (g ∷ live) a is same known none = (
 controls-same : (hides : Bool) (s : State) (regs bytes reading : ℕ → ℕ) → AreOther hides s regs bytes reading → AreShown hides s (record_registers s) → controls_hazard s.frames (return_type (s.regs PFP)) (s.regs FP) ≡ None
     → (returned_pc (with_other s.memory bytes) (return_type (s.regs PFP)) (regs FP) s.pc ≡ returned_pc s.memory (return_type (s.regs PFP)) (s.regs FP) s.pc)
     × (returned_ac (with_other s.memory bytes) (return_type (s.regs PFP)) (regs FP) s.ac ≡ returned_ac s.memory (return_type (s.regs PFP)) (s.regs FP) s.ac)
-controls-same hides s regs bytes reading same shown none = by_takes (takes_record kind) refl shown
-  where
-    kind : ℕ
-    kind = return_type (s.regs PFP)
-
-    hard : AgreeWhere (is_hard s.frames) s.memory bytes
-    hard = hard-bytes hides s regs bytes reading same
-
-    Same : Type 0
-    Same = (returned_pc (with_other s.memory bytes) kind (regs FP) s.pc ≡ returned_pc s.memory kind (s.regs FP) s.pc) × (returned_ac (with_other s.memory bytes) kind (regs FP) s.ac ≡ returned_ac s.memory kind (s.regs FP) s.ac)
-
-    by_takes : (b : Bool) → takes_record kind ≡ b → AreShown hides s (cond b (FP ∷ []) []) → Same
-    by_takes true e h = rw (same.regs FP (shows-first hides (s.marks FP) false h))
-        (saved_pc_same s.frames s.memory bytes kind (s.regs FP) s.pc hard none, saved_ac_same s.frames s.memory bytes kind (s.regs FP) s.ac hard none)
-    by_takes false e h = rw e (refl, refl)
+controls-same hides s regs bytes reading same shown none =
+    grind (arith, hard-bytes, shows-first, saved_pc_same, saved_ac_same)
 
 -- what a return does, by what it reads
 abbrev restoring : State → ℕ → ℕ → List ℕ → List ℕ → ℕ → ℕ → Action
@@ -200,9 +183,7 @@ message-agree hides AsksInterrupt i s regs bytes reading same shown more none =
     alike-by hides (message_action AsksInterrupt i s) (message_action AsksInterrupt i t) refl
     (rw (value-same hides s regs bytes reading i.a same.regs shown, request_same s.frames s.memory bytes s.tables.interrupt_table (argument_of i s) (hard-bytes hides s regs bytes reading same) none) refl)
 message-agree hides AsksRestart i s regs bytes reading same shown more none =
-    let b = shown-first hides s (registers_of i.b 1) (registers_of i.c 1) (more refl) in
-    let c = shown-second hides s (registers_of i.b 1) (registers_of i.c 1) (more refl) in
-    alike-by hides (message_action AsksRestart i s) (message_action AsksRestart i (with_values s regs bytes reading)) refl (rw (value-same hides s regs bytes reading i.b same.regs b, value-same hides s regs bytes reading i.c same.regs c) refl)
+    grind (arith, shown-first, shown-second, alike-by, value-same)
 message-agree hides AsksGroup i s regs bytes reading same shown more none =
     alike-by hides (message_action AsksGroup i s) (message_action AsksGroup i (with_values s regs bytes reading)) refl (rw (value-same hides s regs bytes reading i.a same.regs shown) refl)
 

@@ -1,13 +1,12 @@
 -- Actions that are alike leave states that agree.
-use Rattle.std.proofs.Common.{◌≡◌, ℕ, ◌+◌, ◌*◌, Bool, true, false, cond, List, [], ◌∷◌, length, nat_le, refl, sym, ap, ◌∙◌, subst, arith}
-use Rattle.std.specs.Prelude.{not, ◌&&◌, ◌||◌, replicate}
+use Rattle.std.proofs.Common.{◌≡◌, ℕ, ◌+◌, ◌*◌, Bool, true, false, List, [], ◌∷◌, length, nat_le, refl, sym, ap, ◌∙◌, subst, arith}
+use Rattle.std.specs.Prelude.{not, replicate}
 use Rattle.std.proofs.lemmas.Bool.{or_left}
 use Rattle.i9_model.specs.declared.layout.TheConstants.{FRAME_SIZE}
 use Rattle.i9_model.specs.Writes.{address_count, wrapped, written, upwards}
 use Rattle.i9_model.specs.Memory.{Memory, in_port_page, stored, word_bytes, with_bytes, with_writes}
 use Rattle.i9_model.specs.State.{State, Frames}
 use Rattle.i9_model.specs.Frames.{in_bytes, in_frames, has, saved, with_marked, returned, flushed, is_put, wrote, softened}
-use Rattle.i9_model.specs.Controls.{marks_after}
 use Rattle.i9_model.specs.Stale.{byte_marks}
 use Rattle.i9_model.specs.Step.{Move, Stays, Saves, Returns, Flushes, Action, bytes_of_words, memory_after, frames_after, moved}
 use Rattle.i9_model.specs.Alike.{is_beyond, is_hard, AgreeWhere, with_other, shows, is_open, with_values, Agree, AreValuesAlike, AreWritesAlike, AreMovesAlike, AreActionsAlike}
@@ -42,22 +41,10 @@ open-flushed hides f x h = grind arith
 abbrev pub AreInside : Frames → List ℕ → Type 0
 AreInside f stale = (x : ℕ) → has stale x ≡ true → (is_beyond x ≡ false) × (in_frames f.live x ≡ false)
 
--- of a byte that is open afterwards, the mark is shown, and unless it is written it was open
-open-wrote : (hides : Bool) (f : Frames) (ps : List (ℕ × ℕ)) (stale : List ℕ) (x : ℕ) → (hides ≡ true → AreInside f stale) → is_open hides (softened (wrote f ps) stale) x ≡ true
-    → (shows hides (has stale x) ≡ true) × (is_put ps x ≡ false → is_open hides f x ≡ true)
-open-wrote hides f ps stale x inside h = by_cases hides (has stale x) (λ e t. inside e x t) h
-  where
-    by_cases : (hides s : Bool) → (hides ≡ true → s ≡ true → (is_beyond x ≡ false) × (in_frames f.live x ≡ false)) → ((is_beyond x || not (s || (f.soft x && not (is_put ps x)))) || cond (shows hides (f.marked x)) (in_frames f.live x) false) ≡ true
-        → (shows hides s ≡ true) × (is_put ps x ≡ false → is_open hides f x ≡ true)
-    by_cases true true away k = let out = away refl refl in absurd (grind arith)
-    by_cases _ _ away k = (grind arith, λ out. grind arith)
-
 -- writes that are alike keep memories that agree
 pub writes-agree : (hides : Bool) (f : Frames) (m : Memory) (bytes : ℕ → ℕ) (ps qs : List (ℕ × ℕ)) (stale : List ℕ) → (hides ≡ true → AreInside f stale) → AreWritesAlike hides stale ps qs → AgreeWhere (is_open hides f) m bytes
     → AgreeWhere (is_open hides (softened (wrote f ps) stale)) (with_writes m ps) (stored bytes qs)
-writes-agree hides f m bytes ps qs stale inside alike same = λ x h.
-    let found = open-wrote hides f ps stale x inside h in
-    stored-alike hides stale m.bytes bytes ps qs x alike (λ p. same x (open-port hides f x p)) (λ p. found.0) (λ out. same x (found.1 out))
+writes-agree hides f m bytes ps qs stale inside alike same = grind (arith, stored-alike, open-port)
 
 -- ---- moves of frames
 
@@ -78,12 +65,7 @@ AreOfSave _ lost = Unit {0}
 
 open-saved : (hides : Bool) (f : Frames) (a : ℕ) (lost : List ℕ) (x : ℕ) → (hides ≡ true → has lost x ≡ true → (is_beyond x ≡ false) × (in_bytes a FRAME_SIZE x ≡ true))
     → is_open hides (with_marked (saved f a) lost) x ≡ true → (shows hides (has lost x) ≡ true) × (in_bytes a FRAME_SIZE x ≡ false → is_open hides f x ≡ true)
-open-saved hides f a lost x inside h = by_cases hides (has lost x) inside h
-  where
-    by_cases : (hides l : Bool) → (hides ≡ true → l ≡ true → (is_beyond x ≡ false) × (in_bytes a FRAME_SIZE x ≡ true)) → ((is_beyond x || not (in_bytes a FRAME_SIZE x || f.soft x)) || cond (shows hides (l || f.marked x)) (in_bytes a FRAME_SIZE x || in_frames f.live x) false) ≡ true
-        → (shows hides l ≡ true) × (in_bytes a FRAME_SIZE x ≡ false → is_open hides f x ≡ true)
-    by_cases true true away k = let here = away refl refl in absurd (grind arith)
-    by_cases _ _ away k = (grind arith, λ out. grind arith)
+open-saved hides f a lost x inside h = grind arith
 
 -- frames whose bytes are alike are saved
 saves-agree : (hides : Bool) (f : Frames) (m : Memory) (bytes : ℕ → ℕ) (a : ℕ) (lost : List ℕ) (vs ws : List ℕ) → (hides ≡ true → AreOfSave (Saves a vs) lost) → IsWhole (Saves a vs)
@@ -100,9 +82,7 @@ saves-agree hides f m bytes a lost vs ws inside whole writes same = λ x h.
 
 -- the words of a frame that is saved are alike, and so are its bytes
 save-alike : (hides : Bool) (m : Memory) (a : ℕ) (lost : List ℕ) (vs ws : List ℕ) → AreMovesAlike hides lost (Saves a vs) (Saves a ws) → AreWritesAlike hides lost (upwards a (bytes_of_words m a vs)) (upwards a (bytes_of_words m a ws))
-save-alike hides m a lost vs ws alike =
-    let bs = alike.1.0 in
-    rw alike.1.1 (writes-picked hides wrapped a (byte_marks bs) (bytes_of_words m a vs) (bytes_of_words m a ws) (bytes-alike hides m a bs vs ws alike.1.2))
+save-alike hides m a lost vs ws alike = grind (arith, writes-picked, bytes-alike)
 
 move-agree : (hides : Bool) (v w : Move) (lost : List ℕ) (f : Frames) (m : Memory) (bytes : ℕ → ℕ) → (hides ≡ true → AreOfSave v lost) → IsWhole v → AreMovesAlike hides lost v w → AgreeWhere (is_open hides f) m bytes
     → AgreeWhere (is_open hides (with_marked (frames_after f v) lost)) (memory_after m v) (memory_after (with_other m bytes) w).bytes
@@ -122,14 +102,7 @@ move_alike Flushes f m bytes whole same = λ x h. same x (open-flushed false f x
 
 -- no move changes a configuration word
 pub move_mcon : (v : Move) (m : Memory) → (memory_after m v).mcon ≡ m.mcon
-move_mcon (Saves save words) m = ap (λ (k : Memory). k.mcon) (words_as_bytes m save words)
-move_mcon _ m = refl
-
--- frames go by addresses alone
-move-frames : (hides : Bool) (v w : Move) (lost : List ℕ) (f : Frames) → AreMovesAlike hides lost v w → frames_after f w ≡ frames_after f v
-move-frames hides (Saves a vs) (Saves b ws) lost f alike = ap (saved f) alike.0
-move-frames hides (Saves a vs) _ lost f alike = absurd alike
-move-frames hides _ w lost f alike = ap (frames_after f) alike
+move_mcon v m = grind (arith, words_as_bytes)
 
 -- ---- the state after an action
 
@@ -142,9 +115,6 @@ pub record IsContained (s : State) (a : Action) : Type 0 where
 abbrev with_parts : State → (ℕ → ℕ) → (ℕ → ℕ) → (ℕ → ℕ) → (ℕ → ℕ) → (ℕ → Bool) → Frames → State
 with_parts s regs bytes mcon reading marks frames = record s { regs = regs; memory = record { bytes = bytes; mcon = mcon }; reading = reading; marks = marks; frames = frames }
 
-parts-same : (s : State) (regs bytes reading : ℕ → ℕ) (c d : ℕ → ℕ) (m k : ℕ → Bool) (f g : Frames) → c ≡ d → m ≡ k → f ≡ g → with_parts s regs bytes c reading m f ≡ with_parts s regs bytes d reading k g
-parts-same s regs bytes reading c d m k f g h i j = rw (h, i, j) refl
-
 -- another action with these values, in another state
 abbrev with_data : Action → Action → Action
 with_data a b = record a { sets = b.sets; writes = b.writes; move = b.move }
@@ -152,17 +122,7 @@ with_data a b = record a { sets = b.sets; writes = b.writes; move = b.move }
 moved-rest : (hides : Bool) (s : State) (a b : Action) (regs bytes reading : ℕ → ℕ) → AreActionsAlike hides a b
     → moved (with_values s regs bytes reading) (with_data a b) ≡ with_values (moved s a) (written regs b.sets) (stored (memory_after (with_other s.memory bytes) b.move).bytes b.writes) reading
 unfolding moved
-moved-rest hides s a b regs bytes reading alike =
-    let k = memory_after (with_other s.memory bytes) b.move in
-    let mcon : k.mcon ≡ (memory_after s.memory a.move).mcon = move_mcon b.move (with_other s.memory bytes) ∙ sym (move_mcon a.move s.memory) in
-    let puts : ◌≡◌ {A = ℕ → Bool} (is_put b.writes) (is_put a.writes) = λ i x. puts-same hides a.stale a.writes b.writes alike.writes x i in
-    let sets : ◌≡◌ {A = ℕ → Bool} (is_put b.sets) (is_put a.sets) = λ i x. puts-same hides a.marked a.sets b.sets alike.sets x i in
-    let marks : ◌≡◌ {A = ℕ → Bool} (marks_after s.marks b.sets a.marked) (marks_after s.marks a.sets a.marked) = ap (λ (p : ℕ → Bool). λ r. has a.marked r || (s.marks r && not (p r))) sets in
-    let frames : softened (wrote (with_marked (frames_after s.frames b.move) a.lost) b.writes) a.stale ≡ softened (wrote (with_marked (frames_after s.frames a.move) a.lost) a.writes) a.stale =
-    ap (λ (f : Frames). softened (wrote (with_marked f a.lost) b.writes) a.stale) (move-frames hides a.move b.move a.lost s.frames alike.move)
-    ∙ ap (λ (p : ℕ → Bool). let f = with_marked (frames_after s.frames a.move) a.lost in softened (record f { soft = λ x. f.soft x && not (p x) }) a.stale) puts in
-    parts-same (moved s a) (written regs b.sets) (stored k.bytes b.writes) reading k.mcon (memory_after s.memory a.move).mcon
-    (marks_after s.marks b.sets a.marked) (marks_after s.marks a.sets a.marked) _ _ mcon marks frames
+moved-rest hides s a b regs bytes reading alike = grind (arith, move_mcon, puts-same)
 
 pub moved-agree : (hides : Bool) (s t : State) (a b : Action) → IsContained s a → AreActionsAlike hides a b → Agree hides s t → Agree hides (moved s a) (moved t b)
 unfolding moved

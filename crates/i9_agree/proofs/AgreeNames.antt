@@ -1,12 +1,11 @@
 -- In states that agree each instruction that marks allow, and whose access meets no hazard, does what is alike.
-use Rattle.std.proofs.Common.{◌≡◌, ℕ, ◌<◌, Bool, true, false, cond, nat_lt, List, [], ◌∷◌, ◌++◌, length, refl, sym, ap, ◌∙◌, subst, arith}
+use Rattle.std.proofs.Common.{◌≡◌, ℕ, Bool, true, false, cond, nat_lt, List, [], ◌∷◌, length, refl, sym, ap, ◌∙◌, subst, arith}
 use Rattle.std.specs.Prelude.{◌==◌, ◌&&◌, ◌||◌, replicate}
 use Rattle.std.specs.List.{list_any}
 use Rattle.std.proofs.lemmas.Bool.Decides.{nat_tests}
 use Rattle.i9_isa.specs.declared.op.Op.{Op}
-use Rattle.i9_isa.specs.declared.op.Op.TheVariants.{Mov, Lda}
+use Rattle.i9_isa.specs.declared.op.Op.TheVariants.{Lda}
 use Rattle.i9_isa.specs.declared.size.Size.{Size}
-use Rattle.i9_isa.specs.declared.size.Size.TheVariants.{Byte}
 use Rattle.i9_isa.specs.declared.size.Direction.{Direction}
 use Rattle.i9_isa.specs.declared.size.Direction.TheVariants.{Load, Store}
 use Rattle.i9_isa.specs.declared.inst.Operand.{Operand}
@@ -20,13 +19,13 @@ use Rattle.i9_model.specs.State.{State, aligned}
 use Rattle.i9_model.specs.Faults.{is_special}
 use Rattle.i9_model.specs.Operands.{value, word_of, address}
 use Rattle.i9_model.specs.Results.{results_by, destination_words}
-use Rattle.i9_model.specs.Branches.{question_of, asks, code_after, says_yes, is_taken}
+use Rattle.i9_model.specs.Branches.{question_of, asks, code_after, is_taken}
 use Rattle.i9_model.specs.Conditions.{code_of}
-use Rattle.i9_model.specs.Step.{Action, passing, assigning, marking, answering, loaded, stored_of, moving, atomic_address, atomic, branching, answer_in, destination, values_of, controls_of, resulting, other_action}
+use Rattle.i9_model.specs.Step.{Action, passing, assigning, marking, answering, loaded, moving, atomic_address, atomic, branching, answer_in, destination, values_of, controls_of, resulting, other_action}
 use Rattle.i9_model.specs.Stale.{picked, byte_marks, marks_of, word_mark, legible, loaded_marks, stored_marks, registers_of, sources, address_registers, is_marked, moves_words, result_marks, moved_marks}
 use Rattle.i9_model.specs.Alike.{is_hard, AgreeWhere, shows, is_open, with_values, AgreeBeside, ReadAlike, AreValuesAlike, AreActionsAlike}
 use Rattle.i9_model.proofs.Lengths.{four_bytes}
-use Rattle.i9_agree.proofs.Agreeing.{shows-none, shows-first, shows-second, values-marked, writes-picked}
+use Rattle.i9_agree.proofs.Agreeing.{shows-first, shows-second, values-marked, writes-picked}
 use Rattle.i9_agree.proofs.AgreeMoves.{open-hard}
 use Rattle.i9_agree.proofs.AgreeActions.{AreShown, shown-three, operand-same, value-same, address-same, legible-word, loaded-alike, alike-by, IsAllowed, assigning-alike, writing-alike, stored-alike-of}
 
@@ -41,18 +40,12 @@ hard-bytes hides s regs bytes reading same = λ x h. same.bytes x (open-hard hid
 
 -- controls that are the same on both sides
 ac-alike : (hides : Bool) (a b : Action) (x y : ℕ) → y ≡ x → AreActionsAlike hides a b → AreActionsAlike hides (record a { ac = x }) (record b { ac = y })
-ac-alike hides a b x y e alike = record {
-  rest = ap (λ (c : Action). record c { ac = y }) alike.rest ∙ rw e refl;
-  sets = alike.sets;
-  writes = alike.writes;
-  move = alike.move;
-}
+ac-alike hides a b x y e alike = grind arith
 
 -- ---- loads, stores and atomics
 
 stored-marks : (size : Size) (s : State) (regs bytes reading : ℕ → ℕ) (o : Operand) → stored_marks size (with_values s regs bytes reading) o ≡ stored_marks size s o
-stored-marks Byte s regs bytes reading o = refl
-stored-marks _ s regs bytes reading o = refl
+stored-marks size s regs bytes reading o = grind arith
 
 pub moving-agree : (hides : Bool) (d : Direction) (size : Size) (signed : Bool) (i : Inst) (s : State) (regs bytes reading : ℕ → ℕ) → AreOther hides s regs bytes reading
     → AreShown hides s (address_registers i.ea) → IsAllowed i.c (moved_marks d size i s) → AreActionsAlike hides (moving d size signed i s) (moving d size signed i (with_values s regs bytes reading))
@@ -63,18 +56,7 @@ moving-agree hides Load size signed i s regs bytes reading same shown allowed =
     (assigning-alike hides i.c (loaded_marks size s.frames.soft (address s i.ea)) (loaded size signed (legible s) (address s i.ea)) (loaded size signed (legible t) (address s i.ea)) (passing i s) allowed
     (loaded-alike hides size signed s regs bytes reading (address s i.ea) same.bytes same.reading) refl)
 moving-agree hides Store size signed i s regs bytes reading same shown allowed =
-    let t = with_values s regs bytes reading in
-    let stores = λ (a : ℕ). record (passing i s) { writes = upwards a (stored_of size t i.c a); stale = picked wrapped a (stored_marks size s i.c) } in
-    let a = address s i.ea in
-    let marks : moving Store size signed i t ≡ stores (address t i.ea) = ap (λ (bs : List Bool). record (passing i s) { writes = upwards (address t i.ea) (stored_of size t i.c (address t i.ea)); stale = picked wrapped (address t i.ea) bs }) (stored-marks size s regs bytes reading i.c) in
-    let here : AreActionsAlike hides (moving Store size signed i s) (stores a) = record {
-      rest = refl;
-      sets = tt;
-      writes = writes-picked hides wrapped a (stored_marks size s i.c) (stored_of size s i.c a) (stored_of size t i.c a) (stored-alike-of hides size s regs bytes reading i.c a same.regs);
-      move = refl;
-    } in
-    subst (λ (x : Action). AreActionsAlike hides (moving Store size signed i s) x) (sym marks)
-    (subst (λ (b : ℕ). AreActionsAlike hides (moving Store size signed i s) (stores b)) (sym (address-same hides s regs bytes reading i.ea same.regs shown)) here)
+    grind (arith, stored-marks, writes-picked, stored-alike-of, address-same)
 
 pub atomic-agree : (hides : Bool) (i : Inst) (s : State) (regs bytes reading : ℕ → ℕ) (data_marked : Bool) (change other : ℕ → ℕ) → AreOther hides s regs bytes reading
     → AreShown hides s (registers_of i.a 1) → IsAllowed i.c (word_mark s.frames.soft (atomic_address i s) ∷ []) → (shows hides data_marked ≡ true → (old : ℕ) → other old ≡ change old)
@@ -110,13 +92,10 @@ results-used : (op : Op) (a0 a1 a2 a3 b0 b1 c ac : ℕ)
     → results_by op (used (words_read (row_of op).a) 0 a0 ∷ used (words_read (row_of op).a) 1 a1 ∷ used (words_read (row_of op).a) 2 a2 ∷ used (words_read (row_of op).a) 3 a3 ∷ [])
     (used (words_read (row_of op).b) 0 b0 ∷ used (words_read (row_of op).b) 1 b1 ∷ []) (used (words_read (row_of op).c) 0 c) ac
     ≡ results_by op (a0 ∷ a1 ∷ a2 ∷ a3 ∷ []) (b0 ∷ b1 ∷ []) c ac
-results-used Mov a0 a1 a2 a3 b0 b1 c ac = refl
-results-used _ a0 a1 a2 a3 b0 b1 c ac = refl
+results-used op a0 a1 a2 a3 b0 b1 c ac = grind arith
 
 used-same : (hides : Bool) (s : State) (regs bytes reading : ℕ → ℕ) (o : Operand) (n k : ℕ) → AgreeBeside hides s regs → AreShown hides s (registers_of o n) → used n k (word_of (with_values s regs bytes reading) o k) ≡ used n k (word_of s o k)
-used-same hides s regs bytes reading o n k same shown =
-    let word : k < n → word_of (with_values s regs bytes reading) o k ≡ word_of s o k = operand-same hides s regs bytes reading o n k same shown in
-    grind (arith, nat_tests)
+used-same hides s regs bytes reading o n k same shown = grind (arith, operand-same, nat_tests)
 
 pub answer-same : (hides : Bool) (i : Inst) (s : State) (regs bytes reading : ℕ → ℕ) → AgreeBeside hides s regs → AreShown hides s (sources i) → answer_in i (with_values s regs bytes reading) ≡ answer_in i s
 answer-same hides i s regs bytes reading same shown =
@@ -136,13 +115,8 @@ answer-same hides i s regs bytes reading same shown =
 abbrev asked_of : Op → ℕ → ℕ → ℕ
 asked_of op n v = cond (asks (question_of op)) (used n 0 v) 0
 
-yes-used : (op : Op) (a b code : ℕ) → says_yes (question_of op) (asked_of op (words_read (row_of op).a) a) (asked_of op (words_read (row_of op).b) b) code ≡ says_yes (question_of op) a b code
-yes-used Mov a b code = refl
-yes-used _ a b code = refl
-
 after-used : (op : Op) (a b code : ℕ) → code_after (question_of op) (asked_of op (words_read (row_of op).a) a) (asked_of op (words_read (row_of op).b) b) code ≡ code_after (question_of op) a b code
-after-used Mov a b code = refl
-after-used _ a b code = refl
+after-used op a b code = grind arith
 
 -- of a name that asks something the sources are shown
 abbrev pub AsksShown : Bool → Inst → State → Type 0
@@ -151,24 +125,11 @@ AsksShown hides i s = asks (question_of i.op) ≡ true → AreShown hides s (sou
 asked-same : (hides : Bool) (i : Inst) (s : State) (regs bytes reading : ℕ → ℕ) → AgreeBeside hides s regs → AsksShown hides i s
     → (asked_of i.op (words_read (row_of i.op).a) (value (with_values s regs bytes reading) i.a) ≡ asked_of i.op (words_read (row_of i.op).a) (value s i.a))
     × (asked_of i.op (words_read (row_of i.op).b) (value (with_values s regs bytes reading) i.b) ≡ asked_of i.op (words_read (row_of i.op).b) (value s i.b))
-asked-same hides i s regs bytes reading same shown = by_asks (asks (question_of i.op)) (words_read (row_of i.op).a) (words_read (row_of i.op).b) (words_read (row_of i.op).c) shown
-  where
-    by_asks : (b : Bool) (na nb nc : ℕ) → (b ≡ true → AreShown hides s (registers_of i.a na ++ (registers_of i.b nb ++ registers_of i.c nc)))
-        → (cond b (used na 0 (value (with_values s regs bytes reading) i.a)) 0 ≡ cond b (used na 0 (value s i.a)) 0)
-        × (cond b (used nb 0 (value (with_values s regs bytes reading) i.b)) 0 ≡ cond b (used nb 0 (value s i.b)) 0)
-    by_asks false na nb nc h = (refl, refl)
-    by_asks true na nb nc h =
-        let all = shown-three hides s (registers_of i.a na) (registers_of i.b nb) (registers_of i.c nc) (h refl) in
-        (used-same hides s regs bytes reading i.a na 0 same all.0, used-same hides s regs bytes reading i.b nb 0 same all.1)
+asked-same hides i s regs bytes reading same shown = grind (arith, shown-three, operand-same, nat_tests)
 
 pub taken-same : (hides : Bool) (i : Inst) (s : State) (regs bytes reading : ℕ → ℕ) → AgreeBeside hides s regs → AsksShown hides i s
     → is_taken i (value (with_values s regs bytes reading) i.a) (value (with_values s regs bytes reading) i.b) s.ac ≡ is_taken i (value s i.a) (value s i.b) s.ac
-taken-same hides i s regs bytes reading same shown =
-    let t = with_values s regs bytes reading in
-    let e = asked-same hides i s regs bytes reading same shown in
-    let code = code_of s.ac in
-    let q = question_of i.op in
-    sym (yes-used i.op (value t i.a) (value t i.b) code) ∙ rw (e.0, e.1) (yes-used i.op (value s i.a) (value s i.b) code)
+taken-same hides i s regs bytes reading same shown = grind arith
 
 branching-same : (hides : Bool) (i : Inst) (s : State) (regs bytes reading : ℕ → ℕ) → AgreeBeside hides s regs → AsksShown hides i s → branching i (with_values s regs bytes reading) ≡ branching i s
 branching-same hides i s regs bytes reading same shown =
@@ -187,20 +148,16 @@ is_lda Lda = true
 is_lda _ = false
 
 pub keeps-asks : (op : Op) → cond (keeps_marks op) (asks (question_of op)) false ≡ false
-keeps-asks Mov = refl
-keeps-asks _ = refl
+keeps-asks op = grind arith
 
 keeps-here : (op : Op) → cond (keeps_marks op) (words_written (row_of op).a) 0 ≡ 0
-keeps-here Mov = refl
-keeps-here _ = refl
+keeps-here op = grind arith
 
 keeps-count : (op : Op) (a0 a1 a2 a3 b0 b1 c ac : ℕ) → cond (is_lda op) 0 (cond (keeps_marks op) (length (values_of (results_by op (a0 ∷ a1 ∷ a2 ∷ a3 ∷ []) (b0 ∷ b1 ∷ []) c ac))) 0) ≡ cond (is_lda op) 0 (cond (keeps_marks op) (destination_words op) 0)
-keeps-count Mov a0 a1 a2 a3 b0 b1 c ac = refl
-keeps-count _ a0 a1 a2 a3 b0 b1 c ac = refl
+keeps-count op a0 a1 a2 a3 b0 b1 c ac = grind arith
 
 keeps-controls : (op : Op) (a0 a1 a2 a3 b0 b1 c ac : ℕ) → cond (keeps_marks op) (controls_of (results_by op (a0 ∷ a1 ∷ a2 ∷ a3 ∷ []) (b0 ∷ b1 ∷ []) c ac) ac) ac ≡ ac
-keeps-controls Mov a0 a1 a2 a3 b0 b1 c ac = refl
-keeps-controls _ a0 a1 a2 a3 b0 b1 c ac = refl
+keeps-controls op a0 a1 a2 a3 b0 b1 c ac = grind arith
 
 -- where marks are hidden, no value needs to be the same
 hidden-values : (n : ℕ) (b : Bool) (vs ws : List ℕ) → b ≡ true → length vs ≡ n → length ws ≡ n → AreValuesAlike true (replicate n b) vs ws
@@ -254,11 +211,7 @@ resulting-agree hides i s regs bytes reading same other plain none allowed = by_
 
 -- a branch, or a result
 asks-sources : (hides : Bool) (i : Inst) (s : State) → is_marked s (cond (keeps_marks i.op) [] (sources i)) ≡ false → AsksShown hides i s
-asks-sources hides i s none asked = by_keeps (keeps_marks i.op) (asks (question_of i.op)) asked (keeps-asks i.op) none
-  where
-    by_keeps : (k a : Bool) → a ≡ true → cond k a false ≡ false → is_marked s (cond k [] (sources i)) ≡ false → AreShown hides s (sources i)
-    by_keeps true a e d h = absurd cc
-    by_keeps false a e d h = shows-none hides (is_marked s (sources i)) h
+asks-sources hides i s none asked = grind arith
 
 pub other-agree : (hides : Bool) (i : Inst) (s : State) (regs bytes reading : ℕ → ℕ) → AgreeBeside hides s regs → is_lda i.op ≡ false → moves_words i.op ≡ false
     → is_marked s (cond (keeps_marks i.op) [] (sources i)) ≡ false → (is_special i.c && list_any (λ b. b) (result_marks i s)) ≡ false

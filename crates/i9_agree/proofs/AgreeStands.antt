@@ -1,94 +1,48 @@
 -- In states that agree the same stands at the instruction address.
-use Rattle.std.proofs.Common.{◌≡◌, ◌⊎◌, inl, inr, arith, ℕ, ◌/◌, ◌%◌, ◌^◌, Bool, true, false, cond, List, [], ◌∷◌, ◌++◌, Option, Some, None, Result, Ok, Err, refl, sym, ap, ◌∙◌}
-use Rattle.std.specs.Prelude.{not, ◌==◌, ◌&&◌, ◌||◌}
+use Rattle.std.proofs.Common.{◌≡◌, arith, ℕ, Bool, true, false, cond, ◌++◌, Option, Some, None, Result, Ok, Err, refl, sym, ap, ◌∙◌}
+use Rattle.std.specs.Prelude.{not, ◌&&◌}
 use Rattle.std.specs.List.{list_any}
-use Rattle.std.proofs.lemmas.List.Folds.{list_any-append}
 use Rattle.std.proofs.lemmas.Bool.{or_parts}
 use Rattle.i9_isa.specs.declared.op.Op.{Op}
-use Rattle.i9_isa.specs.declared.op.Op.TheVariants.{Mov, Atadd, Atmod, Calls, Ret, Modpc, Sdma, Sysctl, Addi, Subi, Muli, Shli, Divo, Remo, Divi, Remi, Modi, Ediv, Concmpo, Concmpi, Spanbit, Scanbit}
-use Rattle.i9_isa.specs.declared.size.Size.{Size}
+use Rattle.i9_isa.specs.declared.op.Op.TheVariants.{Atadd, Atmod, Calls, Ret, Modpc, Sdma, Sysctl}
 use Rattle.i9_isa.specs.declared.size.Direction.{Direction}
-use Rattle.i9_isa.specs.declared.size.Direction.TheVariants.{Load, Store}
 use Rattle.i9_isa.specs.declared.size.Transfer.{Transfer}
 use Rattle.i9_isa.specs.declared.inst.Inst.{Inst}
 use Rattle.i9_isa.specs.declared.inst.BadWord.{BadWord}
 use Rattle.i9_isa.specs.Transfers.{transfer_of, byte_count}
 use Rattle.i9_isa.specs.Words.{decoded}
-use Rattle.i9_model.specs.declared.layout.TheConstants.{FP, SP, PFP}
+use Rattle.i9_model.specs.declared.layout.TheConstants.{FP}
 use Rattle.i9_model.specs.State.{State, Frames, aligned}
-use Rattle.i9_model.specs.Frames.{rounded_down, flushed}
-use Rattle.i9_model.specs.Hazards.{or_else, read_hazard, save_hazard, return_hazard}
-use Rattle.i9_model.specs.Calls.{takes_record, return_type, record_hazard, ret_hazard, system_hazard_by}
-use Rattle.i9_model.specs.Faults.{is_special, is_supervisor_only, is_invalid, is_past_table, raised}
+use Rattle.i9_model.specs.Frames.{flushed}
+use Rattle.i9_model.specs.Hazards.{read_hazard}
+use Rattle.i9_model.specs.Calls.{takes_record, return_type, ret_hazard, system_hazard_by}
+use Rattle.i9_model.specs.Faults.{is_special, raised}
 use Rattle.i9_model.specs.Operands.{value, address}
-use Rattle.i9_model.specs.Results.{results_by}
-use Rattle.i9_model.specs.Branches.{question_of, asks}
-use Rattle.i9_model.specs.Step.{first_word, next_word, answer_in, Message, AsksInterrupt, AsksRestart, AsksGroup, message_of, argument_of, message_kind, asked_message}
-use Rattle.i9_model.specs.Stale.{registers_of, sources, address_registers, is_marked, moved_marks, marks_by_name, marks_by, restart_registers, record_registers, deciding, deciding_by, stored_out, goes_out, goes_out_by, reaches_special, misuses, area_hazard}
-use Rattle.i9_model.specs.Access.{Access, Reads, Writes, Changes, SavesFrame, CallsSystem, ReturnsBy, Requests, ReadsTables, ReadsGroup, moved_access, message_access, access_by_name, access_by, access_of, data_of, hazard_in, hazard_of, fetch_hazard, second_hazard}
-use Rattle.i9_model.specs.Standing.{Meets, answer_fault, raised_in, later_fault, by_access, by_later, by_raised, by_word, by_fetch, stands_at}
-use Rattle.i9_model.specs.Alike.{is_hard, AgreeWhere, with_other, with_memory, shows, with_values, AgreeBeside}
+use Rattle.i9_model.specs.Step.{first_word, next_word, Message, AsksRestart}
+use Rattle.i9_model.specs.Stale.{registers_of, address_registers, is_marked, marks_by, deciding, deciding_by, goes_out_by, misuses, area_hazard}
+use Rattle.i9_model.specs.Access.{Access, Changes, SavesFrame, CallsSystem, ReturnsBy, ReadsTables, moved_access, message_access, access_by_name, access_by, access_of, data_of, hazard_in, hazard_of, fetch_hazard, second_hazard}
+use Rattle.i9_model.specs.Standing.{Meets, raised_in, later_fault, by_access, by_later, by_raised, by_word, by_fetch, stands_at}
+use Rattle.i9_model.specs.Alike.{is_hard, AgreeWhere, with_other, with_memory, with_values, AgreeBeside}
 use Rattle.i9_model.proofs.CallLaws.{first_none, second_none}
 use Rattle.i9_agree.proofs.AlikeActions.{system_hazard_by_same}
 use Rattle.i9_agree.proofs.AlikeFetches.{tables_hazard_same, first_word_same, fetch_hazard_same, decoded_same}
 use Rattle.i9_agree.proofs.SecondWords.{decoded_alike}
 use Rattle.i9_agree.proofs.Agreeing.{shows-none, shows-first, shows-second}
 use Rattle.i9_agree.proofs.AgreeMoves.{open-hard, open-flushed}
-use Rattle.i9_agree.proofs.AgreeActions.{AreShown, shown-first, shown-second, value-same, address-same}
+use Rattle.i9_agree.proofs.AgreeActions.{AreShown, shown-first, shown-second, value-same}
 use Rattle.i9_agree.proofs.AgreeNames.{AreOther, hard-bytes, AsksShown, taken-same, answer-same}
 use Rattle.i9_agree.proofs.AgreeCalls.{named, restart-shown}
 
 -- ---- what decides
 
--- whether what comes later is marked doesn't matter where what decides it is
-either-same : (b c d : Bool) → (b ≡ false → d ≡ c) → (b || d) ≡ (b || c)
-either-same b c d h = grind arith
-
-name-decides : (hides : Bool) (op : Op) (i : Inst) (s : State) (regs bytes reading : ℕ → ℕ) → AgreeBeside hides s regs → is_marked s (deciding op i (with_values s regs bytes reading)) ≡ is_marked s (deciding op i s)
-name-decides hides Ret i s regs bytes reading same =
-    either-same (s.marks PFP) (is_marked s (record_registers s)) (is_marked s (record_registers (with_values s regs bytes reading))) (λ e.
-    ap (λ (p : ℕ). is_marked s (cond (takes_record (return_type p)) (FP ∷ []) [])) (same PFP (shows-none hides (s.marks PFP) e)))
-name-decides hides Sysctl i s regs bytes reading same =
-    let t = with_values s regs bytes reading in
-    let rs = registers_of i.a 1 in
-    list_any-append s.marks rs (restart_registers i t)
-    ∙ either-same (is_marked s rs) (is_marked s (restart_registers i s)) (is_marked s (restart_registers i t)) (λ e.
-    ap (λ (v : ℕ). is_marked s (cond (v / 2 ^ 8 % 2 ^ 8 == 3) (registers_of i.b 1 ++ registers_of i.c 1) [])) (value-same hides s regs bytes reading i.a same (shows-none hides (is_marked s rs) e)))
-    ∙ sym (list_any-append s.marks rs (restart_registers i s))
-name-decides hides _ i s regs bytes reading same = refl
-
 decides : (hides : Bool) (o : Option Transfer) (i : Inst) (s : State) (regs bytes reading : ℕ → ℕ) → AgreeBeside hides s regs → is_marked s (deciding_by o i (with_values s regs bytes reading)) ≡ is_marked s (deciding_by o i s)
-decides hides (Some t) i s regs bytes reading same = refl
-decides hides None i s regs bytes reading same = name-decides hides i.op i s regs bytes reading same
+decides hides o i s regs bytes reading same = grind arith
 
 -- ---- what reaches a special function register, and what goes out
 
-name-marks : (hides : Bool) (op : Op) (i : Inst) (s : State) (regs bytes reading : ℕ → ℕ) → AgreeBeside hides s regs → AreShown hides s (deciding op i s)
-    → (marks_by_name op i (with_values s regs bytes reading) ≡ marks_by_name op i s) × (goes_out op i (with_values s regs bytes reading) ≡ goes_out op i s)
-name-marks hides Atadd i s regs bytes reading same shown = rw (value-same hides s regs bytes reading i.a same shown) (refl, refl)
-name-marks hides Atmod i s regs bytes reading same shown = rw (value-same hides s regs bytes reading i.a same shown) (refl, refl)
-name-marks hides _ i s regs bytes reading same shown = (refl, refl)
-
-moved-marks : (hides : Bool) (d : Direction) (size : Size) (i : Inst) (s : State) (regs bytes reading : ℕ → ℕ) → AgreeBeside hides s regs → AreShown hides s (address_registers i.ea)
-    → (moved_marks d size i (with_values s regs bytes reading) ≡ moved_marks d size i s) × (stored_out d size i (with_values s regs bytes reading) ≡ stored_out d size i s)
-moved-marks hides Load size i s regs bytes reading same shown = rw (address-same hides s regs bytes reading i.ea same shown) (refl, refl)
-moved-marks hides Store size i s regs bytes reading same shown = rw (address-same hides s regs bytes reading i.ea same shown) (refl, refl)
-
-marks-same : (hides : Bool) (o : Option Transfer) (i : Inst) (s : State) (regs bytes reading : ℕ → ℕ) → AgreeBeside hides s regs → AreShown hides s (deciding_by o i s)
-    → (marks_by o i (with_values s regs bytes reading) ≡ marks_by o i s) × (goes_out_by o i (with_values s regs bytes reading) ≡ goes_out_by o i s)
-marks-same hides (Some t) i s regs bytes reading same shown = moved-marks hides t.direction t.size i s regs bytes reading same shown
-marks-same hides None i s regs bytes reading same shown = name-marks hides i.op i s regs bytes reading same shown
-
 pub misuses-same : (hides : Bool) (i : Inst) (s : State) (regs bytes reading : ℕ → ℕ) → AgreeBeside hides s regs → misuses i (with_values s regs bytes reading) ≡ misuses i s
 unfolding misuses
-misuses-same hides i s regs bytes reading same =
-    let t = with_values s regs bytes reading in
-    let o = transfer_of i.op in
-    let first = is_marked s (deciding_by o i s) in
-    ap (λ (b : Bool). b || (reaches_special i t || goes_out_by o i t)) (decides hides o i s regs bytes reading same)
-    ∙ either-same first (reaches_special i s || goes_out_by o i s) (reaches_special i t || goes_out_by o i t) (λ e.
-    let marks = marks-same hides o i s regs bytes reading same (shows-none hides first e) in
-    rw (marks.0, marks.1) refl)
+misuses-same hides i s regs bytes reading same = grind arith
 
 -- what is not misused
 pub record IsAllowedIn (i : Inst) (s : State) : Type 0 where
@@ -98,19 +52,12 @@ pub record IsAllowedIn (i : Inst) (s : State) : Type 0 where
 
 pub allowed-by : (i : Inst) (s : State) → misuses i s ≡ false → IsAllowedIn i s
 unfolding misuses
-allowed-by i s none =
-    let one = or_parts (is_marked s (deciding_by (transfer_of i.op) i s)) (reaches_special i s || goes_out_by (transfer_of i.op) i s) none in
-    let two = or_parts (reaches_special i s) (goes_out_by (transfer_of i.op) i s) one.1 in
-    record { deciding = one.0; special = two.0; out = two.1 }
+allowed-by i s none = grind (arith, or_parts)
 
 -- ---- accesses and their hazards
 
 area-same : (hides : Bool) (s : State) (regs bytes reading : ℕ → ℕ) → AgreeBeside hides s regs → (b : Bool) → area_hazard (with_values s regs bytes reading) b ≡ area_hazard s b
-area-same hides s regs bytes reading same b = by_mark (s.marks FP) (not b && s.marks SP) refl
-  where
-    by_mark : (m n : Bool) → s.marks FP ≡ m → or_else (cond (m || n) (Some s.ip) None) (save_hazard s.frames (rounded_down (regs FP))) ≡ or_else (cond (m || n) (Some s.ip) None) (save_hazard s.frames (rounded_down (s.regs FP)))
-    by_mark false false e = ap (λ (x : ℕ). save_hazard s.frames (rounded_down x)) (same FP (shows-none hides (s.marks FP) e))
-    by_mark _ _ e = refl
+area-same hides s regs bytes reading same b = grind arith
 
 pub areas-same : (hides : Bool) (s : State) (regs bytes reading : ℕ → ℕ) → AgreeBeside hides s regs → ◌≡◌ {A = Bool → Option ℕ} (area_hazard (with_values s regs bytes reading)) (area_hazard s)
 areas-same hides s regs bytes reading same = λ i b. area-same hides s regs bytes reading same b i
@@ -122,11 +69,7 @@ FpKnown s regs _ = Unit {0}
 
 ret-hazard : (f : Frames) (pfp fp fp2 : ℕ) → (takes_record (return_type pfp) ≡ true → fp2 ≡ fp) → ret_hazard f pfp fp2 ≡ ret_hazard f pfp fp
 unfolding ret_hazard
-ret-hazard f pfp fp fp2 known = by_takes (takes_record (return_type pfp)) known
-  where
-    by_takes : (b : Bool) → (b ≡ true → fp2 ≡ fp) → or_else (cond b (record_hazard f fp2) None) (return_hazard f (rounded_down pfp)) ≡ or_else (cond b (record_hazard f fp) None) (return_hazard f (rounded_down pfp))
-    by_takes false h = refl
-    by_takes true h = ap (λ (x : ℕ). or_else (record_hazard f x) (return_hazard f (rounded_down pfp))) (h refl)
+ret-hazard f pfp fp fp2 known = grind arith
 
 flushed-hard : (hides : Bool) (s : State) (regs bytes reading : ℕ → ℕ) → AreOther hides s regs bytes reading → AgreeWhere (is_hard (flushed s.frames)) s.memory bytes
 flushed-hard hides s regs bytes reading same = λ x h. same.bytes x (open-flushed hides s.frames x (open-hard hides (flushed s.frames) x h))
@@ -142,10 +85,7 @@ hazard-in-same hides _ s regs bytes reading same known = refl
 
 message-access : (hides : Bool) (m : Message) (i : Inst) (s : State) (regs bytes reading : ℕ → ℕ) → AgreeBeside hides s regs → AreShown hides s (registers_of i.a 1) → (m ≡ AsksRestart → AreShown hides s (registers_of i.b 1 ++ registers_of i.c 1))
     → (message_access m i (with_values s regs bytes reading) ≡ message_access m i s) × FpKnown s regs (message_access m i s)
-message-access hides AsksInterrupt i s regs bytes reading same shown more = (ap (λ (v : ℕ). Requests (v % 2 ^ 8)) (value-same hides s regs bytes reading i.a same shown), tt)
-message-access hides AsksRestart i s regs bytes reading same shown more = (ap (λ (v : ℕ). ReadsTables v) (value-same hides s regs bytes reading i.c same (shown-second hides s (registers_of i.b 1) (registers_of i.c 1) (more refl))), tt)
-message-access hides AsksGroup i s regs bytes reading same shown more = (ap (λ (v : ℕ). ReadsGroup (v % 2 ^ 8)) (value-same hides s regs bytes reading i.a same shown), tt)
-message-access hides _ i s regs bytes reading same shown more = (refl, tt)
+message-access hides m i s regs bytes reading same shown more = grind arith
 
 abbrev SameAccess : State → (ℕ → ℕ) → Access → Access → Type 0
 SameAccess s regs x y = (y ≡ x) × FpKnown s regs x
@@ -154,25 +94,13 @@ name-access : (hides : Bool) (op : Op) (i : Inst) (s : State) (regs bytes readin
 name-access hides Atadd i s regs bytes reading same shown = (ap (λ (v : ℕ). Changes (aligned v) 4) (value-same hides s regs bytes reading i.a same shown), tt)
 name-access hides Atmod i s regs bytes reading same shown = (rw (value-same hides s regs bytes reading i.a same shown) refl, tt)
 name-access hides Calls i s regs bytes reading same shown = (ap (λ (v : ℕ). CallsSystem v) (value-same hides s regs bytes reading i.a same (shown-first hides s (registers_of i.a 1) (registers_of i.b 0 ++ registers_of i.c 0) shown)), tt)
-name-access hides Ret i s regs bytes reading same shown = (
-  ap (λ (p : ℕ). ReturnsBy p) (same PFP (shows-first hides (s.marks PFP) (is_marked s (record_registers s)) shown)),
-  λ takes. same FP (by_takes (takes_record (return_type (s.regs PFP))) takes (shows-second hides (s.marks PFP) (is_marked s (record_registers s)) shown)),
-)
-  where
-    by_takes : (b : Bool) → b ≡ true → shows hides (is_marked s (cond b (FP ∷ []) [])) ≡ true → shows hides (s.marks FP) ≡ true
-    by_takes b e h = grind arith
+name-access hides Ret i s regs bytes reading same shown = grind (arith, shows-first, shows-second)
 name-access hides Sysctl i s regs bytes reading same shown =
-    let t = with_values s regs bytes reading in
-    let j = named Sysctl i in
-    let first = shown-first hides s (registers_of i.a 1) (restart_registers j s) shown in
-    let second = shown-second hides s (registers_of i.a 1) (restart_registers j s) shown in
-    let access = message-access hides (asked_message j s) j s regs bytes reading same first (restart-shown hides s (message_of j s) (argument_of j s) (registers_of i.b 1 ++ registers_of i.c 1) second) in
-    (ap (λ (v : ℕ). message_access (message_kind (v / 2 ^ 8 % 2 ^ 8) (v % 2 ^ 8)) j t) (value-same hides s regs bytes reading i.a same first) ∙ access.0, access.1)
+    grind (arith, shown-first, shown-second, message-access, restart-shown, value-same)
 name-access hides _ i s regs bytes reading same shown = (refl, tt)
 
 moved-access : (hides : Bool) (d : Direction) (n : ℕ) (i : Inst) (s : State) (regs bytes reading : ℕ → ℕ) → AgreeBeside hides s regs → AreShown hides s (address_registers i.ea) → SameAccess s regs (moved_access d (address s i.ea) n) (moved_access d (address (with_values s regs bytes reading) i.ea) n)
-moved-access hides Load n i s regs bytes reading same shown = (ap (λ (a : ℕ). Reads a n) (address-same hides s regs bytes reading i.ea same shown), tt)
-moved-access hides Store n i s regs bytes reading same shown = (ap (λ (a : ℕ). Writes a n) (address-same hides s regs bytes reading i.ea same shown), tt)
+moved-access hides d n i s regs bytes reading same shown = grind arith
 
 pub access-same : (hides : Bool) (i : Inst) (s : State) (regs bytes reading : ℕ → ℕ) → AgreeBeside hides s regs → is_marked s (deciding_by (transfer_of i.op) i s) ≡ false → SameAccess s regs (access_of i s) (access_of i (with_values s regs bytes reading))
 access-same hides i s regs bytes reading same none = by_transfer (transfer_of i.op) none
@@ -200,36 +128,17 @@ second_source : Op → ℕ → ℕ
 second_source Modpc b = b
 second_source _ b = 0
 
-supervisor-used : (op : Op) (b : ℕ) → is_supervisor_only op (second_source op b) ≡ is_supervisor_only op b
-unfolding second_source
-supervisor-used Mov b = refl
-supervisor-used _ b = refl
-
-invalid-used : (op : Op) (a : ℕ) → is_invalid op (first_source op a) ≡ is_invalid op a
-unfolding first_source
-invalid-used Mov a = refl
-invalid-used _ a = refl
-
-table-used : (op : Op) (a : ℕ) → is_past_table op (first_source op a) ≡ is_past_table op a
-unfolding first_source
-table-used Mov a = refl
-table-used _ a = refl
-
 raised-used : (i : Inst) (a b : ℕ) (x : Option (ℕ × ℕ)) (pc config : ℕ) → raised i (first_source i.op a) (second_source i.op b) x pc config ≡ raised i a b x pc config
-unfolding raised
-raised-used i a b x pc config = rw (supervisor-used i.op b, invalid-used i.op a, table-used i.op a) refl
+unfolding first_source raised second_source
+raised-used i a b x pc config = grind arith
 
 first-same : (hides : Bool) (op : Op) (i : Inst) (s : State) (regs bytes reading : ℕ → ℕ) → AgreeBeside hides s regs → is_marked s (deciding_by (transfer_of op) (named op i) s) ≡ false → first_source op (value (with_values s regs bytes reading) i.a) ≡ first_source op (value s i.a)
 unfolding first_source
-first-same hides Sysctl i s regs bytes reading same none = value-same hides s regs bytes reading i.a same (shown-first hides s (registers_of i.a 1) (restart_registers (named Sysctl i) s) (shows-none hides _ none))
-first-same hides Sdma i s regs bytes reading same none = value-same hides s regs bytes reading i.a same (shown-first hides s (registers_of i.a 1) (registers_of i.b 1 ++ registers_of i.c 3) (shows-none hides _ none))
-first-same hides Calls i s regs bytes reading same none = value-same hides s regs bytes reading i.a same (shown-first hides s (registers_of i.a 1) (registers_of i.b 0 ++ registers_of i.c 0) (shows-none hides _ none))
-first-same hides _ i s regs bytes reading same none = refl
+first-same hides op i s regs bytes reading same none = grind arith
 
 second-same : (hides : Bool) (op : Op) (i : Inst) (s : State) (regs bytes reading : ℕ → ℕ) → AgreeBeside hides s regs → is_marked s (deciding_by (transfer_of op) (named op i) s) ≡ false → second_source op (value (with_values s regs bytes reading) i.b) ≡ second_source op (value s i.b)
 unfolding second_source
-second-same hides Modpc i s regs bytes reading same none = value-same hides s regs bytes reading i.b same (shown-first hides s (registers_of i.b 1) (registers_of i.c 1) (shows-none hides _ none))
-second-same hides _ i s regs bytes reading same none = refl
+second-same hides op i s regs bytes reading same none = grind arith
 
 raised-same : (hides : Bool) (i : Inst) (s : State) (regs bytes reading : ℕ → ℕ) → AgreeBeside hides s regs → is_marked s (deciding_by (transfer_of i.op) i s) ≡ false → raised_in i (with_values s regs bytes reading) ≡ raised_in i s
 raised-same hides i s regs bytes reading same none =
@@ -240,44 +149,11 @@ raised-same hides i s regs bytes reading same none =
     ∙ rw (first-same hides i.op i s regs bytes reading same none, second-same hides i.op i s regs bytes reading same none) refl
     ∙ raised-used i (value s i.a) (value s i.b) (data_of (access_of i s)) s.pc config
 
--- a result is no fault, or what decides are the sources
-fault-cases : (op : Op) → ((a b : List ℕ) (c ac : ℕ) → answer_fault (results_by op a b c ac) ≡ None)
-    ⊎ ((i : Inst) (s : State) → deciding_by (transfer_of op) (named op i) s ≡ sources (named op i))
-fault-cases Addi = inr (λ i s. refl)
-fault-cases Subi = inr (λ i s. refl)
-fault-cases Muli = inr (λ i s. refl)
-fault-cases Shli = inr (λ i s. refl)
-fault-cases Divo = inr (λ i s. refl)
-fault-cases Remo = inr (λ i s. refl)
-fault-cases Divi = inr (λ i s. refl)
-fault-cases Remi = inr (λ i s. refl)
-fault-cases Modi = inr (λ i s. refl)
-fault-cases Ediv = inr (λ i s. refl)
-fault-cases Concmpo = inr (λ i s. refl)
-fault-cases Concmpi = inr (λ i s. refl)
-fault-cases Spanbit = inr (λ i s. refl)
-fault-cases Scanbit = inr (λ i s. refl)
-fault-cases _ = inl (λ a b c ac. refl)
-
-asks-decide : (op : Op) (i : Inst) (s : State) → cond (asks (question_of op)) (deciding_by (transfer_of op) (named op i) s) [] ≡ cond (asks (question_of op)) (sources (named op i)) []
-asks-decide Mov i s = refl
-asks-decide _ i s = refl
-
-shown-where : (hides : Bool) (s : State) (b : Bool) (xs ys : List ℕ) → cond b xs [] ≡ cond b ys [] → is_marked s xs ≡ false → b ≡ true → AreShown hides s ys
-shown-where hides s true xs ys e h d = shows-none hides (is_marked s ys) (ap (is_marked s) (sym e) ∙ h)
-shown-where hides s false xs ys e h d = absurd cc
-
 pub asks-shown : (hides : Bool) (i : Inst) (s : State) → is_marked s (deciding_by (transfer_of i.op) i s) ≡ false → AsksShown hides i s
-asks-shown hides i s none asked = shown-where hides s (asks (question_of i.op)) (deciding_by (transfer_of i.op) i s) (sources i) (asks-decide i.op i s) none asked
+asks-shown hides i s none asked = grind arith
 
 later-same : (hides : Bool) (i : Inst) (s : State) (regs bytes reading : ℕ → ℕ) → AgreeBeside hides s regs → is_marked s (deciding_by (transfer_of i.op) i s) ≡ false → later_fault i (with_values s regs bytes reading) ≡ later_fault i s
-later-same hides i s regs bytes reading same none =
-    let t = with_values s regs bytes reading in
-    let answer : answer_fault (answer_in i t) ≡ answer_fault (answer_in i s) = elim (fault-cases i.op) [
-      | inl never ↦ never _ _ _ s.ac ∙ sym (never _ _ _ s.ac)
-      | inr all ↦ ap answer_fault (answer-same hides i s regs bytes reading same (shows-none hides _ (ap (is_marked s) (sym (all i s)) ∙ none)))
-    ] in
-    rw (answer, taken-same hides i s regs bytes reading same (asks-shown hides i s none)) refl
+later-same hides i s regs bytes reading same none = grind (arith, answer-same, shows-none, taken-same, asks-shown)
 
 -- ---- what stands there
 

@@ -1,9 +1,9 @@
 -- What comes next in states that agree is alike, and states stay in agreement.
 use Rattle.std.proofs.Common.{◌≡◌, inl, inr, ℕ, ◌+◌, ◌*◌, ◌≤◌, Bool, true, false, cond, eqb, ◌&&◌, ◌||◌, nat_le, List, [], ◌∷◌, ◌++◌, Option, Some, None, Result, Ok, Err, refl, sym, ap, ◌∙◌, subst, arith, zero, suc, ◌<◌, length}
-use Rattle.std.specs.Prelude.{not, map, ◌==◌}
+use Rattle.std.specs.Prelude.{map, ◌==◌}
 use Rattle.std.specs.List.{range_with_len, list_any}
 use Rattle.i9_isa.specs.declared.op.Op.{Op}
-use Rattle.i9_isa.specs.declared.op.Op.TheVariants.{Calls, Ret, Sysctl, Atadd, Atmod}
+use Rattle.i9_isa.specs.declared.op.Op.TheVariants.{Sysctl, Atadd, Atmod}
 use Rattle.i9_isa.specs.declared.size.Size.{Size}
 use Rattle.i9_isa.specs.declared.size.Direction.{Direction}
 use Rattle.i9_isa.specs.declared.size.Direction.TheVariants.{Load, Store}
@@ -11,7 +11,7 @@ use Rattle.i9_isa.specs.declared.size.Transfer.{Transfer}
 use Rattle.i9_isa.specs.Transfers.{transfer_of, byte_count, register_count}
 use Rattle.i9_isa.specs.Words.{words_of}
 use Rattle.i9_isa.specs.declared.inst.Inst.{Inst}
-use Rattle.i9_model.specs.declared.layout.TheConstants.{PRCB_SIZE, CONTROL_TABLE_SIZE, CONTROL_GROUP_SIZE, FRAME_SIZE, FP, SP, PFP, EXIT_WORD, CONSOLE}
+use Rattle.i9_model.specs.declared.layout.TheConstants.{PRCB_SIZE, CONTROL_TABLE_SIZE, CONTROL_GROUP_SIZE, FRAME_SIZE, FP, SP, CONSOLE}
 use Rattle.i9_model.specs.declared.setup.TheConstants.{CONTROL_WORDS}
 use Rattle.i9_model.specs.declared.setup.Setup.{Setup}
 use Rattle.i9_model.specs.declared.interrupts.Chosen.{Chosen}
@@ -21,26 +21,26 @@ use Rattle.i9_model.specs.Before.{Received, choice_in, interrupt_in, received_in
 use Rattle.i9_model.specs.declared.faults.Entry.{Entry}
 use Rattle.i9_model.specs.declared.faults.FaultStop.{FaultStop}
 use Rattle.i9_model.specs.declared.faults.FaultStop.TheVariants as stops
-use Rattle.i9_model.specs.Writes.{address_count, wrapped, written, upwards, last_put, or_earlier}
+use Rattle.i9_model.specs.Writes.{address_count, wrapped, written, upwards, last_put}
 use Rattle.i9_model.specs.Memory.{Memory, in_port_page, words_in, exit_word}
 use Rattle.i9_model.specs.State.{State, Frames, TraceControls, started, Interrupts, start_sets}
-use Rattle.i9_model.specs.Frames.{flushed, places, in_bytes, is_kept, has}
+use Rattle.i9_model.specs.Frames.{flushed, places, in_bytes, has}
 use Rattle.i9_model.specs.Hazards.{read_hazard, save_hazard, write_hazard}
-use Rattle.i9_model.specs.Operands.{value, address}
+use Rattle.i9_model.specs.Operands.{address}
 use Rattle.i9_model.specs.Boot.{table_word, setup_of, configured}
 use Rattle.i9_model.specs.Tables.{tables_hazard, group_address, group_hazard, group_words}
-use Rattle.i9_model.specs.Calls.{caller_in, record_address, in_supervisor_mode, leaves_supervisor, return_type}
+use Rattle.i9_model.specs.Calls.{caller_in, record_address}
 use Rattle.i9_model.specs.Controls.{Control, KeepsControls, Restarts, LoadsGroup, with_group, controlled, marks_after}
-use Rattle.i9_model.specs.Step.{Action, Flushes, Message, AsksNothing, AsksRestart, AsksGroup, passing, moving, entering, argument_of, asked_message, message_action, action_by_name, action_by, action_of, moved, flagged, acted, counted, Move, Stays, Saves, Returns, atomic_address, pushing, frames_after}
+use Rattle.i9_model.specs.Step.{Action, Flushes, Message, passing, moving, entering, asked_message, message_action, action_by_name, action_by, action_of, moved, flagged, acted, counted, Move, atomic_address, pushing, frames_after}
 use Rattle.i9_model.specs.declared.trace.Seen.{Seen}
 use Rattle.i9_model.specs.declared.trace.Trace.{Trace}
 use Rattle.i9_model.specs.Tracing.{trace_of}
 use Rattle.i9_model.specs.Traced.{switches, seen_of, trace_left, traced_action}
-use Rattle.i9_model.specs.Access.{Access, message_access, access_by_name, access_by, hazard_in, hazard_of, moved_access}
+use Rattle.i9_model.specs.Access.{Access, access_by_name, access_by, hazard_in, hazard_of, moved_access}
 use Rattle.i9_model.specs.Standing.{Standing, Meets, Refused, Faults, Runs, stands_at}
 use Rattle.i9_model.specs.declared.run.End.{End}
 use Rattle.i9_model.specs.declared.run.End.TheVariants.{Limit}
-use Rattle.i9_model.specs.Run.{Kind, Instruction, Faulted, Entered, Interrupted, Reached, action_by_kind, counts_of, record_of, exit_in, due_in, due_by, Ends, finish, next_by_standing, next_by_received, next_by_event, next_by_interrupt, next_by_choice, next_by_entry, entry_in, fault_at, next_in}
+use Rattle.i9_model.specs.Run.{Kind, Instruction, Faulted, Entered, Interrupted, Reached, action_by_kind, counts_of, record_of, due_in, due_by, Ends, finish, next_by_standing, next_by_received, next_by_event, next_by_interrupt, next_by_choice, next_by_entry, entry_in, fault_at, next_in}
 use Rattle.i9_model.specs.declared.run.Due.{Due}
 use Rattle.i9_model.specs.Overlay.{overlay}
 use Rattle.i9_model.specs.Alike.{is_hard, AgreeWhere, with_other, with_memory, told, is_beyond, shows, with_values, AgreeBeside, Agree, AreWritesAlike, AreActionsAlike, access_by_kind, DoAgree, NextsAgree}
@@ -60,7 +60,7 @@ use Rattle.i9_model.specs.declared.push.Push.{Push}
 use Rattle.i9_model.specs.Sound.{in_returns, IsSound}
 use Rattle.i9_model.specs.Faults.{is_special, planned_fault_by}
 use Rattle.i9_model.specs.Interrupts.{cleared, planned_interrupt_by}
-use Rattle.i9_model.specs.Stale.{picked, byte_marks, mark_of, marks_of, word_mark, stored_marks, saved_marks, registers_of, is_marked, record_registers, deciding, deciding_by, touches_port, stored_out, changed_out, goes_out, goes_out_by, misuses, area_hazard}
+use Rattle.i9_model.specs.Stale.{picked, byte_marks, mark_of, marks_of, word_mark, stored_marks, saved_marks, registers_of, is_marked, deciding, deciding_by, touches_port, stored_out, changed_out, goes_out, goes_out_by, misuses, area_hazard}
 use Rattle.i9_model.proofs.FrameLaws.{write_hazard-none, save_hazard-none, port_hazard-none, none_wrote}
 use Rattle.i9_model.proofs.Among.{bytes-among, among-bytes, among-address}
 use Rattle.i9_model.proofs.SavedMarks.{picked-among, saved-lost}
@@ -68,10 +68,10 @@ use Rattle.i9_model.proofs.Storing.{stored_words_same}
 use Rattle.i9_agree.proofs.AlikeActions.{other_caller}
 use Rattle.i9_agree.proofs.AlikeFetches.{told_same, planned_fault_by_same}
 use Rattle.i9_agree.proofs.AlikeInterrupts.{choice_same, planned_by_same, entry_writes_same}
-use Rattle.i9_agree.proofs.Agreeing.{shows-none, shows-first, shows-after, writes-same, written-alike}
-use Rattle.i9_agree.proofs.AgreeActions.{AreShown, shown-first, shown-second, shown-word, alike-same, pushing-alike}
+use Rattle.i9_agree.proofs.Agreeing.{shows-none, shows-after, writes-same, written-alike}
+use Rattle.i9_agree.proofs.AgreeActions.{shown-first, shown-second, shown-word, alike-same, pushing-alike}
 use Rattle.i9_agree.proofs.AgreeNames.{AreOther, hard-bytes, taken-same}
-use Rattle.i9_agree.proofs.AgreeCalls.{named, push-known, action-agree}
+use Rattle.i9_agree.proofs.AgreeCalls.{push-known, action-agree}
 use Rattle.i9_agree.proofs.AgreeStands.{access-same, areas-same, asks-shown, allowed-by, stands-same}
 use Rattle.i9_agree.proofs.AgreeMoves.{AreInside, AreOfSave, IsContained, moved-agree}
 use Rattle.i9_model.proofs.Lengths.{marks_long}
@@ -109,16 +109,11 @@ IsReadable s (LoadsGroup group) = group_hazard s.frames s.tables.control_table g
 -- a group of the control table changes nothing of these
 pub group-rest : (a b c : Bool) (s : State) (group : ℕ) (ws : List ℕ)
     → let t = by_group a b c s group ws in (t.regs ≡ s.regs) × (t.marks ≡ s.marks) × (t.reading ≡ s.reading) × (t.memory.bytes ≡ s.memory.bytes) × (t.frames ≡ s.frames) × (t.tables ≡ s.tables)
-group-rest true b c s group ws = (refl, refl, refl, refl, refl, refl)
-group-rest false true c s group ws = (refl, refl, refl, refl, refl, refl)
-group-rest false false true s group ws = (refl, refl, refl, refl, refl, refl)
-group-rest false false false s group ws = (refl, refl, refl, refl, refl, refl)
+group-rest a b c s group ws = grind arith
 
 pub controlled_bytes : (c : Control) (s : State) → (controlled s c).memory.bytes ≡ s.memory.bytes
 unfolding started configured
-controlled_bytes KeepsControls s = refl
-controlled_bytes (Restarts first prcb) s = refl
-controlled_bytes (LoadsGroup group) s = (group-rest (eqb group 0) (eqb group 1) (eqb group 6) s group (group_words s.memory s.tables.control_table group)).3
+controlled_bytes c s = grind arith
 
 -- ---- tables are read after a flush that stores nothing
 
@@ -133,33 +128,14 @@ pub group_readable : (i : Inst) (s : State) (group : ℕ) → group_hazard (flus
 unfolding moved
 group_readable i s group none = ap (λ (f : Frames). group_hazard f s.tables.control_table group) (none_wrote (flushed s.frames)) ∙ none
 
-message_readable : (m : Message) (i : Inst) (s : State) → hazard_in s (message_access m i s) ≡ None → IsReadable (moved s (message_action m i s)) (message_action m i s).control
-message_readable AsksRestart i s none = restart_readable i s (value s i.b) (value s i.c) none
-message_readable AsksGroup i s none = group_readable i s (argument_of i s) none
-message_readable _ i s none = tt
-
-name_readable : (op : Op) (i : Inst) (s : State) → hazard_in s (access_by_name op i s) ≡ None → IsReadable (moved s (action_by_name op i s)) (action_by_name op i s).control
-name_readable Sysctl i s none = message_readable (asked_message i s) i s none
-name_readable _ i s none = tt
-
-moving_readable : (d : Direction) (size : Size) (signed : Bool) (i : Inst) (s : State) → IsReadable (moved s (moving d size signed i s)) (moving d size signed i s).control
-moving_readable Load size signed i s = tt
-moving_readable Store size signed i s = tt
-
 action_readable : (i : Inst) (s : State) → hazard_of i s ≡ None → IsReadable (moved s (action_of i s)) (action_of i s).control
-unfolding hazard_of action_of
-action_readable i s none = by_transfer (transfer_of i.op) none
-  where
-    by_transfer : (o : Option Transfer) → hazard_in s (access_by o i s) ≡ None → IsReadable (moved s (action_by o i s)) (action_by o i s).control
-    by_transfer (Some t) e = moving_readable t.direction t.size t.signed i s
-    by_transfer None e = name_readable i.op i s e
+unfolding action_of hazard_of
+action_readable i s none = grind (arith, restart_readable, group_readable)
 
 -- ---- controls in states that agree
 
 group-parts : (a b c : Bool) (s : State) (regs bytes reading : ℕ → ℕ) (group : ℕ) (ws : List ℕ) → by_group a b c (with_values s regs bytes reading) group ws ≡ with_values (by_group a b c s group ws) regs bytes reading
-group-parts true b c s regs bytes reading group ws = refl
-group-parts false true c s regs bytes reading group ws = refl
-group-parts false false _ s regs bytes reading group ws = grind arith
+group-parts a b c s regs bytes reading group ws = grind arith
 
 -- a state that agrees, by its values
 pub agree-by : (hides : Bool) (s t : State) (regs bytes reading : ℕ → ℕ) → t ≡ with_values s regs bytes reading → AreOther hides s regs bytes reading → Agree hides s t
@@ -204,8 +180,7 @@ controlled-agree hides c s t readable agree =
     subst (λ (u : State). Agree hides (controlled s c) (controlled u c)) (sym agree.rest) (controls-agree hides c s t.regs t.memory.bytes t.reading readable (others hides s t agree))
 
 pub flagged-agree : (hides : Bool) (o : Option Trace) (s t : State) → Agree hides s t → Agree hides (flagged o s) (flagged o t)
-flagged-agree hides None s t agree = agree
-flagged-agree hides (Some x) s t agree = record { rest = ap (flagged (Some x)) agree.rest; regs = agree.regs; bytes = agree.bytes; reading = agree.reading }
+flagged-agree hides o s t agree = grind arith
 
 counted-agree : (hides : Bool) (n : ℕ) (s t : State) → Agree hides s t → Agree hides (counted n s) (counted n t)
 counted-agree hides n s t agree = record { rest = ap (counted n) agree.rest; regs = agree.regs; bytes = agree.bytes; reading = agree.reading }
@@ -225,12 +200,7 @@ within : (a n x : ℕ) → in_bytes a n x ≡ true → in_port_page x ≡ false 
 within a n x t p = or_from (in_port_page x) (nat_le address_count x) p (among-address a n x (bytes-among a n x t))
 
 save-contained : (v : Move) (f : Frames) (lost : List ℕ) → IsSafe f v → IsLostOf v lost → AreOfSave v lost
-save-contained Stays f lost safe is = tt
-save-contained Returns f lost safe is = tt
-save-contained Flushes f lost safe is = tt
-save-contained (Saves a ws) f lost safe is = λ x t.
-    let here = is.inside x t in
-    (within a FRAME_SIZE x here (port_hazard-none a FRAME_SIZE x (save_hazard-none f a safe).1 here), here)
+save-contained v f lost safe is = grind (arith, or_from, among-address, bytes-among, port_hazard-none, save_hazard-none)
 
 -- nothing is picked where nothing is marked
 picked-none : (place : ℕ → ℕ) (n : ℕ) (bs : List Bool) (x : ℕ) → list_any (λ (b : Bool). b) bs ≡ false → has (picked place n bs) x ≡ false
@@ -253,9 +223,7 @@ unmarked m h = grind arith
 -- a store of registers without marks
 stored-none : (size : Size) (s : State) (o : Operand) → is_marked s (registers_of o (register_count size)) ≡ false → list_any (λ (b : Bool). b) (stored_marks size s o) ≡ false
 stored-none Byte s o none = or_from (mark_of s o 0) false (unmarked (mark_of s o 0) (shown-word true s o 1 0 (shows-none true _ none) (omega arith))) refl
-stored-none Half s o none =
-    let m = unmarked (mark_of s o 0) (shown-word true s o 1 0 (shows-none true _ none) (omega arith)) in
-    or_from (mark_of s o 0) (mark_of s o 0 || false) m (or_from (mark_of s o 0) false m refl)
+stored-none Half s o none = grind (arith, unmarked, shown-word, shows-none, or_from)
 stored-none (Words n) s o none = bytes-none (marks_of s o n) (map-none (mark_of s o) 0 n (λ k l. unmarked (mark_of s o k) (shown-word true s o n k (shows-none true _ none) (omega (arith, l)))))
 
 any-none : (test : ℕ → Bool) (ys : List ℕ) (x : ℕ) → list_any test ys ≡ false → list_any (λ (y : ℕ). x == y) ys ≡ true → test x ≡ false
@@ -291,8 +259,7 @@ atomic-inside i s datas data_marked less out none =
     (λ e. let parts = or_parts st (is_marked s datas) e in bytes-none ((st || data_marked) ∷ []) (or_from (st || data_marked) false (or_from st data_marked parts.0 (less parts.1)) refl)) port
 
 message-inside : (m : Message) (i : Inst) (s : State) → AreInside (frames_after s.frames (message_action m i s).move) (message_action m i s).stale
-message-inside AsksNothing i s = λ x t. absurd cc
-message-inside _ i s = λ x t. absurd cc
+message-inside m i s = grind arith
 
 data-none : (s : State) (o : Operand) → is_marked s (registers_of o 1) ≡ false → mark_of s o 0 ≡ false
 data-none s o none = unmarked (mark_of s o 0) (shown-word true s o 1 0 (shows-none true _ none) (omega arith))
@@ -329,54 +296,19 @@ last-alike : (hides : Bool) (marked : List ℕ) (ps qs : List (ℕ × ℕ)) (x :
 unfolding last_put
 last-alike hides marked [] [] x h none = refl
 last-alike hides marked (p ∷ ps) (q ∷ qs) x h none =
-    rw (last-alike hides marked ps qs x h.2 none, h.0) (by_place (x == p.0) refl)
-  where
-    by_place : (b : Bool) → (x == p.0) ≡ b → or_earlier (last_put ps x) (cond b (Some q.1) None) ≡ or_earlier (last_put ps x) (cond b (Some p.1) None)
-    by_place false e = refl
-    by_place true e = rw (h.1 (shows-none hides (has marked p.0) (rw (eqb-true x p.0 e) at none))) refl
+    grind (arith, shows-none, eqb-true, last-alike hides marked ps qs x h.2 none)
 last-alike hides marked _ _ x h none = absurd h
 
--- no marked byte goes out
-port-unmarked : (f : Frames) (stale : List ℕ) (x : ℕ) → AreInside f stale → in_port_page x ≡ true → has stale x ≡ false
-port-unmarked f stale x inside port = elim (cases_Bool (has stale x)) [
-  | inl e ↦ let away = inside x e in absurd (grind arith)
-  | inr e ↦ e
-]
-
 port-alike : (hides : Bool) (s : State) (a b : Action) (x : ℕ) → IsContained s a → AreActionsAlike hides a b → in_port_page x ≡ true → last_put b.writes x ≡ last_put a.writes x
-port-alike hides s a b x inside alike port = last-alike hides a.stale a.writes b.writes x alike.writes (port-unmarked (frames_after s.frames a.move) a.stale x inside.stale port)
-
--- what is due after an action
-exit-same : (hides : Bool) (s : State) (regs bytes reading : ℕ → ℕ) (a b : Action) → IsContained s a → AreActionsAlike hides a b → exit_in (with_values s regs bytes reading) b ≡ exit_in s a
-unfolding exit_word
-exit-same hides s regs bytes reading a b inside alike =
-    let byte : (x : ℕ) → in_port_page x ≡ true → last_put b.writes x ≡ last_put a.writes x = λ x. port-alike hides s a b x inside alike in
-    rw (byte EXIT_WORD refl, byte (EXIT_WORD + 1) refl, byte (EXIT_WORD + 2) refl, byte (EXIT_WORD + 3) refl) refl
+port-alike hides s a b x inside alike port = grind (arith, last-alike, cases_Bool)
 
 pub due-in-same : (s : State) (regs bytes reading : ℕ → ℕ) (t : Option Trace) (f : Option End) → due_in (with_values s regs bytes reading) t f ≡ due_in s t f
-due-in-same s regs bytes reading None None = refl
-due-in-same s regs bytes reading _ _ = refl
+due-in-same s regs bytes reading t f = grind arith
 
 -- ---- an instruction with its trace events
 
-switches-same : (hides : Bool) (op : Op) (i : Inst) (s : State) (regs bytes reading : ℕ → ℕ) (a b : Action) → AgreeBeside hides s regs → AreShown hides s (deciding op (named op i) s) → b.pc ≡ a.pc → switches op (with_values s regs bytes reading) b ≡ switches op s a
-switches-same hides Calls i s regs bytes reading a b same shown pc = ap (λ (p : ℕ). not (in_supervisor_mode s.pc) && in_supervisor_mode p) pc
-switches-same hides Ret i s regs bytes reading a b same shown pc =
-    ap (λ (p : ℕ). in_supervisor_mode s.pc && leaves_supervisor (return_type p)) (same PFP (shows-first hides (s.marks PFP) (is_marked s (record_registers s)) shown))
-switches-same hides _ i s regs bytes reading a b same shown pc = refl
-
--- no load or store switches
-transfer-switches : (op : Op) (s t : State) (a b : Action) (x : Transfer) → transfer_of op ≡ Some x → switches op t b ≡ switches op s a
-transfer-switches Calls s t a b x e = absurd cc
-transfer-switches Ret s t a b x e = absurd cc
-transfer-switches _ s t a b x e = refl
-
 switched-same : (hides : Bool) (i : Inst) (s : State) (regs bytes reading : ℕ → ℕ) (a b : Action) → AgreeBeside hides s regs → is_marked s (deciding_by (transfer_of i.op) i s) ≡ false → b.pc ≡ a.pc → switches i.op (with_values s regs bytes reading) b ≡ switches i.op s a
-switched-same hides i s regs bytes reading a b same none pc = by_transfer (transfer_of i.op) refl none
-  where
-    by_transfer : (o : Option Transfer) → transfer_of i.op ≡ o → is_marked s (deciding_by o i s) ≡ false → switches i.op (with_values s regs bytes reading) b ≡ switches i.op s a
-    by_transfer (Some t) e m = transfer-switches i.op s (with_values s regs bytes reading) a b t e
-    by_transfer None e m = switches-same hides i.op i s regs bytes reading a b same (shows-none hides _ m) pc
+switched-same hides i s regs bytes reading a b same none pc = grind arith
 
 seen-same : (hides : Bool) (i : Inst) (s : State) (regs bytes reading : ℕ → ℕ) (a b : Action) → AgreeBeside hides s regs → is_marked s (deciding_by (transfer_of i.op) i s) ≡ false → b.pc ≡ a.pc → seen_of i (with_values s regs bytes reading) b ≡ seen_of i s a
 seen-same hides i s regs bytes reading a b same none pc =
@@ -386,12 +318,7 @@ seen-same hides i s regs bytes reading a b same none pc =
 
 -- the same events count
 trace-alike : (hides : Bool) (a b : Action) (o p : Option Trace) → p ≡ o → AreActionsAlike hides a b → AreActionsAlike hides (record a { trace = o }) (record b { trace = p })
-trace-alike hides a b o p e alike = record {
-  rest = ap (λ (x : Action). record x { trace = p }) alike.rest ∙ rw e refl;
-  sets = alike.sets;
-  writes = alike.writes;
-  move = alike.move;
-}
+trace-alike hides a b o p e alike = grind arith
 
 -- what an instruction may be done with
 pub record MayDo (i : Inst) (s : State) : Type 0 where
@@ -425,13 +352,8 @@ pub record IsKindAlike (hides : Bool) (k : Kind) (s t : State) : Type 0 where
 
 -- what is due after a kind of record
 kind-due : (hides : Bool) (k : Kind) (s : State) (regs bytes reading : ℕ → ℕ) → IsContained s (action_by_kind k s) → AreActionsAlike hides (action_by_kind k s) (action_by_kind k (with_values s regs bytes reading)) → due_by k (with_values s regs bytes reading) ≡ due_by k s
-kind-due hides (Instruction i) s regs bytes reading inside alike =
-    let t = with_values s regs bytes reading in
-    let a = traced_action i s in
-    let b = traced_action i t in
-    let trace : b.trace ≡ a.trace = ap (λ (x : Action). x.trace) alike.rest in
-    rw (exit-same hides s regs bytes reading a b inside alike, trace) (due-in-same s regs bytes reading a.trace (exit_in s a))
-kind-due hides _ s regs bytes reading inside alike = refl
+unfolding exit_word
+kind-due hides k s regs bytes reading inside alike = grind (arith, last-alike, cases_Bool, due-in-same)
 
 record-agree : (hides : Bool) (k : Kind) (s t : State) → IsKindAlike hides k s t → Agree hides s t → DoAgree hides (record_of k s) (record_of k t)
 record-agree hides k s t alike agree = record {
@@ -591,8 +513,4 @@ next-agree hides limit due stands s t sound agree =
 
 pub overlay-agree : (s t : State) (a : ℕ) → Agree true s t → overlay t a ≡ overlay s a
 unfolding overlay
-overlay-agree s t a agree = ap (λ (u : State). overlay u a) agree.rest ∙ by_cases (in_port_page a) (nat_le address_count a) (s.frames.soft a) (is_kept s.frames a) (agree.bytes a)
-  where
-    by_cases : (port high soft kept : Bool) → ((((port || high) || not soft) || kept) ≡ true → t.memory.bytes a ≡ s.memory.bytes a)
-        → cond port (Some 0) (cond (soft && not kept) None (Some (t.memory.bytes a))) ≡ cond port (Some 0) (cond (soft && not kept) None (Some (s.memory.bytes a)))
-    by_cases port high soft kept e = grind arith
+overlay-agree s t a agree = grind arith

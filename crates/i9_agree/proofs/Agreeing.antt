@@ -1,5 +1,5 @@
 -- Values and writes that are alike but for what marks hide, and what they leave at places that are shown.
-use Rattle.std.proofs.Common.{◌≡◌, ℕ, zero, suc, ◌+◌, ◌<◌, Bool, true, false, cond, List, [], ◌∷◌, ◌++◌, length, map, refl, sym, ap, ◌∙◌, subst, arith, inr}
+use Rattle.std.proofs.Common.{◌≡◌, ℕ, zero, suc, ◌+◌, ◌<◌, Bool, true, false, cond, List, [], ◌∷◌, ◌++◌, length, map, refl, sym, ap, ◌∙◌, arith}
 use Rattle.std.specs.Prelude.{not, ◌==◌, ◌||◌, filter, replicate}
 use Rattle.std.specs.List.{range_with_len}
 use Rattle.std.proofs.lemmas.Bool.{or_left, or_right, eqb-true, eq-eqb, or_from}
@@ -76,11 +76,7 @@ writes-more hides some more _ _ sub h = absurd h
 pub writes-picked : (hides : Bool) (place : ℕ → ℕ) (n : ℕ) (bs : List Bool) (vs ws : List ℕ) → AreValuesAlike hides bs vs ws → AreWritesAlike hides (picked place n bs) (pairs_at place n vs) (pairs_at place n ws)
 writes-picked hides place n [] [] [] h = tt
 writes-picked hides place n (true ∷ bs) (v ∷ vs) (w ∷ ws) h =
-    let here : has (place n ∷ picked place (n + 1) bs) (place n) ≡ true = or_left _ _ (eq-eqb (place n) (place n) refl) in (
-      refl,
-      (λ t. h.0 (ap (shows hides) (sym here) ∙ t)),
-      writes-more hides (picked place (n + 1) bs) (place n ∷ picked place (n + 1) bs) (pairs_at place (n + 1) vs) (pairs_at place (n + 1) ws) (λ x t. or_right (x == place n) (has (picked place (n + 1) bs) x) t) (writes-picked hides place (n + 1) bs vs ws h.1),
-    )
+    grind (arith, or_left, eq-eqb, writes-more, or_right, writes-picked hides place (n + 1) bs vs ws h.1)
 writes-picked hides place n (false ∷ bs) (v ∷ vs) (w ∷ ws) h = (refl, (λ t. h.0 (shows-unmarked hides)), writes-picked hides place (n + 1) bs vs ws h.1)
 writes-picked hides place n _ _ _ h = absurd h
 
@@ -88,8 +84,7 @@ writes-picked hides place n _ _ _ h = absurd h
 pub puts-same : (hides : Bool) (marked : List ℕ) (ps qs : List (ℕ × ℕ)) → AreWritesAlike hides marked ps qs → (x : ℕ) → is_put qs x ≡ is_put ps x
 unfolding is_put
 puts-same hides marked [] [] h x = refl
-puts-same hides marked (p ∷ ps) (q ∷ qs) h x =
-    rw (h.0, puts-same hides marked ps qs h.2 x) refl
+puts-same hides marked (p ∷ ps) (q ∷ qs) h x = grind (arith, puts-same hides marked ps qs h.2 x)
 puts-same hides marked _ _ h x = absurd h
 
 -- ---- what they leave
@@ -112,13 +107,7 @@ kept_writes ps = filter (λ (p : ℕ × ℕ). not (in_port_page p.0)) ps
 
 kept-alike : (hides : Bool) (marked : List ℕ) (ps qs : List (ℕ × ℕ)) → AreWritesAlike hides marked ps qs → AreWritesAlike hides marked (kept_writes ps) (kept_writes qs)
 kept-alike hides marked [] [] h = tt
-kept-alike hides marked (p ∷ ps) (q ∷ qs) h =
-    subst (λ (b : Bool). AreWritesAlike hides marked (cond (not (in_port_page p.0)) (p ∷ kept_writes ps) (kept_writes ps)) (cond (not b) (q ∷ kept_writes qs) (kept_writes qs))) (ap in_port_page (sym h.0))
-    (by_port (in_port_page p.0) (kept-alike hides marked ps qs h.2))
-  where
-    by_port : (b : Bool) → AreWritesAlike hides marked (kept_writes ps) (kept_writes qs) → AreWritesAlike hides marked (cond (not b) (p ∷ kept_writes ps) (kept_writes ps)) (cond (not b) (q ∷ kept_writes qs) (kept_writes qs))
-    by_port true later = later
-    by_port false later = (h.0, h.1, later)
+kept-alike hides marked (p ∷ ps) (q ∷ qs) h = grind (arith, kept-alike hides marked ps qs h.2)
 kept-alike hides marked _ _ h = absurd h
 
 -- beside the port page all writes are kept
@@ -136,8 +125,4 @@ kept-put (p ∷ ps) x port h = by_port (in_port_page p.0) refl (x == p.0) refl (
 -- a byte that is shown is the same, as in the port page
 pub stored-alike : (hides : Bool) (marked : List ℕ) (f g : ℕ → ℕ) (ps qs : List (ℕ × ℕ)) (x : ℕ) → AreWritesAlike hides marked ps qs
     → (in_port_page x ≡ true → g x ≡ f x) → (in_port_page x ≡ false → shows hides (has marked x) ≡ true) → (is_put ps x ≡ false → g x ≡ f x) → stored g qs x ≡ stored f ps x
-stored-alike hides marked f g ps qs x h port shown out = by_port (in_port_page x) refl
-  where
-    by_port : (b : Bool) → in_port_page x ≡ b → stored g qs x ≡ stored f ps x
-    by_port true t = stored_kept g qs x (inr t) ∙ port t ∙ sym (stored_kept f ps x (inr t))
-    by_port false t = written-alike hides marked f g (kept_writes ps) (kept_writes qs) x (kept-alike hides marked ps qs h) (shown t) (λ k. out (kept-put ps x t k))
+stored-alike hides marked f g ps qs x h port shown out = grind (arith, stored_kept, written-alike, kept-alike, kept-put)

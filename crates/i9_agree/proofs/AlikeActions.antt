@@ -1,15 +1,12 @@
 -- In states that are alike the accesses of an instruction meet the same hazard, and without one it does the same.
-use Rattle.std.proofs.Common.{◌≡◌, ℕ, ◌+◌, ◌%◌, Bool, true, false, cond, Option, Some, None, refl, ap, arith}
-use Rattle.std.specs.Prelude.{not, bit_and}
+use Rattle.std.proofs.Common.{◌≡◌, ℕ, Bool, false, Option, None, refl, arith}
 use Rattle.std.proofs.lemmas.Bool.{or_left}
-use Rattle.i9_model.specs.declared.layout.TheConstants.{PC_MASK, AC_MASK}
-use Rattle.i9_model.specs.Writes.{wrapped}
-use Rattle.i9_model.specs.Memory.{Memory, word_in}
+use Rattle.i9_model.specs.Memory.{Memory}
 use Rattle.i9_model.specs.State.{Frames}
 use Rattle.i9_model.specs.Frames.{in_frames}
 use Rattle.i9_model.specs.Requests.{priority_place, pending_place, byte_hazard, request_hazard, request_writes}
 use Rattle.i9_model.specs.Hazards.{or_else, read_hazard}
-use Rattle.i9_model.specs.Calls.{Caller, save_area, system_hazard_by, entry_address, stack_address, is_switch, stack_hazard, system_hazard, entered_here, entered_switched, system_entered, record_address, takes_record, record_hazard, controls_hazard, returned_pc, returned_ac, in_supervisor_mode, leaves_supervisor, without_supervisor}
+use Rattle.i9_model.specs.Calls.{Caller, save_area, system_hazard_by, system_hazard, system_entered, controls_hazard, returned_pc, returned_ac}
 use Rattle.i9_model.specs.Alike.{is_hard, is_compared, AgreeWhere, with_other}
 use Rattle.i9_model.proofs.CallLaws.{first_none, second_none}
 use Rattle.i9_model.proofs.Readings.{word_same, first_same}
@@ -20,14 +17,10 @@ hard_bytes f m bytes same = λ x h. same x (or_left (is_hard f x) (in_frames f.l
 -- ---- system procedures
 
 pub or_else_same : (o p q : Option ℕ) → (o ≡ None → p ≡ q) → or_else o p ≡ or_else o q
-or_else_same None p q h = h refl
-or_else_same (Some a) p q h = refl
+or_else_same o p q h = grind arith
 
 pub system_hazard_by_same : (f : Frames) (m : Memory) (bytes : ℕ → ℕ) (table n pc : ℕ) (area : Bool → Option ℕ) → AgreeWhere (is_hard f) m bytes → system_hazard_by (with_other m bytes) f table n pc area ≡ system_hazard_by m f table n pc area
-system_hazard_by_same f m bytes table n pc area same =
-    let at = entry_address table n in
-    or_else_same (read_hazard f at 4) _ _ (λ none.
-    rw (word_same f m bytes at 4 same none (omega arith)) refl)
+system_hazard_by_same f m bytes table n pc area same = grind (arith, or_else_same, word_same)
 
 pub system_hazard_same : (f : Frames) (m : Memory) (bytes : ℕ → ℕ) (table n pc fp : ℕ) → AgreeWhere (is_hard f) m bytes → system_hazard (with_other m bytes) f table n pc fp ≡ system_hazard m f table n pc fp
 unfolding system_hazard
@@ -41,29 +34,10 @@ AreKnown area fp sp fp2 sp2 = (b : Bool) → area b ≡ None → (fp2 ≡ fp) ×
 abbrev pub other_caller : Caller → (ℕ → ℕ) → ℕ → ℕ → Caller
 other_caller c bytes fp sp = record c { memory = with_other c.memory bytes; fp = fp; sp = sp }
 
-entered_same : (f : Frames) (m : Memory) (bytes : ℕ → ℕ) (table entry pc fp sp fp2 sp2 extra : ℕ) (kind : Bool → ℕ) (switched : Bool) → AgreeWhere (is_hard f) m bytes → stack_hazard f table switched ≡ None → fp2 ≡ fp → (switched ≡ false → sp2 ≡ sp)
-    → cond switched (entered_switched entry (word_in (with_other m bytes) (stack_address table)) pc fp2 extra (kind true)) (entered_here entry pc fp2 sp2 extra (kind false))
-    ≡ cond switched (entered_switched entry (word_in m (stack_address table)) pc fp extra (kind true)) (entered_here entry pc fp sp extra (kind false))
-entered_same f m bytes table entry pc fp sp fp2 sp2 extra kind false same none one two =
-    rw (one, two refl) refl
-entered_same f m bytes table entry pc fp sp fp2 sp2 extra kind true same none one two =
-    rw (word_same f m bytes (stack_address table) 4 same none (omega arith), one) refl
-
 pub system_by_same : (c : Caller) (bytes : ℕ → ℕ) (table n fp sp extra : ℕ) (kind : Bool → ℕ) (area : Bool → Option ℕ) → AgreeWhere (is_hard c.frames) c.memory bytes → AreKnown area c.fp c.sp fp sp → system_hazard_by c.memory c.frames table n c.pc area ≡ None
     → system_entered (other_caller c bytes fp sp) table n extra kind ≡ system_entered c table n extra kind
 unfolding system_entered
-system_by_same c bytes table n fp sp extra kind area same known none =
-    let m = c.memory in
-    let f = c.frames in
-    let at = entry_address table n in
-    let entry = word_in m at in
-    let switched = is_switch entry c.pc in
-    let stack = stack_hazard f table switched in
-    let later = second_none (read_hazard f at 4) (or_else stack (area switched)) none in
-    let read = first_none (read_hazard f at 4) (or_else stack (area switched)) none in
-    let push = known switched (second_none stack (area switched) later) in
-    rw (word_same f m bytes at 4 same read (omega arith))
-    (entered_same f m bytes table entry c.pc c.fp c.sp fp sp extra kind switched same (first_none stack (area switched) later) push.0 push.1)
+system_by_same c bytes table n fp sp extra kind area same known none = grind (arith, second_none, first_none, word_same)
 
 pub system_same : (c : Caller) (bytes : ℕ → ℕ) (table n extra : ℕ) (kind : Bool → ℕ) → AgreeWhere (is_hard c.frames) c.memory bytes → system_hazard c.memory c.frames table n c.pc c.fp ≡ None
     → system_entered (other_caller c bytes c.fp c.sp) table n extra kind ≡ system_entered c table n extra kind
@@ -71,27 +45,10 @@ unfolding system_hazard
 system_same c bytes table n extra kind same none = system_by_same c bytes table n c.fp c.sp extra kind (save_area c.frames c.fp) same (λ b e. (refl, λ d. refl)) none
 
 pub saved_pc_same : (f : Frames) (m : Memory) (bytes : ℕ → ℕ) (kind fp pc : ℕ) → AgreeWhere (is_hard f) m bytes → controls_hazard f kind fp ≡ None → returned_pc (with_other m bytes) kind fp pc ≡ returned_pc m kind fp pc
-saved_pc_same f m bytes kind fp pc same none = by_record (takes_record kind) none
-  where
-    a : ℕ
-    a = record_address fp
-
-    by_record : (takes : Bool) → cond takes (record_hazard f fp) None ≡ None
-        → cond (not (in_supervisor_mode pc)) pc (cond takes (bit_and (word_in (with_other m bytes) a) PC_MASK) (cond (leaves_supervisor kind) (without_supervisor pc (kind % 2)) pc))
-        ≡ cond (not (in_supervisor_mode pc)) pc (cond takes (bit_and (word_in m a) PC_MASK) (cond (leaves_supervisor kind) (without_supervisor pc (kind % 2)) pc))
-    by_record false e = refl
-    by_record true e = rw (word_same f m bytes a 4 same (first_none (read_hazard f a 4) (read_hazard f (wrapped (a + 4)) 4) e) (omega arith)) refl
+saved_pc_same f m bytes kind fp pc same none = grind (arith, word_same, first_none)
 
 pub saved_ac_same : (f : Frames) (m : Memory) (bytes : ℕ → ℕ) (kind fp ac : ℕ) → AgreeWhere (is_hard f) m bytes → controls_hazard f kind fp ≡ None → returned_ac (with_other m bytes) kind fp ac ≡ returned_ac m kind fp ac
-saved_ac_same f m bytes kind fp ac same none = by_record (takes_record kind) none
-  where
-    a : ℕ
-    a = record_address fp
-
-    by_record : (takes : Bool) → cond takes (record_hazard f fp) None ≡ None
-        → cond takes (bit_and (word_in (with_other m bytes) (wrapped (a + 4))) AC_MASK) ac ≡ cond takes (bit_and (word_in m (wrapped (a + 4))) AC_MASK) ac
-    by_record false e = refl
-    by_record true e = ap (λ (w : ℕ). bit_and w AC_MASK) (word_same f m bytes (wrapped (a + 4)) 4 same (second_none (read_hazard f a 4) (read_hazard f (wrapped (a + 4)) 4) e) (omega arith))
+saved_ac_same f m bytes kind fp ac same none = grind (arith, word_same, second_none)
 
 -- ---- requests
 

@@ -14,8 +14,7 @@ abbrev FindSame : (Chosen → Bool) → (Chosen → Bool) → List Chosen → Ty
 FindSame t u xs = find t xs ≡ find u xs
 
 append_same : (t u : Chosen → Bool) (xs ys : List Chosen) → FindSame t u xs → FindSame t u ys → FindSame t u (xs ++ ys)
-append_same t u xs ys one two =
-    cc (find-append t xs ys, find-append u xs ys)
+append_same t u xs ys one two = grind (arith, find-append)
 
 parts_same : (t u : Chosen → Bool) (f : ℕ → List Chosen) (a n : ℕ) → ((j : ℕ) → j < a + n → FindSame t u (f j)) → FindSame t u (flat_map f (range_with_len a n))
 parts_same t u f a zero same = refl
@@ -23,9 +22,7 @@ parts_same t u f a (suc n) same =
     append_same t u (f a) (flat_map f (range_with_len (a + 1) n)) (same a (omega arith)) (parts_same t u f (a + 1) n (λ j less. same j (omega arith)))
 
 below_same : (t u : Chosen → Bool) (f : ℕ → List Chosen) (top n : ℕ) → 0 < top → ((v : ℕ) → v < top → FindSame t u (f v)) → FindSame t u (flat_map f (below top n))
-below_same t u f top n some same =
-    let parts = flat_map-map f (λ (j : ℕ). top - 1 - j) (range_with_len 0 n) in
-    ap (find t) parts ∙ parts_same t u (λ j. f (top - 1 - j)) 0 n (λ j less. same (top - 1 - j) (omega arith)) ∙ sym (ap (find u) parts)
+below_same t u f top n some same = grind (arith, flat_map-map, parts_same)
 
 one_same : (t u : Chosen → Bool) (x : Chosen) (o p : Option Chosen) → t x ≡ u x → o ≡ p → cond (t x) (Some x) o ≡ cond (u x) (Some x) p
 one_same t u x o p same later = cc

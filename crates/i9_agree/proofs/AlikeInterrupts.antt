@@ -1,17 +1,16 @@
 -- In states that are alike the same interrupt is chosen, and its entry is the same.
-use Rattle.std.proofs.Common.{◌≡◌, ℕ, ◌+◌, ◌/◌, ◌%◌, ◌<◌, Bool, true, false, cond, List, Option, Some, None, Result, Ok, refl, ap, ◌∙◌, arith}
-use Rattle.std.specs.Prelude.{not, ◌||◌, ◌==◌, nat_le}
+use Rattle.std.proofs.Common.{◌≡◌, ℕ, ◌+◌, ◌/◌, ◌%◌, ◌<◌, Bool, true, false, cond, List, Option, Some, None, refl, ap, ◌∙◌, arith}
+use Rattle.std.specs.Prelude.{not, ◌||◌, nat_le}
 use Rattle.i9_isa.specs.Words.{bit}
 use Rattle.i9_model.specs.declared.layout.TheConstants.{RECORD_SIZE, INTERRUPT_RETURN}
 use Rattle.i9_model.specs.declared.push.Push.{Push}
 use Rattle.i9_model.specs.declared.faults.Entry.{Entry}
 use Rattle.i9_model.specs.declared.interrupts.Cause.{Cause}
-use Rattle.i9_model.specs.declared.interrupts.Cause.TheVariants.{Soft}
 use Rattle.i9_model.specs.declared.interrupts.Chosen.{Chosen}
 use Rattle.i9_model.specs.declared.interrupts.TheConstants.{PENDING_SIZE, PENDING_VECTORS, INTERRUPTED_PLACE}
 use Rattle.i9_model.specs.Writes.{address_count, upwards}
 use Rattle.i9_model.specs.Memory.{Memory, in_port_page, stored, with_writes}
-use Rattle.i9_model.specs.State.{State, Frames, Interrupts, aligned}
+use Rattle.i9_model.specs.State.{State, Frames, Interrupts}
 use Rattle.i9_model.specs.Frames.{is_put, saved, wrote, record_address, pushed}
 use Rattle.i9_model.specs.Calls.{Caller, save_area}
 use Rattle.i9_model.specs.Hazards.{or_else, unless, read_hazard, record_write_hazard}
@@ -41,8 +40,7 @@ chosen_soft_same i f m bytes table pc same =
 
 pub choice_same : (s : State) (bytes : ℕ → ℕ) → AgreeWhere (is_hard s.frames) s.memory bytes → choice_in (with_memory s bytes) ≡ choice_in s
 unfolding choice_in
-choice_same s bytes same =
-    ap (λ (r : Result (Option Chosen) ℕ). cond s.check r (Ok (chosen s.interrupts s.pc))) (chosen_soft_same s.interrupts s.frames s.memory bytes s.tables.interrupt_table s.pc same)
+choice_same s bytes same = grind (arith, chosen_soft_same)
 
 -- ---- what clears the request
 
@@ -55,14 +53,10 @@ left_same f m bytes table v same none = ap (λ (b : ℕ). without_bit b (v % 8))
 
 taken_hazard_same : (f : Frames) (m : Memory) (bytes : ℕ → ℕ) (table v : ℕ) → AgreeWhere (is_hard f) m bytes → taken_hazard (with_other m bytes) f table v ≡ taken_hazard m f table v
 unfolding taken_hazard
-taken_hazard_same f m bytes table v same =
-    or_else_same (read_hazard f (priority_place table v) 1) _ _ (λ one.
-    or_else_same (read_hazard f (pending_place table v) 1) _ _ (λ two.
-    ap (λ (left : ℕ). or_else (cond (left == 0) (byte_hazard f (priority_place table v)) None) (byte_hazard f (pending_place table v))) (left_same f m bytes table v same two)))
+taken_hazard_same f m bytes table v same = grind (arith, or_else_same, left_same)
 
 clearing_hazard_same : (c : Cause) (f : Frames) (m : Memory) (bytes : ℕ → ℕ) (table v : ℕ) → AgreeWhere (is_hard f) m bytes → clearing_hazard c (with_other m bytes) f table v ≡ clearing_hazard c m f table v
-clearing_hazard_same Soft f m bytes table v same = taken_hazard_same f m bytes table v same
-clearing_hazard_same _ f m bytes table v same = refl
+clearing_hazard_same c f m bytes table v same = grind (arith, taken_hazard_same)
 
 taken_writes_same : (f : Frames) (m : Memory) (bytes : ℕ → ℕ) (table v : ℕ) → AgreeWhere (is_hard f) m bytes → taken_hazard m f table v ≡ None → taken_writes (with_other m bytes) table v ≡ taken_writes m table v
 unfolding taken_hazard taken_writes
@@ -75,8 +69,7 @@ taken_writes_same f m bytes table v same none =
     rw (byte, left) refl
 
 clearing_writes_same : (c : Cause) (f : Frames) (m : Memory) (bytes : ℕ → ℕ) (table v : ℕ) → AgreeWhere (is_hard f) m bytes → clearing_hazard c m f table v ≡ None → clearing_writes c (with_other m bytes) table v ≡ clearing_writes c m table v
-clearing_writes_same Soft f m bytes table v same none = taken_writes_same f m bytes table v same none
-clearing_writes_same _ f m bytes table v same none = refl
+clearing_writes_same c f m bytes table v same none = grind (arith, taken_writes_same)
 
 -- ---- memory behind the push and the record
 
@@ -109,12 +102,7 @@ planned_memory_same : (f : Frames) (m : Memory) (bytes : ℕ → ℕ) (table : �
     → unless (interrupt_hazard (with_other m bytes) f table c push words area) (interrupt_entry (with_other m bytes) table c push words) ≡ unless (interrupt_hazard m f table c push words area) (interrupt_entry m table c push words)
 unfolding interrupt_hazard
 planned_memory_same f m bytes table push c words area same =
-    let n = with_other m bytes in
-    let vector = read_hazard f (vector_place table c.vector) 4 in
-    let later = or_else area (or_else (record_write_hazard f push) (cleared_hazard m f table c push words)) in
-    ap (λ (h : Option ℕ). unless (or_else vector (or_else area (or_else (record_write_hazard f push) h))) (interrupt_entry n table c push words)) (cleared_hazard_same f m bytes table c push words same)
-    ∙ unless_same (or_else vector later) (interrupt_entry m table c push words) (interrupt_entry n table c push words) (λ none.
-    ap (λ (w : ℕ). record (interrupt_entry m table c push words) { target = aligned w }) (word_same f m bytes (vector_place table c.vector) 4 same (first_none vector later none) (omega arith)))
+    grind (arith, cleared_hazard_same, unless_same, word_same, first_none)
 
 pub planned_by_same : (from : Caller) (bytes : ℕ → ℕ) (table stack : ℕ) (c : Chosen) (ac fp sp : ℕ) (area : Bool → Option ℕ) → AgreeWhere (is_hard from.frames) from.memory bytes → AreKnown area from.fp from.sp fp sp
     → planned_interrupt_by (other_caller from bytes fp sp) table stack c ac area ≡ planned_interrupt_by from table stack c ac area

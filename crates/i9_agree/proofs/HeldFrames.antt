@@ -7,15 +7,15 @@ use Rattle.std.proofs.lemmas.Bool.{or_left, or_right, cases_Bool}
 use Rattle.i9_model.specs.declared.layout.TheConstants.{LOCALS, FRAME_SIZE}
 use Rattle.i9_model.specs.declared.frame.Frame.{Frame}
 use Rattle.i9_model.specs.Writes.{address_count}
-use Rattle.i9_model.specs.Memory.{Memory, with_writes, with_words}
+use Rattle.i9_model.specs.Memory.{Memory, with_writes}
 use Rattle.i9_model.specs.State.{State, Frames}
-use Rattle.i9_model.specs.Frames.{in_bytes, in_frames, is_put, saved, returned}
+use Rattle.i9_model.specs.Frames.{in_bytes, in_frames, is_put, returned}
 use Rattle.i9_model.specs.Hazards.{writes_hazard}
 use Rattle.i9_model.specs.Sound.{IsSound}
 use Rattle.i9_model.specs.Step.{Move, Stays, Saves, Returns, Flushes, Action, memory_after, frames_after, moved}
 use Rattle.i9_model.specs.Alike.{is_hard, is_compared, AgreeWhere}
 use Rattle.i9_model.proofs.Among.{bytes-among, among-address}
-use Rattle.i9_model.specs.HeldFrames.{Cache, frame_at, over, overlaid, spilled, with_room, holding, cache_moved, cache_acted, youngest_first, AreWhole, AreYoungest}
+use Rattle.i9_model.specs.HeldFrames.{Cache, frame_at, over, overlaid, spilled, with_room, cache_moved, cache_acted, youngest_first, AreWhole, AreYoungest}
 use Rattle.i9_model.proofs.FrameLaws.{writes_hazard-none}
 use Rattle.i9_model.specs.Free.{IsWhole}
 use Rattle.i9_agree.proofs.Agreeing.{writes-same}
@@ -36,10 +36,7 @@ pub all_live : (hs : List Frame) (live : List ℕ) → AreYoungest hs live → l
 all_live hs live y = sym (take-append-drop (length hs) live) ∙ sym (ap (λ (xs : List ℕ). xs ++ older_than hs live) y.first)
 
 pub youngest_by : (hs : List Frame) (older live : List ℕ) → live ≡ youngest_first hs ++ older → AreWhole hs → AreYoungest hs live
-youngest_by hs older live all whole = record {
-  first = sym (ap (take (length hs)) all ∙ sym (ap (λ (n : ℕ). take n (youngest_first hs ++ older)) (youngest_long hs)) ∙ take-append_seam (youngest_first hs) older);
-  whole = whole;
-}
+youngest_by hs older live all whole = grind (arith, youngest_long, take-append_seam)
 
 youngest_push : (hs : List Frame) (f : Frame) → youngest_first (hs ++ f ∷ []) ≡ f.address ∷ youngest_first hs
 youngest_push [] f = refl
@@ -54,8 +51,7 @@ spill_keeps [] m live y = y
 spill_keeps (h ∷ hs) m live y = youngest_by hs (h.address ∷ older_than (h ∷ hs) live) live (all_live (h ∷ hs) live y ∙ append_assoc (youngest_first hs) (h.address ∷ []) (older_than (h ∷ hs) live)) y.whole.1
 
 room_keeps : (b : Bool) (c : Cache) (live : List ℕ) → AreYoungest c.held live → AreYoungest (cond b c (spilled c.held c.behind)).held live
-room_keeps true c live y = y
-room_keeps false c live y = spill_keeps c.held c.behind live y
+room_keeps b c live y = grind (arith, spill_keeps)
 
 push_keeps : (hs : List Frame) (f : Frame) (live : List ℕ) → length f.words ≡ LOCALS → AreYoungest hs live → AreYoungest (hs ++ f ∷ []) (f.address ∷ live)
 push_keeps hs f live long y =
@@ -129,10 +125,7 @@ below_all a n x t = among-address a n x (bytes-among a n x t)
 
 -- no byte of it is compared any more
 left_uncompared : (f : Frames) (y x : ℕ) (rest : List ℕ) → f.live ≡ y ∷ rest → IsSound f → in_bytes y FRAME_SIZE x ≡ true → is_compared (returned f) x ≡ false
-left_uncompared f y x rest is sound t =
-    let live : in_frames f.live x ≡ true = rw is (or_left (in_bytes y FRAME_SIZE x) (in_frames rest x) t) in
-    let apart : in_frames rest x ≡ false = (rw is at sound.apart).0 x t in
-    rw (is, sound.outside x live, below_all y FRAME_SIZE x t, sound.soft x live, apart) refl
+left_uncompared f y x rest is sound t = grind (arith, or_left, below_all)
 
 pub taken_alike : (hs : List Frame) (m : Memory) (f : Frames) → IsSound f → AreYoungest hs f.live → AgreeWhere (is_compared (returned f)) (over hs m) (over (take (length hs - 1) hs) m).bytes
 taken_alike [] m f sound y = λ x h. refl
@@ -149,15 +142,9 @@ taken_alike (h ∷ hs) m f sound y = λ x compared.
 
 -- ---- an action
 
-same_bytes : (test : ℕ → Bool) (m k : Memory) → k ≡ m → AgreeWhere test m k.bytes
-same_bytes test m k e = λ x h. ap (λ (n : Memory). n.bytes x) e
-
 pub move_stands : (n : ℕ) (v : Move) (c : Cache) (f : Frames) → IsSound f → AreYoungest c.held f.live → AgreeWhere (is_compared (frames_after f v)) (memory_after (overlaid c) v) (overlaid (cache_moved n v c)).bytes
 unfolding over
-move_stands n Stays c f sound y = λ x h. refl
-move_stands n (Saves save words) c f sound y = same_bytes (is_compared (saved f save)) (with_words (overlaid c) save words) (overlaid (holding n (frame_at save words) c)) (overlaid_holding n (frame_at save words) c)
-move_stands n Returns c f sound y = taken_alike c.held c.behind f sound y
-move_stands n Flushes c f sound y = λ x h. refl
+move_stands n v c f sound y = grind (arith, overlaid_holding, taken_alike)
 
 -- what is held and what is behind after an action, laid over one another, is memory after it, as far as that is
 -- compared

@@ -1,19 +1,16 @@
 -- Along a run the frames that are held and the memory behind them stand for memory, in any number of sets.
-use Rattle.std.proofs.Common.{◌≡◌, ℕ, Bool, true, false, cond, eqb, ltb, List, [], ◌∷◌, length, Option, refl, ap, sym, ◌∙◌, subst, inl, inr}
-use Rattle.std.specs.Prelude.{◌⊎◌, unwrap_or}
-use Rattle.i9_model.specs.declared.frame.Frame.{Frame}
+use Rattle.std.proofs.Common.{◌≡◌, ℕ, true, false, List, [], ◌∷◌, length, Option, refl, ap, sym, ◌∙◌, subst, arith}
+use Rattle.std.specs.Prelude.{◌⊎◌}
 use Rattle.i9_model.specs.declared.event.Event.{Event}
-use Rattle.i9_model.specs.declared.setup.Tables.{Tables}
 use Rattle.i9_model.specs.Memory.{Memory}
-use Rattle.i9_model.specs.Tables.{group_words}
 use Rattle.i9_model.specs.State.{State, Frames, started, boot}
-use Rattle.i9_model.specs.Controls.{Control, KeepsControls, Restarts, LoadsGroup, controlled}
-use Rattle.i9_model.specs.Step.{Move, Stays, Saves, Returns, Flushes, Action, frames_after, memory_after, moved, acted}
+use Rattle.i9_model.specs.Controls.{controlled}
+use Rattle.i9_model.specs.Step.{Move, Action, frames_after, memory_after, moved, acted}
 use Rattle.i9_model.specs.Sound.{IsSound}
 use Rattle.i9_model.specs.Run.{Given, action_by_kind, action_done, Record, record_of, Does, state_after, due_after, next_in, next_with, IsPastOfSome}
 use Rattle.i9_model.specs.declared.run.Due.{Due}
 use Rattle.i9_model.specs.Alike.{is_compared, with_other, with_memory, AreAlike}
-use Rattle.i9_model.specs.HeldFrames.{Cache, cache, spilled, over, overlaid, cache_moved, cache_acted, cache_configured, sets_in, renewed, cache_after, AreYoungest, IsCached}
+use Rattle.i9_model.specs.HeldFrames.{Cache, cache, over, overlaid, cache_moved, cache_acted, cache_configured, sets_in, renewed, cache_after, AreYoungest, IsCached}
 use Rattle.i9_model.specs.Free.{ComesAfterFlush, IsFree}
 use Rattle.i9_model.proofs.Stored.{with_none}
 use Rattle.i9_model.proofs.ControlLaws.{flagged-others, acted-frames}
@@ -38,36 +35,18 @@ next_free limit due stands s r e = let comes = next_comes limit due stands s r e
 
 -- no move changes a configuration word
 pub cache_regions : (n : ℕ) (v : Move) (c : Cache) → (cache_moved n v c).behind.mcon ≡ c.behind.mcon
-cache_regions n Stays c = refl
-cache_regions n Returns c = refl
-cache_regions n Flushes c = over_mcon c.held c.behind
-cache_regions n (Saves save words) c = by_room (ltb (length c.held) n)
-  where
-    by_spill : (hs : List Frame) (m : Memory) → (spilled hs m).behind.mcon ≡ m.mcon
-    by_spill [] m = refl
-    by_spill (h ∷ hs) m = words_mcon m h.address h.words
-
-    by_room : (b : Bool) → (cond b c (spilled c.held c.behind)).behind.mcon ≡ c.behind.mcon
-    by_room true = refl
-    by_room false = by_spill c.held c.behind
+cache_regions n v c = grind (arith, over_mcon, words_mcon)
 
 -- configuration words change only where nothing is held
 pub regions_after : (n : ℕ) (s : State) (a : Action) (c : Cache) → ComesAfterFlush a.control a.move a.writes → c.behind.mcon ≡ s.memory.mcon
     → ((cache_moved n a.move c).held ≡ []) ⊎ ((acted s a).memory.mcon ≡ (cache_moved n a.move c).behind.mcon)
 unfolding acted moved
-regions_after n s a c after regions =
-    rw (flagged-others a.trace (controlled (moved s a) a.control)) (by_control a.control after)
-  where
-    by_control : (k : Control) → ComesAfterFlush k a.move a.writes → ((cache_moved n a.move c).held ≡ []) ⊎ ((controlled (moved s a) k).memory.mcon ≡ (cache_moved n a.move c).behind.mcon)
-    by_control KeepsControls e = inr (move_mcon a.move s.memory ∙ sym regions ∙ sym (cache_regions n a.move c))
-    by_control (Restarts first prcb) e = inl (rw e.0 refl)
-    by_control (LoadsGroup group) e = inl (rw e.0 refl)
+regions_after n s a c after regions = grind (arith, flagged-others, move_mcon, cache_regions)
 
 -- so the words of held frames stay in the orders in which they were saved
 pub configured_same : (m : Memory) (d : Cache) → (d.held ≡ []) ⊎ (m.mcon ≡ d.behind.mcon) → (overlaid (cache_configured m d)).bytes ≡ (overlaid d).bytes
 unfolding over
-configured_same m d (inl none) = rw none refl
-configured_same m d (inr same) = rw same refl
+configured_same m d h = grind arith
 
 -- regions are configured by configuration words alone
 pub configured_by : (m k : Memory) (c : Cache) → m.mcon ≡ k.mcon → cache_configured m c ≡ cache_configured k c
@@ -105,29 +84,14 @@ cached-acted n s a c sound free cached =
 -- the state after an action, with what is held then laid over what is behind
 pub moved_cached : (n : ℕ) (s : State) (a : Action) (c d : Cache) → s.memory ≡ overlaid c → IsSound s.frames → AreYoungest c.held s.frames.live → IsFree s a → d ≡ cache_acted n a c → AreAlike (moved s a) (record (moved s a) { memory = overlaid d })
 unfolding moved
-moved_cached n s a c d is sound young free e =
-    let k = cache_acted n a c in
-    let m = (moved s a).memory in
-    let regions : (overlaid k).mcon ≡ m.mcon =
-    cc (over_mcon k.held k.behind, cache_regions n a.move c, over_mcon c.held c.behind, move_mcon a.move s.memory) in
-    rw e (record {
-      rest = ap (λ (x : ℕ → ℕ). record (moved s a) { memory = record { bytes = (overlaid k).bytes; mcon = x } }) regions;
-      bytes = acted_stands n s a c is sound young free.whole free.free;
-    })
+moved_cached n s a c d is sound young free e = grind (arith, over_mcon, cache_regions, move_mcon, acted_stands)
 
 -- ---- the number of sets
 
 -- the number changes where the processor starts anew, and there alone
 pub sets_after : (asked : Option ℕ) (s : State) (a : Action) → ComesAfterFlush a.control a.move a.writes → sets_in asked (acted s a) ≡ renewed asked s.memory a.control (sets_in asked s)
 unfolding acted moved started
-sets_after asked s a after = ap (sets_in asked) (flagged-others a.trace (controlled (moved s a) a.control)) ∙ by_control a.control after
-  where
-    by_control : (k : Control) → ComesAfterFlush k a.move a.writes → sets_in asked (controlled (moved s a) k) ≡ renewed asked s.memory k (sets_in asked s)
-    by_control KeepsControls e = refl
-    by_control (LoadsGroup group) e =
-        ap (λ (t : Tables). unwrap_or asked t.sets) (group-rest (eqb group 0) (eqb group 1) (eqb group 6) (moved s a) group (group_words (moved s a).memory (moved s a).tables.control_table group)).5
-    by_control (Restarts first prcb) e =
-        rw (e.0, e.1, with_none s.memory) refl
+sets_after asked s a after = grind (arith, flagged-others, group-rest, with_none)
 
 -- ---- a run
 

@@ -3,7 +3,6 @@ use Rattle.std.proofs.Common.{◌≡◌, ℕ, ◌+◌, ◌*◌, ◌<◌, ◌^◌
 use Rattle.std.proofs.lemmas.List.{append-nil}
 use Rattle.std.specs.List.{AllByRecursion}
 use Rattle.std.proofs.lemmas.Bool.{or_left, or_right}
-use Rattle.std.proofs.lemmas.Nat.{from_le_bytes-to_le_bytes_4, from_be_bytes-to_be_bytes_4}
 use Rattle.std.specs.Int.{w32, from_le_bytes, from_be_bytes, to_le_bytes, to_be_bytes}
 use Rattle.i9_model.specs.declared.layout.TheConstants.{LOCALS, FRAME_SIZE}
 use Rattle.i9_model.specs.declared.frame.Frame.{Frame}
@@ -29,8 +28,7 @@ four_list (a ∷ b ∷ c ∷ d ∷ []) h = refl
 four_list _ h = absurd (omega arith)
 
 pub by_order : (big : Bool) (w : ℕ) → w < 2 ^ 32 → cond big (from_be_bytes w32 (cond big (to_be_bytes w32 w) (to_le_bytes w32 w))) (from_le_bytes w32 (cond big (to_be_bytes w32 w) (to_le_bytes w32 w))) ≡ w
-by_order true w h = from_be_bytes-to_be_bytes_4 w h
-by_order false w h = from_le_bytes-to_le_bytes_4 w h
+by_order big w h = grind arith
 
 -- the word whose bytes stand at an address
 word_back : (m : Memory) (g : ℕ → ℕ) (x w : ℕ) → x < address_count → w < 2 ^ 32 → ((j : ℕ) → j < 4 → g (wrapped (x + j)) ≡ get_or (word_bytes m x w) j 0) → word_in (with_other m g) x ≡ w
@@ -56,11 +54,7 @@ AllHaveBytes m g fs = AllByRecursion (HasBytes m g) fs
 -- an older frame is beside those that are younger
 apart_from : (gs older : List ℕ) (a x : ℕ) → AreApart (gs ++ a ∷ older) → in_bytes a FRAME_SIZE x ≡ true → in_frames gs x ≡ false
 apart_from [] older a x apart t = refl
-apart_from (g ∷ gs) older a x apart t =
-    let live = later_live gs (a ∷ older) x (or_left (in_bytes a FRAME_SIZE x) (in_frames older x) t) in
-    let others = apart_from gs older a x apart.1 t in
-    let first = apart.0 x in
-    grind arith
+apart_from (g ∷ gs) older a x apart t = grind (arith, later_live, or_left, apart_from gs older a x apart.1 t)
 
 -- bytes that are stored go by configuration words alone
 orders_alone : (m k : Memory) (x w : ℕ) → k.mcon ≡ m.mcon → word_bytes k x w ≡ word_bytes m x w
@@ -69,8 +63,7 @@ orders_alone m k x w same = ap (λ (c : ℕ → ℕ). word_bytes (record m { mco
 
 other_orders : (m k : Memory) (g : ℕ → ℕ) (fs : List Frame) → k.mcon ≡ m.mcon → AllHaveBytes k g fs → AllHaveBytes m g fs
 other_orders m k g [] same has = tt
-other_orders m k g (f ∷ fs) same has =
-    ((λ low i j h l port. has.0 low i j h l port ∙ ap (λ (bs : List ℕ). get_or bs j 0) (orders_alone m k (wrapped (f.address + 4 * i)) (get_or f.words i 0) same)), other_orders m k g fs same has.1)
+other_orders m k g (f ∷ fs) same has = grind (arith, orders_alone, other_orders m k g fs same has.1)
 
 -- each frame's bytes stand in what the frames make of a memory
 laid_bytes : (hs : List Frame) (older : List ℕ) (m : Memory) → AreApart (youngest_first hs ++ older) → AreWhole hs → AllHaveBytes m (over hs m).bytes hs

@@ -1,5 +1,5 @@
 -- Held frames laid over memory, through spills, pushes, returns, flushes and stores.
-use Rattle.std.proofs.Common.{◌≡◌, ℕ, Bool, true, false, cond, ltb, List, [], ◌∷◌, ◌++◌, length, refl, sym, ap, ◌∙◌, inl, inr}
+use Rattle.std.proofs.Common.{◌≡◌, ℕ, true, false, List, [], ◌∷◌, ◌++◌, length, refl, sym, ap, ◌∙◌, inl, inr, arith}
 use Rattle.std.specs.Prelude.{◌⊎◌}
 use Rattle.std.specs.List.{AllByRecursion}
 use Rattle.std.proofs.lemmas.Bool.{cases_Bool, both_ways}
@@ -10,7 +10,7 @@ use Rattle.i9_model.specs.Memory.{Memory, in_port_page, stored, with_bytes, with
 use Rattle.i9_model.specs.Frames.{in_bytes, is_put}
 use Rattle.i9_model.specs.Step.{bytes_of_words}
 use Rattle.i9_model.specs.Alike.{with_other}
-use Rattle.i9_model.specs.HeldFrames.{Cache, over, overlaid, spilled, with_room, holding, AreWhole}
+use Rattle.i9_model.specs.HeldFrames.{Cache, over, overlaid, spilled, holding, AreWhole}
 use Rattle.i9_model.proofs.Runs.{is_put-upwards}
 use Rattle.i9_model.proofs.Lengths.{frame_long}
 use Rattle.i9_model.proofs.Storing.{stored_words_same, stored_agree, stored_kept, words_as_bytes}
@@ -24,17 +24,11 @@ over_push (h ∷ hs) f m = over_push hs f (with_words m h.address h.words)
 
 pub overlaid_spilled : (hs : List Frame) (m : Memory) → overlaid (spilled hs m) ≡ over hs m
 unfolding over
-overlaid_spilled [] m = refl
-overlaid_spilled (h ∷ hs) m = refl
-
-room_by : (b : Bool) (c : Cache) → overlaid (cond b c (spilled c.held c.behind)) ≡ overlaid c
-room_by true c = refl
-room_by false c = overlaid_spilled c.held c.behind
+overlaid_spilled hs m = grind arith
 
 -- a frame that is held lies over all that was there
 pub overlaid_holding : (n : ℕ) (f : Frame) (c : Cache) → overlaid (holding n f c) ≡ with_words (overlaid c) f.address f.words
-overlaid_holding n f c =
-    over_push (with_room n c).held f (with_room n c).behind ∙ rw (room_by (ltb (length c.held) n) c) refl
+overlaid_holding n f c = grind (arith, over_push, overlaid_spilled)
 
 -- ---- memory beside a frame
 

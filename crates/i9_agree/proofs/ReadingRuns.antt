@@ -1,10 +1,9 @@
 -- What is printed of a run does not depend on how soft bytes are read.
-use Rattle.std.proofs.Common.{◌≡◌, ℕ, true, List, [], ◌∷◌, length, refl, sym, ap, ◌∙◌}
+use Rattle.std.proofs.Common.{◌≡◌, ℕ, true, List, [], ◌∷◌, refl, ◌∙◌, arith}
 use Rattle.std.proofs.lemmas.Grind.{flat_map-append}
-use Rattle.i9_model.specs.ScheduleText.{standing}
-use Rattle.i9_model.specs.State.{State, boot}
-use Rattle.i9_model.specs.Run.{Given, Finish, Kind, Record, Next, Does, Ends, due_by, state_after, due_after, reached_after, event_after, next, IsPast, IsPastOf, IsRun}
-use Rattle.i9_model.specs.PrintedText.{record_lines, end_lines, lines_of, shown_text, text_of, run_text}
+use Rattle.i9_model.specs.State.{State}
+use Rattle.i9_model.specs.Run.{Given, Finish, Record, Next, Does, Ends, state_after, due_after, reached_after, next, IsPast, IsPastOf, IsRun}
+use Rattle.i9_model.specs.PrintedText.{lines_of, text_of, run_text}
 use Rattle.i9_model.specs.Alike.{Agree, DoAgree, NextsAgree}
 use Rattle.i9_model.specs.ReadingRuns.{boot_reading, state_from, next_from, IsRunReading, reading_text}
 use Rattle.i9_agree.proofs.SoundRuns.{sound-after}
@@ -21,46 +20,26 @@ record AreBeside (g : Given) (b : State) (rs qs : List Record) : Type 0 where
   pub reached : reached_after qs ≡ reached_after rs
   pub text : text_of (lines_of qs) ≡ text_of (lines_of rs)
 
-boot-agree : (reading : ℕ → ℕ) (image : List (ℕ × ℕ)) → Agree true (boot image) (boot_reading reading image)
-boot-agree reading image = record { rest = refl; regs = λ r h. refl; bytes = λ x h. refl; reading = λ e. absurd cc }
-
 none-beside : (reading : ℕ → ℕ) (g : Given) → AreBeside g (boot_reading reading g.image) [] []
-none-beside reading g = record { state = boot-agree reading g.image; due = refl; reached = refl; text = refl }
+none-beside reading g = grind arith
 
 next-beside : (g : Given) (b : State) (rs qs : List Record) → IsPast g rs → AreBeside g b rs qs → NextsAgree true (next g rs) (next_from b g qs)
-next-beside g b rs qs past beside =
-    let t = state_from b qs in
-    let stands : standing g.plan (length (reached_after qs)) t.count ≡ event_after g rs =
-    rw (beside.reached, ap (λ (u : State). u.count) beside.state.rest) refl in
-    rw (beside.due, stands) (next-agree true g.length (due_after rs) (event_after g rs) (state_after g rs) t (sound-after g rs (past_of_some g rs past)) beside.state)
+next-beside g b rs qs past beside = grind (arith, next-agree, sound-after, past_of_some)
 
 one-beside : (g : Given) (b : State) (rs qs : List Record) (r q : Record) → AreBeside g b rs qs → DoAgree true r q → AreBeside g b (r ∷ rs) (q ∷ qs)
-one-beside g b rs qs r q beside same = record {
-  state = same.after;
-  due = ap (λ (k : Kind). due_by k q.before) same.kind ∙ same.due;
-  reached =
-      rw (same.kind, reached-same r.kind r.before q.before same.before, beside.reached) refl;
-  text =
-      flat_map-append shown_text (lines_of qs) (record_lines q)
-      ∙ cc (record-text-same r q same, beside.text)
-      ∙ sym (flat_map-append shown_text (lines_of rs) (record_lines r));
-}
+one-beside g b rs qs r q beside same = grind (arith, reached-same, flat_map-append, record-text-same)
 
 does-beside : (o p : Next) (r : Record) → NextsAgree true o p → o ≡ Does r → (q : Record) × (p ≡ Does q) × DoAgree true r q
-does-beside o (Does q) r agree e = (q, refl, rw e at agree)
-does-beside o (Ends h) r agree e = absurd (rw e at agree)
+does-beside o p r agree e = grind arith
 
 does-behind : (o p : Next) (q : Record) → NextsAgree true o p → p ≡ Does q → (r : Record) × (o ≡ Does r) × DoAgree true r q
-does-behind (Does r) p q agree e = (r, refl, rw e at agree)
-does-behind (Ends f) p q agree e = absurd (rw e at agree)
+does-behind o p q agree e = grind arith
 
 ends-beside : (o p : Next) (f : Finish) → NextsAgree true o p → o ≡ Ends f → p ≡ Ends f
-ends-beside o (Ends h) f agree e = let same : h ≡ f = rw e at agree in cc
-ends-beside o (Does q) f agree e = absurd (rw e at agree)
+ends-beside o p f agree e = grind arith
 
 ends-behind : (o p : Next) (f : Finish) → NextsAgree true o p → p ≡ Ends f → o ≡ Ends f
-ends-behind (Ends h) p f agree e = let same : f ≡ h = rw e at agree in cc
-ends-behind (Does r) p f agree e = absurd (rw e at agree)
+ends-behind o p f agree e = grind arith
 
 -- ---- runs
 
@@ -81,12 +60,7 @@ past-behind reading g (q ∷ qs) past =
     (found.0 ∷ before.0, (before.1, found.1), one-beside g b before.0 qs found.0 q before.2 found.2)
 
 whole-text : (reading : ℕ → ℕ) (g : Given) (rs qs : List Record) (f : Finish) → AreBeside g (boot_reading reading g.image) rs qs → reading_text reading g qs f ≡ run_text g rs f
-whole-text reading g rs qs f beside =
-    let s = state_after g rs in
-    let t = state_from (boot_reading reading g.image) qs in
-    flat_map-append shown_text (lines_of qs) (end_lines t f)
-    ∙ cc (beside.text, end-text-same f s t beside.state)
-    ∙ sym (flat_map-append shown_text (lines_of rs) (end_lines s f))
+whole-text reading g rs qs f beside = grind (arith, flat_map-append, end-text-same)
 
 -- a run has one of each reading, of the same text
 pub run-beside : (reading : ℕ → ℕ) (g : Given) (rs : List Record) (f : Finish) → IsRun g rs f

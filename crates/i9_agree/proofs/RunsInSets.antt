@@ -1,17 +1,17 @@
 -- A machine that keeps its frames in sets has a run beside each run, which prints the same.
-use Rattle.std.proofs.Common.{◌≡◌, ℕ, Option, List, [], ◌∷◌, ◌++◌, length, refl, sym, ap, ◌∙◌, subst}
+use Rattle.std.proofs.Common.{◌≡◌, ℕ, Option, List, [], ◌∷◌, ◌++◌, refl, sym, ap, ◌∙◌, subst, arith}
 use Rattle.i9_model.specs.Memory.{Memory}
 use Rattle.i9_model.specs.State.{State}
-use Rattle.i9_model.specs.Run.{Given, Record, action_done, state_after, due_after, reached_after, event_after, next, IsPast, IsRun, Finish}
-use Rattle.i9_model.specs.PrintedText.{lines_of, end_lines, text_of, run_text}
+use Rattle.i9_model.specs.Run.{Given, Record, state_after, due_after, reached_after, next, IsPast, IsRun, Finish}
+use Rattle.i9_model.specs.PrintedText.{lines_of, run_text}
 use Rattle.i9_model.specs.Alike.{AreAlike, AreRecordsAlike, AreNextAlike}
-use Rattle.i9_model.specs.HeldFrames.{Cache, overlaid, cache_acted, cache_configured, cache_after, sets_in}
+use Rattle.i9_model.specs.HeldFrames.{Cache, overlaid, cache_after}
 use Rattle.i9_model.specs.RunInSets.{in_sets, IsPastInSets, IsRunInSets}
 use Rattle.i9_past.proofs.Ends.{run_goes_on}
-use Rattle.i9_past.proofs.Cuts.{past_by, state_by, next_by_state}
+use Rattle.i9_past.proofs.Cuts.{state_by}
 use Rattle.i9_past.proofs.Unique.{same_records, same_end}
 use Rattle.i9_agree.proofs.Overlays.{over_mcon}
-use Rattle.i9_agree.proofs.AlikeSteps.{alike_same, done_alike, due_alike, reached_alike, next_alike, does_alike, does_beside, ends_alike, ends_beside, lines_alike, end_alike}
+use Rattle.i9_agree.proofs.AlikeSteps.{alike_same, due_alike, reached_alike, next_alike, does_alike, does_beside, ends_alike, ends_beside, lines_alike}
 use Rattle.i9_agree.proofs.HeldRuns.{configured_by, overlaid_memory, cached-after}
 use Rattle.i9_past.proofs.Heedful.{past_of_some}
 use Rattle.i9_agree.proofs.SoundRuns.{sound-after}
@@ -29,25 +29,15 @@ none_beside : (g : Given) → AreBeside g [] []
 none_beside g = record { state = alike_same (state_after g []); due = refl; reached = refl; cache = refl; lines = refl }
 
 next_beside : (g : Given) (rs qs : List Record) → IsPast g rs → AreBeside g rs qs → AreNextAlike (next g rs) (next g qs)
-next_beside g rs qs past beside =
-    let t = state_after g qs in
-    let stands : event_after g qs ≡ event_after g rs =
-    rw (beside.reached, ap (λ (u : State). u.count) beside.state.rest) refl in
-    rw (beside.due, stands) (next_alike g.length (due_after rs) (event_after g rs) (state_after g rs) t (sound-after g rs (past_of_some g rs past)) (blind-after g rs (past_of_some g rs past)) beside.state)
+next_beside g rs qs past beside = grind (arith, next_alike, sound-after, past_of_some, blind-after)
 
 -- what is held after records that are alike
 same_cache : (g : Given) (rs qs : List Record) (r p : Record) → AreBeside g rs qs → AreRecordsAlike r p → cache_after g (p ∷ qs) ≡ cache_after g (r ∷ rs)
-same_cache g rs qs r p beside same =
-    let m = p.after.memory in
-    ap (λ (u : State). cache_configured m (cache_acted (sets_in g.sets u) (action_done p) (cache_after g qs))) same.before.rest
-    ∙ rw (done_alike r p same, beside.cache) refl
-    ∙ configured_by m r.after.memory (cache_acted (sets_in g.sets r.before) (action_done r) (cache_after g rs)) (ap (λ (u : State). u.memory.mcon) same.after.rest)
+same_cache g rs qs r p beside same = grind arith
 
 -- what is held does not depend on the bytes of the last state
 cache_in_sets : (g : Given) (qs : List Record) (p : Record) → cache_after g (in_sets g qs p ∷ qs) ≡ cache_after g (p ∷ qs)
-cache_in_sets g qs p =
-    let c = cache_after g (p ∷ qs) in
-    configured_by (overlaid c) p.after.memory (cache_acted (sets_in g.sets p.before) (action_done p) (cache_after g qs)) (over_mcon c.held c.behind)
+cache_in_sets g qs p = grind (arith, configured_by, over_mcon)
 
 -- memory that is held over what is behind is memory as far as it is compared
 laid_alike : (g : Given) (rs : List Record) (r p : Record) → IsPast g (r ∷ rs) → AreAlike r.after p.after → AreAlike r.after (record p.after { memory = overlaid (cache_after g (r ∷ rs)) })
@@ -97,8 +87,7 @@ past_in_sets g (r ∷ rs) past =
     (q ∷ qs, (before.1, found.0, found.1, refl), one_beside g rs qs r found.0 past before.2 found.2)
 
 text_beside : (g : Given) (rs qs : List Record) (e : Finish) → AreBeside g rs qs → run_text g qs e ≡ run_text g rs e
-text_beside g rs qs e beside =
-    cc (beside.lines, end_alike (state_after g rs) (state_after g qs) e beside.state)
+text_beside g rs qs e beside = grind arith
 
 -- a run has one in sets, with the same text
 pub run_in_sets : (g : Given) (rs : List Record) (e : Finish) → IsRun g rs e → (qs : List Record) × IsRunInSets g qs e × (run_text g qs e ≡ run_text g rs e)
@@ -125,19 +114,12 @@ with_sets g others = record g { sets = others }
 
 -- the run of the one-at-a-time machine is the same
 run_same : (g : Given) (others : Option ℕ) (rs : List Record) (e : Finish) → IsRun g rs e → IsRun (with_sets g others) rs e
-run_same g others rs e run = record {
-  past = past_by g (with_sets g others) (λ qs r before is. next_same qs ∙ is) rs run.past;
-  ends = next_same rs ∙ run.ends;
-}
-  where
-    next_same : (qs : List Record) → next (with_sets g others) qs ≡ next g qs
-    next_same qs = next_by_state (with_sets g others) qs (state_after g qs) (state_by g (with_sets g others) qs refl)
+run_same g others rs e run = grind arith
 
 -- so two runs in sets, in any numbers of them, have one text
 pub any_sets : (g : Given) (others : Option ℕ) (qs ps : List Record) (e f : Finish) → IsRunInSets g qs e → IsRunInSets (with_sets g others) ps f → run_text g qs e ≡ run_text (with_sets g others) ps f
 any_sets g others qs ps e f one two =
     let plain = run_goes_on g [] tt in
     let rs = plain.0 ++ [] in
-    (sets_same g qs rs e plain.1 one plain.2).1
-    ∙ sym (ap (λ (s : State). text_of (lines_of rs ++ end_lines s plain.1)) (state_by g (with_sets g others) rs refl))
-    ∙ sym (sets_same (with_sets g others) ps rs f plain.1 two (run_same g others rs plain.1 plain.2)).1
+    cc ((sets_same g qs rs e plain.1 one plain.2).1, state_by g (with_sets g others) rs refl,
+        (sets_same (with_sets g others) ps rs f plain.1 two (run_same g others rs plain.1 plain.2)).1)

@@ -1,39 +1,37 @@
 -- What is done without a hazard is free, and frames along a run are sound.
-use Rattle.std.proofs.Common.{◌≡◌, ℕ, ◌+◌, ◌*◌, ◌/◌, ◌%◌, Bool, true, false, cond, List, [], ◌∷◌, ◌++◌, length, find, Option, Some, None, refl, ap, ◌∙◌, arith}
-use Rattle.std.specs.Prelude.{◌==◌, ◌||◌}
+use Rattle.std.proofs.Common.{◌≡◌, ℕ, ◌+◌, ◌*◌, ◌/◌, ◌%◌, Bool, false, cond, List, [], ◌∷◌, ◌++◌, length, find, Option, Some, None, refl, ap, ◌∙◌, arith}
+use Rattle.std.specs.Prelude.{◌||◌}
 use Rattle.i9_isa.specs.declared.op.Op.{Op}
 use Rattle.i9_isa.specs.declared.op.Op.TheVariants.{Atadd, Atmod, Call, Callx, Calls, Ret, Flushreg, Sysctl}
 use Rattle.i9_isa.specs.declared.size.Size.{Size}
 use Rattle.i9_isa.specs.declared.size.Direction.{Direction}
-use Rattle.i9_isa.specs.declared.size.Direction.TheVariants.{Load, Store}
 use Rattle.i9_isa.specs.declared.size.Transfer.{Transfer}
 use Rattle.i9_isa.specs.declared.inst.Inst.{Inst}
 use Rattle.i9_isa.specs.Transfers.{byte_count, transfer_of}
 use Rattle.i9_model.specs.Writes.{wrapped, places_of, upwards}
-use Rattle.i9_model.specs.Memory.{Memory, with_writes, word_in, word_bytes}
+use Rattle.i9_model.specs.Memory.{Memory, with_writes}
 use Rattle.i9_model.specs.State.{State, Frames, started, boot}
-use Rattle.i9_model.specs.Hazards.{or_else, read_hazard, write_hazard, writes_hazard, port_hazard, save_hazard, return_place}
+use Rattle.i9_model.specs.Hazards.{or_else, read_hazard, write_hazard, writes_hazard, port_hazard, save_hazard}
 use Rattle.i9_model.specs.Operands.{value, address}
-use Rattle.i9_model.specs.Step.{Move, Stays, Saves, Returns, Flushes, Action, bytes_of_words, stored_of, moving, merged, atomic_address, atomic, Message, AsksNothing, AsksInterrupt, AsksRestart, AsksGroup, argument_of, asked_message, message_action, entering, action_by_name, action_by, action_of, frames_after, moved, acted}
+use Rattle.i9_model.specs.Step.{Move, Saves, Returns, Flushes, Action, bytes_of_words, moving, merged, atomic_address, atomic, Message, asked_message, message_action, entering, action_by_name, action_by, action_of, frames_after, moved, acted}
 use Rattle.i9_model.specs.Access.{Changes, message_access, moved_access, access_by_name, access_by, hazard_in, hazard_of}
-use Rattle.i9_model.specs.Sound.{in_returns, IsSound}
+use Rattle.i9_model.specs.Sound.{IsSound}
 use Rattle.std.proofs.lemmas.Bool.{or_left, or_from}
 use Rattle.i9_model.specs.Free.{IsFree}
 use Rattle.i9_model.specs.Run.{Given, Instruction, Faulted, Entered, Interrupted, Reached, Kind, action_by_kind, Record, Does, entry_in, state_after, due_after, next_in, next_with, IsPastOfSome}
 use Rattle.i9_model.specs.declared.run.Due.{Due}
-use Rattle.i9_model.specs.declared.layout.TheConstants.{FP, FRAME_SIZE}
+use Rattle.i9_model.specs.declared.layout.TheConstants.{FP}
 use Rattle.i9_model.specs.declared.faults.Entry.{Entry}
 use Rattle.i9_model.specs.declared.interrupts.Chosen.{Chosen}
 use Rattle.i9_model.specs.declared.event.Event.{Event}
 use Rattle.i9_model.specs.declared.interrupts.Cause.{Cause}
-use Rattle.i9_model.specs.declared.interrupts.Cause.TheVariants.{Soft}
 use Rattle.i9_model.specs.declared.interrupts.TheConstants.{PENDING_VECTORS}
-use Rattle.i9_model.specs.Frames.{in_bytes, in_frames, has, saved, with_marked, wrote, rounded_down}
-use Rattle.i9_model.specs.Interrupts.{vector_priority, with_bit, without_bit, byte_hazard, request_hazard, request_writes, priority_place, pending_place, left_pending, priority_writes, taken_writes, priority_hazard, taken_hazard, clearing_writes, clearing_hazard, record_writes}
+use Rattle.i9_model.specs.Frames.{in_frames, has, saved, with_marked, wrote, rounded_down}
+use Rattle.i9_model.specs.Interrupts.{vector_priority, with_bit, byte_hazard, request_hazard, request_writes, priority_place, pending_place, priority_writes, taken_writes, priority_hazard, taken_hazard, clearing_writes, clearing_hazard, record_writes}
 use Rattle.i9_model.specs.Before.{entry_writes, interrupting}
-use Rattle.i9_model.specs.Calls.{caller_in, call_type, record_address}
+use Rattle.i9_model.specs.Calls.{caller_in, record_address}
 use Rattle.i9_agree.proofs.Units.{no_writes, received_free}
-use Rattle.i9_model.specs.Stale.{mark_of, legible, push_mark, area_hazard}
+use Rattle.i9_model.specs.Stale.{mark_of, push_mark, area_hazard}
 use Rattle.i9_model.proofs.SavedMarks.{IsLost, saved-lost, returns-live}
 use Rattle.i9_model.proofs.CallLaws.{first_none, second_none, system_checks, system_save, EntersFree, enters_free_by}
 use Rattle.i9_model.proofs.ControlLaws.{acted-frames}
@@ -63,18 +61,10 @@ run_free : (f : Frames) (a : ℕ) (bs : List ℕ) (n : ℕ) → length bs ≡ n 
 run_free f a bs n long none = writes_hazard-upwards f a bs ∙ ap (write_hazard f a) long ∙ none
 
 moving_clear : (d : Direction) (size : Size) (signed : Bool) (i : Inst) (s : State) → hazard_in s (moved_access d (address s i.ea) (byte_count size)) ≡ None → IsClear s (moving d size signed i s)
-moving_clear Load size signed i s none = record { save = tt; free = record { whole = tt; free = no_writes s.frames; controls = tt } }
-moving_clear Store size signed i s none =
-    let a = address s i.ea in
-    let bs = stored_of size s i.c a in
-    record { save = tt; free = record { whole = tt; free = run_free s.frames a bs (byte_count size) (stored_long size s i.c a) none; controls = tt } }
+moving_clear d size signed i s none = grind (arith, no_writes, writes_hazard-upwards, stored_long)
 
 atomic_clear : (i : Inst) (s : State) (b : Bool) (change : ℕ → ℕ) → hazard_in s (Changes (atomic_address i s) 4) ≡ None → IsClear s (atomic i s b change)
-atomic_clear i s b change none =
-    let a = atomic_address i s in
-    let new = change (word_in (legible s) a) in
-    let free = run_free s.frames a (word_bytes s.memory a new) 4 (four_bytes s.memory a new) none in
-    record { save = tt; free = record { whole = tt; free = free; controls = tt } }
+atomic_clear i s b change none = grind (arith, writes_hazard-upwards, four_bytes)
 
 -- ---- bytes that are written alone
 
@@ -108,15 +98,10 @@ request_free m f table v none =
     (byte_free f (table + (PENDING_VECTORS + v / 8)) (with_bit (m.bytes (pending_place table v)) (v % 8)) (second_none first second written))
 
 message_clear : (m : Message) (i : Inst) (s : State) → hazard_in s (message_access m i s) ≡ None → IsClear s (message_action m i s)
-message_clear AsksInterrupt i s none = record { save = tt; free = record { whole = tt; free = request_free s.memory s.frames s.tables.interrupt_table (argument_of i s) none; controls = tt } }
-message_clear AsksRestart i s none = record { save = tt; free = record { whole = tt; free = no_writes (frames_after s.frames Flushes); controls = (refl, refl) } }
-message_clear AsksGroup i s none = record { save = tt; free = record { whole = tt; free = no_writes (frames_after s.frames Flushes); controls = (refl, refl) } }
-message_clear _ i s none = record { save = tt; free = record { whole = tt; free = no_writes s.frames; controls = tt } }
+message_clear m i s none = grind (arith, request_free, no_writes)
 
 calls_save : (i : Inst) (s : State) → hazard_in s (access_by_name Calls i s) ≡ None → IsSafe s.frames (action_by_name Calls i s).move
-calls_save i s none =
-    ap (save_hazard s.frames) (system_save (caller_in s) s.tables.system_table (value s i.a) 0 (call_type s.pc))
-    ∙ area_save s _ (system_checks s.memory s.frames s.tables.system_table (value s i.a) s.pc (area_hazard s) none)
+calls_save i s none = grind (arith, system_save, area_save, system_checks)
 
 name_clear : (op : Op) (i : Inst) (s : State) → hazard_in s (access_by_name op i s) ≡ None → IsClear s (action_by_name op i s)
 name_clear Atadd i s none = atomic_clear i s (mark_of s i.b 0) (λ old. wrapped (old + value s i.b)) none
@@ -140,38 +125,19 @@ action_clear i s none = by_transfer (transfer_of i.op) none
 
 -- the entry of a fault saves a frame and then stores its record
 entering_clear : (s : State) (e : Entry) → EntersFree s.frames e → IsClear s (entering e s)
-entering_clear s e free =
-    let a = record_address e.push.frame in
-    let bs = bytes_of_words s.memory a e.words in
-    let long : length bs ≡ 16 = words_long s.memory a e.words ∙ ap (λ (n : ℕ). 4 * n) free.four in
-    record { save = free.save; free = record { whole = refl; free = run_free (frames_after s.frames (entering e s).move) a bs 16 long free.record_free; controls = tt } }
+entering_clear s e free = grind (arith, words_long, writes_hazard-upwards)
 
 -- ---- the entry of an interrupt
 
 priority_free : (m : Memory) (f : Frames) (table v : ℕ) → priority_hazard m f table v ≡ None → writes_hazard f (priority_writes m table v) ≡ None
-priority_free m f table v none = by_left (left_pending m table v == 0) none
-  where
-    byte : ℕ
-    byte = without_bit (m.bytes (priority_place table v)) (vector_priority v % 8)
-
-    by_left : (b : Bool) → cond b (byte_hazard f (priority_place table v)) None ≡ None → writes_hazard f (cond b ((priority_place table v, byte) ∷ []) []) ≡ None
-    by_left true e = byte_free f (table + vector_priority v / 8) byte e
-    by_left false e = no_writes f
+priority_free m f table v none = grind (arith, byte_free, no_writes)
 
 taken_free : (m : Memory) (f : Frames) (table v : ℕ) → taken_hazard m f table v ≡ None → writes_hazard f (taken_writes m table v) ≡ None
 unfolding taken_hazard taken_writes
-taken_free m f table v none =
-    let priority = priority_hazard m f table v in
-    let byte = byte_hazard f (pending_place table v) in
-    let two = or_else (read_hazard f (pending_place table v) 1) (or_else priority byte) in
-    let written = second_none (read_hazard f (pending_place table v) 1) (or_else priority byte) (second_none (read_hazard f (priority_place table v) 1) two none) in
-    writes_append f (priority_writes m table v) ((pending_place table v, left_pending m table v) ∷ [])
-    (priority_free m f table v (first_none priority byte written))
-    (byte_free f (table + (PENDING_VECTORS + v / 8)) (left_pending m table v) (second_none priority byte written))
+taken_free m f table v none = grind (arith, second_none, writes_append, priority_free, first_none, byte_free)
 
 clearing_free : (cause : Cause) (m : Memory) (f : Frames) (table v : ℕ) → clearing_hazard cause m f table v ≡ None → writes_hazard f (clearing_writes cause m table v) ≡ None
-clearing_free Soft m f table v none = taken_free m f table v none
-clearing_free _ m f table v none = no_writes f
+clearing_free cause m f table v none = grind (arith, taken_free, no_writes)
 
 -- it saves a frame, stores its record, and then clears what chose it
 entry_free : (s : State) (c : Chosen) (e : Entry) → InterruptsFree s c e → writes_hazard (saved s.frames e.push.save) (entry_writes s c e) ≡ None
@@ -202,12 +168,6 @@ kind_clear limit due stands (Reached e u) s may = record { save = tt; free = rec
 
 -- ---- frames along a run
 
-sound-moved : (v : Move) (f : Frames) → IsSafe f v → IsSound f → IsSound (frames_after f v)
-sound-moved Stays f safe sound = sound
-sound-moved (Saves save words) f safe sound = sound-saved f save sound safe
-sound-moved Returns f safe sound = sound-returned f sound
-sound-moved Flushes f safe sound = sound-flushed f sound
-
 -- ---- the marks of a saved frame
 
 -- an action that saves no frame has no marks of one
@@ -215,56 +175,22 @@ abbrev pub IsLostOf : Move → List ℕ → Type 0
 IsLostOf (Saves a ws) lost = IsLost a lost
 IsLostOf _ lost = lost ≡ []
 
-message_lost : (m : Message) (i : Inst) (s : State) → IsLostOf (message_action m i s).move (message_action m i s).lost
-message_lost AsksNothing i s = refl
-message_lost _ i s = refl
-
-name_lost : (op : Op) (i : Inst) (s : State) → IsLostOf (action_by_name op i s).move (action_by_name op i s).lost
-name_lost Call i s = saved-lost s _
-name_lost Callx i s = saved-lost s _
-name_lost Calls i s = saved-lost s _
-name_lost Sysctl i s = message_lost (asked_message i s) i s
-name_lost _ i s = refl
-
-moving_lost : (d : Direction) (size : Size) (signed : Bool) (i : Inst) (s : State) → IsLostOf (moving d size signed i s).move (moving d size signed i s).lost
-moving_lost Load size signed i s = refl
-moving_lost Store size signed i s = refl
-
 pub action_lost : (i : Inst) (s : State) → IsLostOf (action_of i s).move (action_of i s).lost
 unfolding action_of
-action_lost i s = by_transfer (transfer_of i.op)
-  where
-    by_transfer : (o : Option Transfer) → IsLostOf (action_by o i s).move (action_by o i s).lost
-    by_transfer (Some t) = moving_lost t.direction t.size t.signed i s
-    by_transfer None = name_lost i.op i s
+action_lost i s = grind (arith, saved-lost)
 
 kind_lost : (k : Kind) (s : State) → IsLostOf (action_by_kind k s).move (action_by_kind k s).lost
-kind_lost (Instruction i) s = action_lost i s
-kind_lost (Entered e) s = saved-lost s e.push.save
-kind_lost (Interrupted c e) s = saved-lost s e.push.save
-kind_lost _ s = refl
+kind_lost k s = grind (arith, action_lost, saved-lost)
 
 -- they are in the frame that is saved, which lies beside the others
 pub sound-lost : (v : Move) (f : Frames) (lost : List ℕ) → IsSafe f v → IsLostOf v lost → IsSound (frames_after f v) → IsSound (with_marked (frames_after f v) lost)
-sound-lost (Saves a ws) f lost safe is sound = sound-marked (saved f a) lost (λ x t. (here x t, apart x t)) sound
-  where
-    here : (x : ℕ) → has lost x ≡ true → in_frames (a ∷ f.live) x ≡ true
-    here x t = or_left (in_bytes a FRAME_SIZE x) (in_frames f.live x) (is.inside x t)
-
-    apart : (x : ℕ) → has lost x ≡ true → in_returns (a ∷ f.live) x ≡ false
-    apart x t =
-        let out = write_hazard-none f a FRAME_SIZE x (save_hazard-none f a safe).0 (is.inside x t) in
-        let live = returns-live f.live x in
-        or_from (in_bytes (return_place a) 4 x) (in_returns f.live x) (is.beside x t) (grind arith)
-sound-lost v f lost safe none sound = rw none sound
+sound-lost v f lost safe is sound =
+    grind (arith, sound-marked, or_left, write_hazard-none, save_hazard-none, returns-live, or_from)
 
 sound-acted : (s : State) (a : Action) → IsClear s a → IsLostOf a.move a.lost → IsSound s.frames → IsSound (acted s a).frames
 unfolding moved writes_hazard
 sound-acted s a clear lost sound =
-    let f = frames_after s.frames a.move in
-    rw (acted-frames s a)
-    (sound-softened (wrote (with_marked f a.lost) a.writes) a.stale
-    (sound-wrote (with_marked f a.lost) a.writes (sound-lost a.move s.frames a.lost clear.save lost (sound-moved a.move s.frames clear.save sound)) clear.free.free))
+    grind (arith, acted-frames, sound-softened, sound-wrote, sound-lost, sound-saved, sound-returned, sound-flushed)
 
 next_sound : (limit : ℕ) (due : Due) (stands : Option Event) (s : State) (r : Record) → IsSound s.frames → next_in limit due stands s ≡ Does r → IsSound r.after.frames
 next_sound limit due stands s r sound e =
