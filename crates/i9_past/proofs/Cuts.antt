@@ -1,11 +1,9 @@
 -- What is done before the length of a run is reached does not depend on that length.
-use Rattle.std.proofs.Common.{◌≡◌, ◌≢◌, ℕ, ◌≤◌, Bool, true, false, cond, eqb, List, [], ◌∷◌, length, Option, refl, sym, ap, ◌∙◌, arith}
-use Rattle.std.proofs.lemmas.Bool.Decides.{nat_tests}
-use Rattle.i9_model.specs.State.{State, boot}
+use Rattle.std.proofs.Common.{◌≡◌, ◌≢◌, ℕ, ◌≤◌, List, [], ◌∷◌, length, Option, refl, ap, ◌∙◌, arith}
+use Rattle.i9_model.specs.State.{State}
 use Rattle.i9_model.specs.declared.event.Event.{Event}
 use Rattle.i9_model.specs.ScheduleText.{standing}
-use Rattle.i9_model.specs.Before.{choice_in}
-use Rattle.i9_model.specs.Run.{Given, Record, Next, Does, Ends, next_by_choice, next_in, due_after, reached_after, event_after, state_after, next, IsPast, IsRun, finish, Finish}
+use Rattle.i9_model.specs.Run.{Given, Record, Next, Does, Ends, next_in, due_after, reached_after, event_after, state_after, next, IsPast, IsRun, finish, Finish}
 use Rattle.i9_model.specs.declared.run.End.TheVariants.{Limit}
 use Rattle.i9_model.specs.declared.run.Due.{Due}
 use Rattle.i9_past.proofs.Ends.{count_within}
@@ -18,8 +16,7 @@ past_by g k same (r ∷ rs) past = (past_by g k same rs past.0, same rs r past.0
 
 -- a state goes by the image alone
 pub state_by : (g k : Given) (rs : List Record) → k.image ≡ g.image → state_after k rs ≡ state_after g rs
-state_by g k [] e = ap boot e
-state_by g k (r ∷ rs) e = refl
+state_by g k rs e = grind arith
 
 -- what comes next, from the state that it comes in
 abbrev pub next_from : Given → List Record → State → Next
@@ -28,20 +25,9 @@ next_from g rs s = next_in g.length (due_after rs) (standing g.plan (length (rea
 pub next_by_state : (g : Given) (rs : List Record) (s : State) → state_after g rs ≡ s → next g rs ≡ next_from g rs s
 next_by_state g rs s e = ap (next_from g rs) e
 
--- before the length a longer one changes nothing
-below_more : (s : State) (limit more : ℕ) → s.count ≤ limit → limit ≤ more → eqb s.count limit ≡ false → eqb s.count more ≡ false
-below_more s limit more within longer e = grind (arith, nat_tests, e)
-
-by_length : (b c : Bool) (x o : Next) → (b ≡ false → c ≡ false) → o ≢ Ends (finish Limit) → cond b (Ends (finish Limit)) x ≡ o → cond c (Ends (finish Limit)) x ≡ o
-by_length true c x o same other e = absurd (other (sym e))
-by_length false c x o same other e = ap (λ (d : Bool). cond d (Ends (finish Limit)) x) (same refl) ∙ e
-
 -- what comes next but for the end of the length
 pub next_longer : (limit more : ℕ) (due : Due) (stands : Option Event) (s : State) (o : Next) → s.count ≤ limit → limit ≤ more → o ≢ Ends (finish Limit) → next_in limit due stands s ≡ o → next_in more due stands s ≡ o
-next_longer limit more (dues.End f) stands s o within longer other e = e
-next_longer limit more (dues.Entry fault) stands s o within longer other e = e
-next_longer limit more dues.Nothing stands s o within longer other e =
-    by_length (eqb s.count limit) (eqb s.count more) (next_by_choice stands s (choice_in s)) o (below_more s limit more within longer) other e
+next_longer limit more due stands s o within longer other e = grind arith
 
 abbrev at_length : Given → ℕ → Given
 at_length g more = record g { length = more }

@@ -32,8 +32,7 @@ within_next limit due o s r e = (next_leaves limit (plan_of o) 0 due o s r (in_p
 
 pub some_within : (g : Given) (rs : List Record) → IsPastOfSome (next_with g) rs → (state_after g rs).count ≤ g.length
 some_within g [] past = omega (arith, boot_count g.image)
-some_within g (r ∷ rs) past =
-    within_next g.length (due_after rs) past.1.0 (state_after g rs) r past.1.1 (some_within g rs past.0)
+some_within g (r ∷ rs) past = grind (arith, within_next, some_within g rs past.0)
 
 pub count_within : (g : Given) (rs : List Record) → IsPast g rs → (state_after g rs).count ≤ g.length
 count_within g rs past = some_within g rs (past_of_some g rs past)

@@ -7,7 +7,6 @@ use Rattle.std.proofs.lemmas.List.{append-nil}
 use Rattle.std.proofs.lemmas.Option.{slice_get_past}
 use Rattle.i9_model.specs.declared.event.Event.{Event}
 use Rattle.i9_model.specs.declared.event.When.{When}
-use Rattle.i9_model.specs.declared.event.When.TheVariants.{At, Turn}
 use Rattle.i9_model.specs.declared.event.Timed.{Timed}
 use Rattle.i9_model.specs.ScheduleText.{timed_at, has_come_at, event_at, standing}
 use Rattle.i9_model.specs.Run.{Record, Finish, Does, Ends, IsPastOfSome, reached_last}
@@ -20,14 +19,7 @@ at_seam (x ∷ xs) ys = at_seam xs ys
 
 -- an event whose time has come after so many instructions is timed at them
 stands : (k : ℕ) (w : When) (x e : Event) → cond (has_come_at k w) (Some x) None ≡ Some e → record { when = w; event = x } ≡ timed_at k e
-stands k (At n) x e h = by_test (eqb n k) refl h
-  where
-    by_test : (b : Bool) → eqb n k ≡ b → cond b (Some x) None ≡ Some e → timed_at n x ≡ timed_at k e
-    by_test true is found =
-        let same : x ≡ e = cc in
-        ap (λ (m : ℕ). timed_at m x) (eqb-true _ _ is) ∙ ap (timed_at k) same
-    by_test false is found = absurd (cc found)
-stands k (Turn n) x e h = absurd (cc h)
+stands k w x e h = grind arith
 
 -- the event that stands there is the first of those that are left
 first_left : (k : ℕ) (rest : List Timed) (e : Event) → event_at k (slice_get rest 0) ≡ Some e → (more : List Timed) × (rest ≡ timed_at k e ∷ more)
