@@ -121,5 +121,8 @@ pub any_sets : (g : Given) (others : Option ℕ) (qs ps : List Record) (e f : Fi
 any_sets g others qs ps e f one two =
     let plain = run_goes_on g [] tt in
     let rs = plain.0 ++ [] in
-    cc ((sets_same g qs rs e plain.1 one plain.2).1, state_by g (with_sets g others) rs refl,
-        (sets_same (with_sets g others) ps rs f plain.1 two (run_same g others rs plain.1 plain.2)).1)
+    cc (
+      (sets_same g qs rs e plain.1 one plain.2).1,
+      state_by g (with_sets g others) rs refl,
+      (sets_same (with_sets g others) ps rs f plain.1 two (run_same g others rs plain.1 plain.2)).1,
+    )

@@ -92,8 +92,11 @@ comes_more g more rs x longer late other e =
     let k = at_length g more in
     let h = steps rs in
     let qs = records_of h in
-    cc (same_event g k refl refl h refl, state_by g k qs refl,
-        next_longer g.length more (due_after qs) (event_ahead g h) (state_after g qs) x (some_within g qs (course_events g h late)) longer other e)
+    cc (
+      same_event g k refl refl h refl,
+      state_by g k qs refl,
+      next_longer g.length more (due_after qs) (event_ahead g h) (state_after g qs) x (some_within g qs (course_events g h late)) longer other e,
+    )
 
 no_limit : (r : Record) → Does r ≢ Ends (finish Limit)
 no_limit r same = cc same

@@ -21,8 +21,11 @@ next_sets : (g : Given) (asked : Option ℕ) (rs : List Record) → IsByCounts g
     → comes_next (with_sets g asked) (steps rs) ≡ comes_next g (steps rs)
 next_sets g asked rs counted =
     let k = with_sets g asked in
-    cc (steps_counted k rs counted, next_by_state k rs (state_after g rs) (state_by g k rs refl),
-        steps_counted g rs counted)
+    cc (
+      steps_counted k rs counted,
+      next_by_state k rs (state_after g rs) (state_by g k rs refl),
+      steps_counted g rs counted,
+    )
 
 pub imprecise_sets : (g : Given) (asked : Option ℕ) (rs : List Record)
     → imprecise_at (with_sets g asked) (steps rs) ≡ imprecise_at g (steps rs)

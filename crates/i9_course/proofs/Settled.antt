@@ -27,8 +27,12 @@ unfolding over written
 over_bytes [] m = refl
 over_bytes (f ∷ fs) m =
     let g = stored m.bytes (frame_writes m f) in
-    cc (frame_bytes m f, over_bytes fs (with_other m g), all_same m g fs,
-        stored-append m.bytes (frame_writes m f) (all_writes m fs))
+    cc (
+      frame_bytes m f,
+      over_bytes fs (with_other m g),
+      all_same m g fs,
+      stored-append m.bytes (frame_writes m f) (all_writes m fs),
+    )
 
 puts_behind : (n : ℕ) (c : Cache) (a : Action) (m : Memory)
     → (cache_configured m (cache_acted n a c)).behind.bytes ≡ stored c.behind.bytes (puts_of n c a)

@@ -21,7 +21,7 @@ ghost use Rattle.i9_laws.specs.Undone.{HasControls, GivesOldControls};
 /// channels 0 to 3, the pending and the mask word have the bits of lines alone, and the DMA command word those of
 /// channels; and where besides the bytes of the image have 8 bits, as those of segments and of a schedule's feeds have,
 /// bytes of memory have 8 bits, and registers and the instruction address 32.
-#[tactic(auto, using(crate::proofs::KeptBits::kept_after, crate::proofs::KeptLines::lines_after, crate::proofs::WordsAfter::words_after, crate::proofs::WordsAfter::parts_bytes,))]
+#[tactic(auto, using(crate::proofs::KeptBits::kept_after, crate::proofs::KeptLines::lines_after, crate::proofs::WordsAfter::words_after, crate::proofs::WordsAfter::parts_bytes))]
 pub fn kept_bits_stay()
     ensures ac { (g : Given) (rs : List Record) → IsPast g rs → IsWithin AC_MASK (state_after g rs).ac }
     ensures pc { (g : Given) (rs : List Record) → IsPast g rs → IsWithin PC_MASK (state_after g rs).pc }
@@ -45,7 +45,7 @@ pub fn kept_bits_stay()
 /// A live frame keeps its words: along every run the frames that are live after the records have the addresses of the
 /// state's live frames, and the words that their saves wrote stand in memory: those of 32 bits at addresses of 32 bits,
 /// and so all, where the bytes of the image have 8 bits and the plan is one of a schedule.
-#[tactic(auto, using(crate::proofs::LiveFrames::live_addresses, crate::proofs::LiveFrames::live_in_memory, crate::proofs::LiveFrames::live_saved,))]
+#[tactic(auto, using(crate::proofs::LiveFrames::live_addresses, crate::proofs::LiveFrames::live_in_memory, crate::proofs::LiveFrames::live_saved))]
 pub fn a_live_frame_keeps_its_words()
     ensures addresses { (g : Given) (rs : List Record) → IsPast g rs
         → (state_after g rs).frames.live ≡ addresses_of (live_after rs) }

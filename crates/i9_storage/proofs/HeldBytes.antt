@@ -1,5 +1,5 @@
 -- A byte of memory with the held frames laid over it, from the youngest frame on.
-use Rattle.std.proofs.Common.{◌≡◌, ℕ, zero, suc, ◌+◌, ◌-◌, ◌*◌, ◌/◌, ◌%◌, ◌^◌, ◌<◌, ◌≤◌, Bool, true, false, List, [], ◌∷◌, ◌++◌, length, get_or, take, Some, sym, ap, ◌∙◌, inl, inr, arith}
+use Rattle.std.proofs.Common.{◌≡◌, ℕ, zero, suc, ◌+◌, ◌-◌, ◌*◌, ◌/◌, ◌%◌, ◌^◌, ◌<◌, ◌≤◌, Bool, true, false, List, [], ◌∷◌, length, get_or, take, Some, sym, ap, ◌∙◌, inl, inr, arith}
 use Rattle.std.specs.Prelude.{reverse, slice_get}
 use Rattle.std.proofs.lemmas.Bool.Decides.{nat_tests}
 use Rattle.std.proofs.lemmas.Option.{get_or_from_slice_get}
@@ -54,9 +54,7 @@ laid_at fs k f m h is =
     let n = length fs - (k + 1) in
     let below : n < length fs = omega arith in
     let one : length fs - k ≡ n + 1 = omega arith in
-    ap (λ (j : ℕ). over (take j fs) m) one
-    ∙ ap (λ (gs : List Frame). over gs m) (take_more fs n f below ∙ ap (λ (g : Frame). take n fs ++ g ∷ []) (place_of fs k f h is))
-    ∙ over_push (take n fs) f m
+    cc (take_more fs n f below, place_of fs k f h is, over_push (take n fs) f m)
 
 long_at : (fs : List Frame) (k : ℕ) (f : Frame) → AreWhole fs → k < length fs → Some f ≡ slice_get (reverse fs) k → length f.words ≡ LOCALS
 long_at fs k f whole h is =

@@ -20,10 +20,7 @@ oldest_held [] f o rest some e = absurd (omega arith)
 oldest_held (h ∷ hs) f o rest some e = let both = head_of h o (hs ++ f ∷ []) rest e in (hs, ap (λ (g : Frame). g ∷ hs) both.0, sym both.1)
 
 pub oldest_room : (m : Behind) (hs : List Frame) (f o : Frame) (rest : List Frame) → 0 < length hs → hs ++ f ∷ [] ≡ o ∷ rest → HaveRoom m hs → HasRoomIn m o.address FRAME_SIZE
-oldest_room m hs f o rest some e room =
-    let split = oldest_held hs f o rest some e in
-    let all : HaveRoom m (o ∷ split.0) = subst (HaveRoom m) split.1 room in
-    all.0
+oldest_room m hs f o rest some e room = grind (arith, oldest_held)
 
 -- what there is room for stays so
 pub kept_room : (m k : Behind) (fs : List Frame) → KeepsRoomIn m k → HaveRoom m fs → HaveRoom k fs

@@ -1,5 +1,5 @@
 -- What storage keeps true of its memory, its frames and its sets.
-use Rattle.std.proofs.Common.{◌≡◌, ℕ, ◌-◌, Bool, true, false, cond, ltb, zero, suc, List, [], ◌∷◌, ◌++◌, length, take, None, refl, sym, ap, ◌∙◌, subst}
+use Rattle.std.proofs.Common.{◌≡◌, ℕ, ◌-◌, Bool, true, false, cond, ltb, zero, suc, List, [], ◌∷◌, ◌++◌, length, take, None, sym, ap, ◌∙◌, subst, arith}
 use Rattle.i9_model.specs.declared.layout.TheConstants.{LOCALS, FRAME_SIZE, RIP}
 use Rattle.i9_model.specs.declared.frame.Frame.{Frame}
 use Rattle.i9_model.specs.Memory as model
@@ -14,7 +14,7 @@ use Rattle.i9_model.specs.Sound.{IsSound}
 use Rattle.i9_model.specs.Step.{Saves}
 use Rattle.i9_model.specs.Alike.{is_compared, AgreeWhere}
 use Rattle.i9_model.specs.HeldFrames.{Cache, over, overlaid, spilled, with_room, holding, taken, written_back, AreYoungest}
-use Rattle.i9_model.proofs.FrameLaws.{sound-none, sound-returned, sound-wrote, sound-softened}
+use Rattle.i9_model.proofs.FrameLaws.{sound-returned, sound-wrote, sound-softened}
 use Rattle.i9_model.proofs.Runs.{writes_hazard-upwards, wrote-upwards}
 use Rattle.i9_agree.proofs.Overlays.{overlaid_holding, over_stored}
 use Rattle.i9_agree.proofs.HeldFrames.{write_beside, return_keeps, move_keeps, taken_alike}
@@ -30,34 +30,25 @@ use Rattle.i9_storage.proofs.Saves.{sound-save}
 
 -- frames after a step are kept, from what holds of them
 kept_by : (m k : Behind) (w v : Watch) (h g : Held) (f : Frames) → frames_of v ≡ f → IsSound f → AreYoungest g.frames f.live → HaveRoom k g.frames → IsKept k v g
-kept_by m k w v h g f is sound youngest room = record {
-  sound = subst IsSound (sym is) sound;
-  youngest = subst (λ (x : Frames). AreYoungest g.frames x.live) (sym is) youngest;
-  room = room;
-}
+kept_by m k w v h g f is sound youngest room = grind arith
 
 -- ---- at first
 
 pub kept_new : (m : Behind) (w : Watch) (h : Held) → frames_of w ≡ no_frames → h.frames ≡ [] → IsKept m w h
-kept_new m w h is none =
-    let young : AreYoungest [] [] = record { first = refl; whole = tt } in
-    kept_by m m w w h h no_frames is sound-none (subst (λ (fs : List Frame). AreYoungest fs []) (sym none) young) (subst (HaveRoom m) (sym none) tt)
+kept_new m w h is none = grind arith
 
 -- ---- a copy
 
 pub kept_copy : (m k : Behind) (w v : Watch) (h g : Held) → IsKept m w h → KeepsRoomIn m k → frames_of v ≡ frames_of w → g ≡ h → IsKept k v g
-kept_copy m k w v h g kept keeps is same =
-    subst (IsKept k v) (sym same) (kept_by m k w v h h (frames_of w) is kept.sound kept.youngest (kept_room m k h.frames keeps kept.room))
+kept_copy m k w v h g kept keeps is same = grind (arith, kept_room)
 
 -- ---- stores
 
 pub kept_store : (m k : Behind) (w v : Watch) (h : Held) (ps : List (ℕ × ℕ)) (stale : List ℕ) → IsKept m w h → KeepsRoomIn m k → frames_of v ≡ softened (wrote (frames_of w) ps) stale → writes_hazard (frames_of w) ps ≡ None → IsKept k v h
-kept_store m k w v h ps stale kept keeps is free =
-    kept_by m k w v h h (softened (wrote (frames_of w) ps) stale) is (sound-softened (wrote (frames_of w) ps) stale (sound-wrote (frames_of w) ps kept.sound free)) kept.youngest (kept_room m k h.frames keeps kept.room)
+kept_store m k w v h ps stale kept keeps is free = grind (arith, sound-softened, sound-wrote, kept_room)
 
 pub store_laid : (m k : Behind) (w : Watch) (h : Held) (ps : List (ℕ × ℕ)) → IsKept m w h → writes_hazard (frames_of w) ps ≡ None → settled k ≡ with_writes (settled m) ps → overlaid (cache_in k h) ≡ with_writes (overlaid (cache_in m h)) ps
-store_laid m k w h ps kept free is =
-    ap (over h.frames) is ∙ over_stored h.frames (settled m) ps kept.youngest.whole (write_beside (frames_of w) ps h.frames kept.youngest free)
+store_laid m k w h ps kept free is = grind (arith, over_stored, write_beside)
 
 -- a run of bytes that meets no live frame is writes that meet none
 pub run_free : (f : Frames) (a : ℕ) (bs : List ℕ) → write_hazard f a (length bs) ≡ None → writes_hazard f (upwards a bs) ≡ None
@@ -75,13 +66,8 @@ room_push : (m : Behind) (hs : List Frame) (f : Frame) → HaveRoom m hs → Has
 room_push m [] f all room = (room, tt)
 room_push m (h ∷ hs) f all room = (all.0, room_push m hs f all.1 room)
 
-room_spilled : (m : Behind) (hs : List Frame) (b : model.Memory) → HaveRoom m hs → HaveRoom m (spilled hs b).held
-room_spilled m [] b all = tt
-room_spilled m (h ∷ hs) b all = all.1
-
 room_by : (m : Behind) (t : Bool) (c : Cache) → HaveRoom m c.held → HaveRoom m (cond t c (spilled c.held c.behind)).held
-room_by m true c all = all
-room_by m false c all = room_spilled m c.held c.behind all
+room_by m t c all = grind arith
 
 pub kept_save : (m k : Behind) (w v : Watch) (h g : Held) (f : Frame) (marks : ℕ) → IsKept m w h → KeepsRoomIn m k → frames_of v ≡ with_marked (saved (frames_of w) f.address) (picked wrapped f.address (byte_marks (bits_of marks 16))) → bit marks RIP ≡ false → save_hazard (frames_of w) f.address ≡ None
     → cache_in k g ≡ holding h.size f (cache_in m h) → length f.words ≡ LOCALS → HasRoomIn m f.address FRAME_SIZE → IsKept k v g
@@ -112,8 +98,7 @@ kept_return m w v h g kept is taken =
     subst (IsKept m v) (sym taken) here
 
 pub return_laid : (m : Behind) (w : Watch) (h g : Held) → IsKept m w h → g ≡ held h.size (take (length h.frames - 1) h.frames) → AgreeWhere (is_compared (returned (frames_of w))) (overlaid (cache_in m h)) (overlaid (cache_in m g)).bytes
-return_laid m w h g kept is =
-    subst (λ (x : Held). AgreeWhere (is_compared (returned (frames_of w))) (overlaid (cache_in m h)) (overlaid (cache_in m x)).bytes) (sym is) (taken_alike h.frames (settled m) (frames_of w) kept.sound kept.youngest)
+return_laid m w h g kept is = grind (arith, taken_alike)
 
 -- ---- flushes
 

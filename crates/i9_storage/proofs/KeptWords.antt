@@ -1,5 +1,5 @@
 -- Words that are kept by their address, and the bytes of a run beside them.
-use Rattle.std.proofs.Common.{◌≡◌, ℕ, ◌+◌, ◌-◌, ◌*◌, ◌/◌, ◌%◌, ◌^◌, ◌<◌, ◌≤◌, Bool, true, false, List, get_or, replicate, refl, sym, ap, ◌∙◌, ◌⊎◌, inl, inr, subst, arith}
+use Rattle.std.proofs.Common.{◌≡◌, ℕ, ◌+◌, ◌-◌, ◌*◌, ◌/◌, ◌%◌, ◌^◌, ◌<◌, ◌≤◌, Bool, true, false, List, get_or, replicate, refl, sym, ap, ◌∙◌, ◌⊎◌, subst, arith}
 use Rattle.std.specs.Prelude.{nat_lt}
 use Rattle.std.proofs.lemmas.Bool.{ltb-true}
 use Rattle.std.proofs.lemmas.Bool.Decides.{nat_tests}
@@ -16,12 +16,7 @@ far a n x low high few h = in_bytes-above a n x low high few ∙ grind (arith, n
 -- a run below or above all words that are kept
 pub beside_all : (addresses : List ℕ) (low end a n from to x : ℕ) → AreWithin addresses low end → IsNamed addresses x → a < 2 ^ 32 → n < 2 ^ 32
     → from ≡ a → to ≡ a + n → (to ≤ low) ⊎ ((end ≤ from) × (to ≤ 2 ^ 32)) → IsBeside a n x
-beside_all addresses low end a n from to x within named is few e f (inl below) k h =
-    let w = within x named in
-    far a n (wrapped (x + k)) is (omega arith) (omega arith) (omega (arith, w.0, w.1, w.2, named.0, e, f, below))
-beside_all addresses low end a n from to x within named is few e f (inr above) k h =
-    let w = within x named in
-    far a n (wrapped (x + k)) is (omega arith) (omega arith) (omega (arith, w.0, w.1, w.2, named.0, e, f, above.0, above.1))
+beside_all addresses low end a n from to x within named is few e f h k h1 = grind (arith, in_bytes-above, nat_tests)
 
 -- where no word is there, none is kept
 pub none_named : (addresses : List ℕ) (a : ℕ) → addresses ≡ replicate 256 4294967296 → IsNamed addresses a → ⊥

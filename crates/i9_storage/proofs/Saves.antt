@@ -1,5 +1,5 @@
 -- Frames that are saved with the marks of their words, and bytes that are stored with theirs.
-use Rattle.std.proofs.Common.{◌≡◌, ℕ, zero, suc, ◌+◌, ◌<◌, Bool, true, false, not, ◌&&◌, cond, List, [], ◌∷◌, None, map, refl, sym, ap, ◌∙◌, subst, arith}
+use Rattle.std.proofs.Common.{◌≡◌, ℕ, zero, suc, ◌+◌, ◌<◌, false, List, [], None, map, refl, arith}
 use Rattle.std.specs.Prelude.{get_or}
 use Rattle.std.specs.List.{range_with_len}
 use Rattle.i9_isa.specs.Words.{bit}
@@ -21,38 +21,24 @@ use Rattle.i9_watch.proofs.SetBits.{bit_none}
 
 none_among : (place : ℕ → ℕ) (a k n : ℕ) → picked place a (map (bit 0) (range_with_len k n)) ≡ []
 none_among place a k zero = refl
-none_among place a k (suc n) =
-    let later = picked place (a + 1) (map (bit 0) (range_with_len (k + 1) n)) in
-    ap (λ (b : Bool). cond b (place a ∷ later) later) (bit_none k) ∙ none_among place (a + 1) (k + 1) n
+none_among place a k (suc n) = grind (arith, bit_none, none_among place (a + 1) (k + 1) n)
 
 pub none_picked : (place : ℕ → ℕ) (a n : ℕ) → picked place a (bits_of 0 n) ≡ []
 none_picked place a n = none_among place a 0 n
 
 -- a store of which no byte is marked
 pub none_stale : (f g : Frames) (a n v : ℕ) → v ≡ 0 → g ≡ wrote_run f a n → g ≡ softened (wrote_run f a n) (picked wrapped a (bits_of v n))
-none_stale f g a n v e is =
-    is ∙ sym (ap (λ (u : ℕ). softened (wrote_run f a n) (picked wrapped a (bits_of u n))) e ∙ ap (softened (wrote_run f a n)) (none_picked wrapped a n))
+none_stale f g a n v e is = grind (arith, none_picked)
 
 -- no byte is stored
 pub none_stored : (f : Frames) (a n v : ℕ) → n ≡ 0 → f ≡ softened (wrote_run f a n) (picked wrapped a (bits_of v n))
 unfolding in_bytes
-none_stored f a n v e =
-    let soft : ◌≡◌ {A = ℕ → Bool} (λ x. f.soft x && not (in_bytes a 0 x)) f.soft = λ i x. and_true (f.soft x) i in
-    subst (λ (k : ℕ). f ≡ softened (wrote_run f a k) (picked wrapped a (bits_of v k))) (sym e)
-    (sym (ap (λ (g : ℕ → Bool). record f { soft = g }) soft))
-  where
-    and_true : (b : Bool) → (b && true) ≡ b
-    and_true true = refl
-    and_true false = refl
+none_stored f a n v e = grind arith
 
 -- ---- the marks of a frame whose return address has none
 
 no_mark : (m j : ℕ) → bit m RIP ≡ false → j < 4 → get_or (byte_marks (bits_of m 16)) (8 + j) false ≡ false
-no_mark m zero known l = known
-no_mark m (suc zero) known l = known
-no_mark m (suc (suc zero)) known l = known
-no_mark m (suc (suc (suc zero))) known l = known
-no_mark m (suc (suc (suc (suc j)))) known l = absurd (omega (arith, l))
+no_mark m j known l = grind arith
 
 -- a frame is saved where no live one is, so its marks are beside theirs
 pub sound-save : (f : Frames) (m a : ℕ) (words : List ℕ) → IsSound f → save_hazard f a ≡ None → bit m RIP ≡ false → IsSound (with_marked (saved f a) (picked wrapped a (byte_marks (bits_of m 16))))

@@ -1,5 +1,5 @@
 -- What is planned by reads that meet no hazard is planned by the memory behind the held frames, as it is lent.
-use Rattle.std.proofs.Common.{◌≡◌, ℕ, ◌*◌, false, cond, List, Option, None, Some, Result, Ok, Err, refl, sym, ap, ◌∙◌, subst, arith}
+use Rattle.std.proofs.Common.{◌≡◌, ℕ, ◌*◌, false, cond, List, Option, None, Some, Result, Ok, sym, ap, ◌∙◌, arith}
 use Rattle.std.specs.Prelude.{not, IfOk}
 use Rattle.std.proofs.lemmas.Bool.{or_right}
 use Rattle.i9_model.specs.declared.faults.Fault.{Fault}
@@ -10,19 +10,17 @@ use Rattle.i9_model.specs.Memory as model
 use Rattle.i9_model.specs.Memory.{half_in, word_in, words_in, with_writes}
 use Rattle.i9_model.specs.State.{Frames, Interrupts, Dma}
 use Rattle.i9_model.specs.Dma.{is_idle, unit_hazard, unit_bytes}
-use Rattle.i9_model.specs.Hazards.{or_else, unless, read_hazard, save_hazard, record_write_hazard}
+use Rattle.i9_model.specs.Hazards.{unless, read_hazard}
 use Rattle.i9_model.specs.Requests.{request_hazard, request_writes}
-use Rattle.i9_model.specs.Interrupts.{chosen_soft, clearing_writes, vector_place, interrupt_push, interrupt_record, record_writes, cleared_hazard, interrupt_hazard, interrupt_entry, planned_interrupt, planned_interrupt_by}
+use Rattle.i9_model.specs.Interrupts.{chosen_soft, clearing_writes, record_writes, cleared_hazard, interrupt_hazard, planned_interrupt, planned_interrupt_by}
 use Rattle.i9_calls.specs.Callers.{caller_of}
-use Rattle.i9_model.specs.Calls.{Caller, entry_address, is_switch, stack_hazard, system_hazard_by, planned_calls, planned_ret}
-use Rattle.i9_model.specs.Faults.{or_stop, table_entry, planned_fault}
-use Rattle.i9_model.specs.declared.faults.Handler.{Handler}
-use Rattle.i9_model.specs.declared.faults.Handler.TheVariants.{Local, System}
+use Rattle.i9_model.specs.Calls.{planned_calls, planned_ret}
+use Rattle.i9_model.specs.Faults.{planned_fault}
 use Rattle.i9_calls.specs.Switches.{system_switch}
-use Rattle.i9_faults.specs.Switches.{handler_switch, fault_switch}
+use Rattle.i9_faults.specs.Switches.{fault_switch}
 use Rattle.i9_model.specs.Alike.{is_beyond, is_hard, AgreeWhere, with_other}
 use Rattle.i9_model.specs.HeldFrames.{Cache, overlaid}
-use Rattle.i9_model.proofs.CallLaws.{first_none, second_none, unless_ok}
+use Rattle.i9_model.proofs.CallLaws.{first_none}
 use Rattle.i9_agree.proofs.Overlays.{over_mcon}
 use Rattle.i9_agree.proofs.HeldFrames.{hard_behind}
 use Rattle.i9_model.proofs.Readings.{half_same, word_same, read_same, words_same}
@@ -62,8 +60,7 @@ pub hard_words : (m : Behind) (w : Watch) (h : Held) (a n : ℕ) → IsKept m w 
 hard_words m w h a n kept none =
     let c = cache_in m h in
     let same = read_same (frames_of w) (settled m) (overlaid c).bytes a (4 * n) (hard_behind c (frames_of w) kept.sound kept.youngest) none in
-    sym (words_same (settled m) (overlaid c).bytes a (4 * n) n same (omega arith))
-    ∙ ap (λ (x : model.Memory). words_in x a n) (laid_other c)
+    cc (words_same (settled m) (overlaid c).bytes a (4 * n) n same (omega arith), laid_other c)
 
 pub ruleset hard_rules = (hard_byte, hard_half, hard_word, hard_words)
 
@@ -79,9 +76,10 @@ pub ret_laid : (lent : model.Memory) (m : Behind) (w : Watch) (h : Held) (pfp fp
 ret_laid lent m w h pfp fp pc ac is kept =
     let c = cache_in m h in
     let f = frames_of w in
-    ap (λ (x : model.Memory). planned_ret x f pfp fp pc ac) is
-    ∙ sym (planned_ret_same f (settled m) (overlaid c).bytes pfp fp pc ac (hard_behind c f kept.sound kept.youngest))
-    ∙ ap (λ (x : model.Memory). planned_ret x f pfp fp pc ac) (laid_other c)
+    cc (
+      planned_ret_same f (settled m) (overlaid c).bytes pfp fp pc ac (hard_behind c f kept.sound kept.youngest),
+      laid_other c,
+    )
 
 pub fault_laid : (lent : model.Memory) (m : Behind) (w : Watch) (h : Held) (table system : ℕ) (fault : Fault) (pc ac fp sp : ℕ) → lent ≡ settled m → IsKept m w h
     → planned_fault (caller_of lent (frames_of w) pc fp sp) table system fault ac ≡ planned_fault (caller_of (overlaid (cache_in m h)) (frames_of w) pc fp sp) table system fault ac
@@ -94,29 +92,21 @@ fault_laid lent m w h table system fault pc ac fp sp is kept =
 -- ---- whether stacks are switched
 
 system_switch_same : (f : Frames) (m : model.Memory) (bytes : ℕ → ℕ) (table n pc : ℕ) → AgreeWhere (is_hard f) m bytes → system_switch (with_other m bytes) f table n pc ≡ system_switch m f table n pc
-system_switch_same f m bytes table n pc same =
-    let at = entry_address table n in
-    let switched = λ (x : model.Memory). is_switch (word_in x at) pc in
-    ap (λ (h : Option ℕ). unless h (switched (with_other m bytes))) (system_hazard_by_same f m bytes table n pc (λ _. None) same)
-    ∙ unless_same (system_hazard_by m f table n pc (λ _. None)) (switched m) (switched (with_other m bytes)) (λ none.
-    ap (λ (w : ℕ). is_switch w pc) (word_same f m bytes at 4 same (first_none (read_hazard f at 4) (or_else (stack_hazard f table (switched m)) None) none) (omega arith)))
-
-handler_switch_same : (f : Frames) (m : model.Memory) (bytes : ℕ → ℕ) (system pc : ℕ) (h : Handler) → AgreeWhere (is_hard f) m bytes → handler_switch (with_other m bytes) f system pc h ≡ handler_switch m f system pc h
-handler_switch_same f m bytes system pc (Local target) same = refl
-handler_switch_same f m bytes system pc (System n) same = system_switch_same f m bytes system n pc same
+system_switch_same f m bytes table n pc same = grind (arith, system_hazard_by_same, unless_same, word_same, first_none)
 
 fault_switch_same : (f : Frames) (m : model.Memory) (bytes : ℕ → ℕ) (table system : ℕ) (fault : Fault) (pc : ℕ) → AgreeWhere (is_hard f) m bytes → fault_switch (with_other m bytes) f table system fault pc ≡ fault_switch m f table system fault pc
 unfolding fault_switch
 fault_switch_same f m bytes table system fault pc same =
-    bind_same _ _ _ _ (handler_same f m bytes (table_entry table fault.kind) same) (λ h. ap or_stop (handler_switch_same f m bytes system pc h same))
+    grind (arith, bind_same, handler_same, system_hazard_by_same, unless_same, word_same, first_none)
 
 pub system_switch_laid : (lent : model.Memory) (m : Behind) (w : Watch) (h : Held) (table n pc : ℕ) → lent ≡ settled m → IsKept m w h → system_switch lent (frames_of w) table n pc ≡ system_switch (overlaid (cache_in m h)) (frames_of w) table n pc
 system_switch_laid lent m w h table n pc is kept =
     let c = cache_in m h in
     let f = frames_of w in
-    ap (λ (x : model.Memory). system_switch x f table n pc) is
-    ∙ sym (system_switch_same f (settled m) (overlaid c).bytes table n pc (hard_behind c f kept.sound kept.youngest))
-    ∙ ap (λ (x : model.Memory). system_switch x f table n pc) (laid_other c)
+    cc (
+      system_switch_same f (settled m) (overlaid c).bytes table n pc (hard_behind c f kept.sound kept.youngest),
+      laid_other c,
+    )
 
 pub fault_switch_laid : (lent : model.Memory) (m : Behind) (w : Watch) (h : Held) (table system : ℕ) (fault : Fault) (pc : ℕ) → lent ≡ settled m → IsKept m w h
     → fault_switch lent (frames_of w) table system fault pc ≡ fault_switch (overlaid (cache_in m h)) (frames_of w) table system fault pc
@@ -133,9 +123,10 @@ pub chosen_laid : (lent : model.Memory) (m : Behind) (w : Watch) (h : Held) (i :
 chosen_laid lent m w h i table pc is kept =
     let c = cache_in m h in
     let f = frames_of w in
-    ap (λ (x : model.Memory). chosen_soft i x f table pc) is
-    ∙ sym (chosen_soft_same i f (settled m) (overlaid c).bytes table pc (hard_behind c f kept.sound kept.youngest))
-    ∙ ap (λ (x : model.Memory). chosen_soft i x f table pc) (laid_other c)
+    cc (
+      chosen_soft_same i f (settled m) (overlaid c).bytes table pc (hard_behind c f kept.sound kept.youngest),
+      laid_other c,
+    )
 
 pub interrupt_laid : (lent : model.Memory) (m : Behind) (w : Watch) (h : Held) (table stack : ℕ) (chosen : Chosen) (pc ac fp sp : ℕ) → lent ≡ settled m → IsKept m w h
     → planned_interrupt (caller_of lent (frames_of w) pc fp sp) table stack chosen ac ≡ planned_interrupt (caller_of (overlaid (cache_in m h)) (frames_of w) pc fp sp) table stack chosen ac
@@ -145,25 +136,9 @@ interrupt_laid lent m w h table stack chosen pc ac fp sp is kept =
     let of = λ (x : model.Memory). planned_interrupt (caller_of x f pc fp sp) table stack chosen ac in
     ap of is ∙ sym (planned_same (caller_of (settled m) f pc fp sp) (overlaid c).bytes table stack chosen ac (hard_behind c f kept.sound kept.youngest)) ∙ ap of (laid_other c)
 
--- what chose an interrupt whose entry is planned can be cleared
-planned_clears : (from : Caller) (table stack : ℕ) (c : Chosen) (ac : ℕ) (e : Entry) → planned_interrupt from table stack c ac ≡ Ok e → cleared_hazard from.memory from.frames table c e.push e.words ≡ None
-unfolding planned_interrupt_by interrupt_hazard
-planned_clears from table stack c ac e is =
-    let m = from.memory in
-    let f = from.frames in
-    let push = interrupt_push stack from.pc from.fp from.sp in
-    let words = interrupt_record c.vector from.pc ac in
-    let vector = read_hazard f (vector_place table c.vector) 4 in
-    let clear = cleared_hazard m f table c push words in
-    let recorded = or_else (record_write_hazard f push) clear in
-    let later = or_else (save_hazard f push.save) recorded in
-    let found = unless_ok (or_else vector later) (interrupt_entry m table c push words) e is in
-    let none = second_none (record_write_hazard f push) clear (second_none (save_hazard f push.save) recorded (second_none vector later found.0)) in
-    subst (λ (x : Entry). cleared_hazard m f table c x.push x.words ≡ None) found.1 none
-
 pub plan_clears : (m : model.Memory) (f : Frames) (table stack : ℕ) (c : Chosen) (pc ac fp sp : ℕ) (r : Result Entry ℕ) → r ≡ planned_interrupt (caller_of m f pc fp sp) table stack c ac → IfOk r (λ e. cleared_hazard m f table c e.push e.words ≡ None)
-plan_clears m f table stack c pc ac fp sp (Ok e) is = planned_clears (caller_of m f pc fp sp) table stack c ac e (sym is)
-plan_clears m f table stack c pc ac fp sp (Err a) is = tt
+unfolding interrupt_hazard planned_interrupt_by
+plan_clears m f table stack c pc ac fp sp r is = grind arith
 
 -- memory behind the frames has the configuration words of what lies over it
 behind_other : (c : Cache) → with_other (overlaid c) c.behind.bytes ≡ c.behind
@@ -185,10 +160,10 @@ request_laid lent m w h table v is kept =
     let c = cache_in m h in
     let f = frames_of w in
     let hazard = request_hazard f table v in
-    ap (λ (x : model.Memory). unless hazard (request_writes x table v)) is
-    ∙ sym (unless_same hazard (request_writes (settled m) table v) (request_writes (with_other (settled m) (overlaid c).bytes) table v)
-    (λ none. request_same f (settled m) (overlaid c).bytes table v (hard_behind c f kept.sound kept.youngest) none))
-    ∙ ap (λ (x : model.Memory). unless hazard (request_writes x table v)) (laid_other c)
+    cc (
+      unless_same hazard (request_writes (settled m) table v) (request_writes (with_other (settled m) (overlaid c).bytes) table v) (λ none. request_same f (settled m) (overlaid c).bytes table v (hard_behind c f kept.sound kept.youngest) none),
+      laid_other c,
+    )
 
 -- ---- DMA
 
@@ -202,7 +177,7 @@ unit_laid lent m w h d k given is kept =
     let hazard = unit_hazard f channel given in
     let other = with_other (settled m) (overlaid c).bytes in
     let of : model.Memory → Result (Option (List ℕ)) ℕ = λ x. cond (is_idle d k given) (Ok None) (unless hazard (Some (unit_bytes x channel given))) in
-    ap of is
-    ∙ sym (ap (cond (is_idle d k given) (Ok None)) (unless_same hazard (Some (unit_bytes (settled m) channel given)) (Some (unit_bytes other channel given))
-    (λ none. ap (λ (bs : List ℕ). Some bs) (bytes_same f (settled m) (overlaid c).bytes channel given (hard_behind c f kept.sound kept.youngest) none))))
-    ∙ ap of (laid_other c)
+    cc (
+      unless_same hazard (Some (unit_bytes (settled m) channel given)) (Some (unit_bytes other channel given)) (λ none. ap (λ (bs : List ℕ). Some bs) (bytes_same f (settled m) (overlaid c).bytes channel given (hard_behind c f kept.sound kept.youngest) none)),
+      laid_other c,
+    )

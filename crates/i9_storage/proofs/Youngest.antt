@@ -7,7 +7,7 @@ use Rattle.std.proofs.lemmas.List.FromFn.{fill_by_all}
 use Rattle.i9_model.specs.declared.layout.TheConstants.{LOCALS, FRAME_SIZE}
 use Rattle.i9_model.specs.declared.frame.Frame.{Frame}
 use Rattle.i9_model.specs.Writes.{address_count, wrapped}
-use Rattle.i9_model.specs.Memory.{Memory, in_port_page, region_of, is_big, ordered_word, word_in, words_in, word_bytes, with_words}
+use Rattle.i9_model.specs.Memory.{Memory, in_port_page, region_of, is_big, word_in, words_in, word_bytes, with_words}
 use Rattle.i9_model.specs.Frames.{in_bytes, in_frames}
 use Rattle.i9_model.specs.HeldFrames.{over, overlaid, AreYoungest}
 use Rattle.i9_model.proofs.Lengths.{four_bytes}
@@ -31,10 +31,11 @@ unfolding word_in word_bytes
 word_by_bytes m x w low small has =
     let bs = word_bytes m x w in
     let here : wrapped (x + 0) ≡ x = omega arith in
-    four m x (m.bytes x) (m.bytes (wrapped (x + 1))) (m.bytes (wrapped (x + 2))) (m.bytes (wrapped (x + 3))) (get_or bs 0 0) (get_or bs 1 0) (get_or bs 2 0) (get_or bs 3 0)
-    (ap m.bytes (sym here) ∙ has 0 (omega arith)) (has 1 (omega arith)) (has 2 (omega arith)) (has 3 (omega arith))
-    ∙ ap (ordered_word m x) (four_list bs (four_bytes m x w))
-    ∙ by_order (is_big m (region_of x)) w small
+    cc (
+      four m x (m.bytes x) (m.bytes (wrapped (x + 1))) (m.bytes (wrapped (x + 2))) (m.bytes (wrapped (x + 3))) (get_or bs 0 0) (get_or bs 1 0) (get_or bs 2 0) (get_or bs 3 0) (ap m.bytes (sym here) ∙ has 0 (omega arith)) (has 1 (omega arith)) (has 2 (omega arith)) (has 3 (omega arith)),
+      four_list bs (four_bytes m x w),
+      by_order (is_big m (region_of x)) w small,
+    )
 
 -- ---- a frame that was stored
 

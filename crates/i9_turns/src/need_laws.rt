@@ -14,12 +14,7 @@ ghost use Rattle.i9_model.specs.Needs.{inst_need, refused_need, event_need, entr
 ghost use Rattle.i9_model.specs.Needs.{is_barrier_name};
 
 /// Each need takes a turn at least, and just one where it is no request, not slow and no barrier.
-#[tactic(auto, using(
-    crate::proofs::NeedLaws::inst_cost,
-    crate::proofs::NeedLaws::refused_cost,
-    crate::proofs::NeedLaws::event_cost,
-    crate::proofs::NeedLaws::entry_cost,
-))]
+#[tactic(auto, using(crate::proofs::NeedLaws::inst_cost, crate::proofs::NeedLaws::refused_cost, crate::proofs::NeedLaws::event_cost, crate::proofs::NeedLaws::entry_cost,))]
 pub fn needs_have_costs()
     ensures instruction { (i : Inst) (f : Facts) → HasCost (inst_need i f) }
     ensures refused { (ip : ℕ) → HasCost (refused_need ip) }

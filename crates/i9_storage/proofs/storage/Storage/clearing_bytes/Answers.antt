@@ -1,7 +1,6 @@
-use Rattle.std.proofs.Common.{◌∙◌}
+use Rattle.std.proofs.Common.{arith}
 use Rattle.i9_ints.proofs.AfterRecords.{record_free}
 use Rattle.i9_storage.specs.Storage.{frames_in}
-use Rattle.i9_memory.specs.Memory.{memory_of}
 use Rattle.i9_storage.proofs.StoragePlans.{clearing_laid}
 use Rattle.i9_storage.proofs.storage.Storage.clearing_bytes.Goals as goal
 
@@ -9,6 +8,4 @@ pub clearing_bytes-requires : goal.clearing_bytes-requires
 clearing_bytes-requires c = record_free (frames_in c.args.self.now) c.args.e.now.push c.requires.record
 
 pub returns : goal.returns
-returns c =
-    let s = c.args.self.now in
-    c.clearing_bytes.ensures ∙ clearing_laid (memory_of c.memory.result.now) s.behind s.watch s.sets c.args.table c.args.c.now c.args.e.now.push c.args.e.now.words c.memory.ensures s.kept c.requires.clear
+returns c = grind (arith, clearing_laid)

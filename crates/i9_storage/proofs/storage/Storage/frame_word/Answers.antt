@@ -1,5 +1,5 @@
-use Rattle.std.proofs.Common.{rules, ◌≡◌, ℕ, ◌+◌, ◌*◌, ◌^◌, ◌<◌, Some, length, get_or, zero-add, ap, ◌∙◌}
-use Rattle.std.specs.Prelude.{List, reverse, slice_get}
+use Rattle.std.proofs.Common.{rules, ◌≡◌, ℕ, ◌+◌, ◌*◌, ◌^◌, ◌<◌, Some, length, zero-add}
+use Rattle.std.specs.Prelude.{reverse, slice_get}
 use Rattle.std.proofs.lemmas.List.FromFn.{get_or-map-range_with_len}
 use Rattle.i9_model.specs.declared.layout.TheConstants.{LOCALS}
 use Rattle.i9_model.specs.Writes.{wrapped}
@@ -17,6 +17,8 @@ returns-then-f-a c =
     let whole : length f.words ≡ LOCALS = search rules in
     let low : f.address < 2 ^ 32 = search rules in
     let word_at : ℕ → ℕ = λ j. word_in (memory_in s) (wrapped (f.address + 4 * j)) in
-    ap (λ (ws : List ℕ). get_or ws k 0) (youngest_is s.behind s.watch s.sets f s.kept is low whole c.words_fit.ensures)
-    ∙ get_or-map-range_with_len word_at 0 LOCALS k k 0 c.requires (zero-add k)
-    ∙ ap (λ (x : ℕ). word_in (memory_in s) (wrapped (x + 4 * k))) c.if-f-a.true
+    cc (
+      youngest_is s.behind s.watch s.sets f s.kept is low whole c.words_fit.ensures,
+      get_or-map-range_with_len word_at 0 LOCALS k k 0 c.requires (zero-add k),
+      c.if-f-a.true,
+    )
