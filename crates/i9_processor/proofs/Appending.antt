@@ -1,11 +1,10 @@
 -- Bytes that are stored after others, one by one.
-use Rattle.std.proofs.Common.{◌≡◌, ℕ, ◌+◌, ◌-◌, ◌%◌, ◌<◌, ◌^◌, ◌||◌, ◌&&◌, ◌==◌, Bool, true, false, cond, List, [], ◌∷◌, ◌++◌, length, length-append, append-nil, ◌≤◌, ◌⊎◌, inl, inr, find, Some, None, refl, sym, ap, ◌∙◌, arith}
-use Rattle.std.specs.Prelude.{not}
+use Rattle.std.proofs.Common.{◌≡◌, ℕ, ◌+◌, ◌-◌, ◌<◌, ◌||◌, ◌==◌, Bool, true, false, cond, List, [], ◌∷◌, ◌++◌, length, length-append, append-nil, ◌≤◌, ◌⊎◌, inl, inr, find, Some, None, refl, sym, ap, ◌∙◌, arith}
 use Rattle.std.specs.List.{slice_get}
 use Rattle.std.proofs.lemmas.Option.{slice_get_past}
 use Rattle.std.proofs.lemmas.Bool.{eqb-true}
 use Rattle.std.proofs.lemmas.Bool.Decides.{nat_tests}
-use Rattle.i9_model.specs.declared.layout.TheConstants.{PORT_PAGE, CONSOLE, EXIT_WORD}
+use Rattle.i9_model.specs.declared.layout.TheConstants.{PORT_PAGE, CONSOLE}
 use Rattle.i9_model.specs.Writes.{wrapped, places_of, upwards, last_put, written}
 use Rattle.i9_model.specs.Memory.{Memory, with_writes, console_byte, exit_word}
 use Rattle.i9_model.specs.State.{Frames}
@@ -34,19 +33,10 @@ memory_append m ps qs = ap (λ (bytes : ℕ → ℕ). record m { bytes = bytes }
 pub put_append : (ps qs : List (ℕ × ℕ)) (x : ℕ) → is_put (ps ++ qs) x ≡ (is_put ps x || is_put qs x)
 unfolding is_put
 put_append [] qs x = refl
-put_append (p ∷ ps) qs x = by_first (x == p.0) (put_append ps qs x)
-  where
-    by_first : (b : Bool) → is_put (ps ++ qs) x ≡ (is_put ps x || is_put qs x) → (b || is_put (ps ++ qs) x) ≡ ((b || is_put ps x) || is_put qs x)
-    by_first true later = refl
-    by_first false later = later
-
-soft_append : (s p q : Bool) → ((s && not p) && not q) ≡ (s && not (p || q))
-soft_append false p q = refl
-soft_append true true q = refl
-soft_append true false q = refl
+put_append (p ∷ ps) qs x = grind (arith, put_append ps qs x)
 
 pub frames_append : (f : Frames) (ps qs : List (ℕ × ℕ)) → wrote (wrote f ps) qs ≡ wrote f (ps ++ qs)
-frames_append f ps qs = λ i. record f { soft = λ x. (soft_append (f.soft x) (is_put ps x) (is_put qs x) ∙ ap (λ (b : Bool). f.soft x && not b) (sym (put_append ps qs x))) i }
+frames_append f ps qs = grind (arith, put_append)
 
 -- ---- with marks
 
@@ -56,16 +46,11 @@ soft_none f a n = ap (softened f) (none_picked wrapped a n)
 
 -- an effect that marks no byte, and one that marks no register
 pub unmarked_bytes : (e : Effect) → e.stale ≡ 0 → stale_in e ≡ []
-unmarked_bytes e zero =
-    ap (λ (v : ℕ). picked wrapped e.address (bits_of v (length e.bytes.items))) zero ∙ none_picked wrapped e.address (length e.bytes.items)
+unmarked_bytes e h = grind (arith, none_picked)
 
 -- an effect marks no byte, or stores no bits of requests
 marked_alone : (e : Effect) → (stale_in e ≡ []) ⊎ (requests_in e.requests ≡ [])
-marked_alone e = by_marks (e.stale == 0) refl
-  where
-    by_marks : (b : Bool) → (e.stale == 0) ≡ b → (stale_in e ≡ []) ⊎ (requests_in e.requests ≡ [])
-    by_marks true t = inl (unmarked_bytes e (eqb-true e.stale 0 t))
-    by_marks false t = inr (ap requests_in (e.marked (λ zero. grind (arith, nat_tests, t, zero))).requests)
+marked_alone e = grind (arith, unmarked_bytes, eqb-true, nat_tests)
 
 -- so these may as well be stored behind the marks
 pub marked_append : (f : Frames) (e : Effect) → wrote (softened (wrote f (run_in e)) (stale_in e)) (requests_in e.requests) ≡ softened (wrote f (writes_in e)) (stale_in e)
@@ -124,16 +109,11 @@ pub ruleset none_rules = (none_cache, none_memory, none_frames, one_write, soft_
 
 -- bytes in a row, and none behind them
 pub run_below : (a : ℕ) (bs : List ℕ) (qs : List (ℕ × ℕ)) → a + length bs ≤ PORT_PAGE → qs ≡ [] → AreBelowPort (upwards a bs ++ qs)
-run_below a bs qs low none x above h =
-    let past : length bs ≤ (x + (2 ^ 32 - a)) % 2 ^ 32 = omega (arith, low, above, h) in
-    ap (λ (ps : List (ℕ × ℕ)). last_put ps x) (ap (λ (ps : List (ℕ × ℕ)). upwards a bs ++ ps) none ∙ append-nil (upwards a bs))
-    ∙ last_put-from a bs x (omega (arith, low)) h (omega (arith, low))
-    ∙ slice_get_past bs ((x + (2 ^ 32 - a)) % 2 ^ 32) past
+run_below a bs qs low none x above h = grind (arith, append-nil, last_put-from, slice_get_past)
 
 pub none_below : (ps : List (ℕ × ℕ)) → ps ≡ [] → AreBelowPort ps
 unfolding last_put
-none_below [] none x above h = refl
-none_below (p ∷ ps) none x above h = absurd cc
+none_below ps none x above h = grind arith
 
 pub empty_run : (a : ℕ) (bs : List ℕ) (qs : List (ℕ × ℕ)) → (length bs == 0) ≡ true → qs ≡ [] → upwards a bs ++ qs ≡ []
 empty_run a [] qs some none = none
@@ -142,9 +122,7 @@ empty_run a (b ∷ bs) qs some none = absurd (grind (arith, nat_tests, some))
 -- neither the exit word nor a byte for the console is among them
 pub below_exit : (m : Memory) (ps : List (ℕ × ℕ)) → AreBelowPort ps → exit_word m ps ≡ None
 unfolding exit_word
-below_exit m ps below =
-    let none : last_put ps EXIT_WORD ≡ None = below EXIT_WORD (omega arith) (omega arith) in
-    rw (none) refl
+below_exit m ps below = grind arith
 
 pub below_console : (ps : List (ℕ × ℕ)) → AreBelowPort ps → console_byte ps ≡ None
 below_console ps below = below CONSOLE (omega arith) (omega arith)

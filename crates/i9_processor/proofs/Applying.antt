@@ -1,16 +1,14 @@
 -- What was planned in a state can be done in one that is alike, and leaves states that are alike.
-use Rattle.std.proofs.Common.{◌≡◌, ℕ, ◌%◌, ◌<◌, ◌||◌, ◌==◌, nat_lt, Bool, true, false, List, [], ◌∷◌, ◌++◌, length, refl, sym, ap, ◌∙◌, subst, arith}
-use Rattle.std.specs.Prelude.{max}
+use Rattle.std.proofs.Common.{◌≡◌, ℕ, ◌<◌, ◌||◌, ◌==◌, nat_lt, Bool, true, false, List, [], ◌∷◌, ◌++◌, length, refl, sym, ap, subst, arith}
 use Rattle.std.proofs.lemmas.Bool.{or_left, or_right}
 use Rattle.std.proofs.lemmas.Bool.Decides.{nat_tests}
-use Rattle.i9_model.specs.declared.layout.TheConstants.{LEAST_SETS, LOCALS, PRCB_POINTER}
+use Rattle.i9_model.specs.declared.layout.TheConstants.{LOCALS}
 use Rattle.i9_model.specs.declared.setup.Setup.{Setup}
-use Rattle.i9_model.specs.Boot.{table_word, setup_of, boot_setup, with_boot_bytes}
-use Rattle.i9_model.specs.Memory.{Memory, word_in, with_writes}
+use Rattle.i9_model.specs.Boot.{setup_of, boot_setup}
+use Rattle.i9_model.specs.Memory.{Memory, with_writes}
 use Rattle.i9_model.specs.Frames.{wrote, softened}
 use Rattle.i9_model.specs.Stale.{picked}
 use Rattle.i9_model.specs.State.{State, Frames}
-use Rattle.i9_model.specs.Tables.{tables_hazard, group_hazard}
 use Rattle.i9_model.specs.Controls as plain
 use Rattle.i9_model.specs.Writes.{wrapped, written, upwards}
 use Rattle.i9_model.specs.Step.{Move, Action, saved_locals, moved, flagged, acted, counted}
@@ -34,17 +32,10 @@ use Rattle.i9_processor.specs.State.{state_of, cache_of, size_of}
 use Rattle.i9_processor.proofs.Appending.{longer_first, longer_later}
 
 pub can_alike : (c : Control) (s t : State) → AreAlike s t → CanControl s c → CanControl t c
-can_alike controls.Keeps s t alike can = tt
-can_alike (controls.Restarts first prcb) s t alike can =
-    ap (λ (u : State). tables_hazard u.memory u.frames prcb) alike.rest
-    ∙ tables_hazard_same s.frames s.memory t.memory.bytes prcb (hard_bytes s.frames s.memory t.memory.bytes alike.bytes)
-    ∙ can
-can_alike (controls.LoadsGroup group) s t alike can = (can.0, ap (λ (u : State). group_hazard u.frames u.tables.control_table group) alike.rest ∙ can.1)
+can_alike c s t alike can = grind (arith, tables_hazard_same, hard_bytes)
 
 readable : (c : Control) (s : State) → CanControl s c → IsReadable s (control_in c)
-readable controls.Keeps s can = tt
-readable (controls.Restarts first prcb) s can = can
-readable (controls.LoadsGroup group) s can = can.1
+readable c s can = grind arith
 
 pub applied_alike : (c : Control) (s t u : State) (a : Action) → IsBlind s → control_in c ≡ a.control → CanControl (moved s a) c → AreAlike (moved s a) t → u ≡ flagged a.trace (plain.controlled t (control_in c)) → AreAlike (acted s a) u
 unfolding acted moved
@@ -58,10 +49,7 @@ applied_alike c s t u a blind is can alike e =
 -- the PRCB gives at least five sets, and at most fifteen
 pub sets_few : (m : Memory) (u : Setup) → u ≡ boot_setup m → (0 < u.sets) × (u.sets < 16)
 unfolding boot_setup setup_of
-sets_few m u e =
-    let w = table_word (with_boot_bytes m) (word_in (with_boot_bytes m) PRCB_POINTER) 9 in
-    let same : u.sets ≡ max LEAST_SETS (w % 16) = ap (λ (x : Setup). x.sets) e in
-    (omega (arith, same), omega (arith, same))
+sets_few m u e = grind arith
 
 -- ---- where no byte is stored
 
@@ -101,10 +89,7 @@ youngest_held p = held_youngest p.storage
 -- the moves of an action were done, with what is held then laid over what is behind
 pub moved_alike_by : (p : Processor) (a : Action) (q : Processor) → IsFree (state_of p) a → state_of q ≡ record (moved (state_of p) a) { memory = (state_of q).memory } → (state_of q).memory ≡ overlaid (cache_of q)
     → cache_of q ≡ cache_acted (size_of p) a (cache_of p) → AreAlike (moved (state_of p) a) (state_of q)
-moved_alike_by p a q free state memory cache =
-    let s = state_of p in
-    let moved_to = moved_cached (size_of p) s a (cache_of p) (cache_of q) (laid_memory p) (sound_frames p) (youngest_held p) free cache in
-    subst (AreAlike (moved s a)) (sym (state ∙ ap (λ (m : Memory). record (moved s a) { memory = m }) memory)) moved_to
+moved_alike_by p a q free state memory cache = grind (arith, moved_cached, laid_memory, sound_frames, youngest_held)
 
 pub counted_alike : (n : ℕ) (s t : State) → AreAlike s t → AreAlike (counted n s) (counted n t)
 counted_alike n s t alike = record { rest = ap (counted n) alike.rest; bytes = alike.bytes }

@@ -1,5 +1,5 @@
 -- A set of registers that is filled from the lowest one up.
-use Rattle.std.proofs.Common.{◌≡◌, ℕ, suc, ◌+◌, ◌*◌, ◌%◌, ◌^◌, ◌<◌, ◌≤◌, Bool, true, false, cond, arith, ap, ◌∙◌, add-one}
+use Rattle.std.proofs.Common.{◌≡◌, ℕ, ◌+◌, ◌*◌, ◌%◌, ◌^◌, ◌<◌, Bool, true, false, cond, arith, ap, ◌∙◌, add-one}
 use Rattle.i9_model.proofs.SetLaws.{below_pow}
 use Rattle.std.proofs.Math.Nat.{mod-eq_of_lt}
 use Rattle.std.proofs.Math.Pow.{pow-lt, pow_mono}
@@ -14,21 +14,12 @@ pub set_with : (n : ℕ) (p : ℕ → Bool) → p n ≡ true → set_below (n + 
 set_with n p is = one_more n p ∙ ap (λ (b : Bool). set_below n p + cond b (2 ^ n) 0) is
 
 pub set_without : (n : ℕ) (p : ℕ → Bool) → p n ≡ false → set_below (n + 1) p ≡ set_below n p
-set_without n p is = one_more n p ∙ ap (λ (b : Bool). set_below n p + cond b (2 ^ n) 0) is ∙ none
-  where
-    none : set_below n p + 0 ≡ set_below n p
-    none = omega arith
+unfolding set_below
+set_without n p is = grind arith
 
 -- a further bit, which fits
 pub bit_is : (n : ℕ) → n < 32 → 1 * 2 ^ n % 4294967296 ≡ 2 ^ n
-bit_is n low =
-    let same : 1 * 2 ^ n ≡ 2 ^ n = omega arith in
-    let small : 2 ^ n < 2 ^ 32 = pow-lt low in
-    ap (λ (x : ℕ). x % 4294967296) same ∙ mod-eq_of_lt small
+bit_is n low = grind (arith, pow-lt, mod-eq_of_lt)
 
 pub bit_fits : (n : ℕ) (p : ℕ → Bool) → n < 32 → set_below n p + 2 ^ n < 2 ^ 32
-bit_fits n p low =
-    let small : set_below n p < 2 ^ n = below_pow n p in
-    let next : suc n ≤ 32 = omega (arith, low) in
-    let top : 2 ^ suc n ≤ 2 ^ 32 = pow_mono next in
-    omega (arith, small, top)
+bit_fits n p low = grind (arith, below_pow, pow_mono)

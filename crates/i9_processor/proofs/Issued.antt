@@ -5,7 +5,6 @@ use Rattle.std.specs.Int.{IsBitSet}
 use Rattle.std.proofs.lemmas.Bool.{cases_Bool, cases_lt}
 use Rattle.std.proofs.lemmas.Bool.Decides.{nat_tests}
 use Rattle.i9_isa.specs.declared.resources.TheConstants.{CONDITION_CODE}
-use Rattle.i9_isa.specs.Resources.{is_in_frame}
 use Rattle.i9_model.specs.declared.need.Cell.{Cell}
 use Rattle.i9_model.specs.Late.{resources, cell, latest, issued_cell}
 use Rattle.i9_model.specs.Writes.{written, pairs_at, last_put}
@@ -66,10 +65,7 @@ pub group_past : (register r : ℕ) (values : List ℕ) → register + length va
     → last_put (pairs_at (λ k. k) register values) r ≡ None
 unfolding last_put
 group_past register r [] past = refl
-group_past register r (v ∷ vs) past =
-    let other : eqb r register ≡ false = grind (arith, nat_tests, past) in
-    let later = group_past (register + 1) r vs (omega (arith, past)) in
-    cc
+group_past register r (v ∷ vs) past = grind (arith, nat_tests, group_past (register + 1) r vs (omega (arith, past)))
 
 pub frame_past : (locals : List ℕ) (frame r : ℕ) → length locals ≡ 16 → 32 ≤ r
     → last_put (frame_sets locals frame) r ≡ None
@@ -185,12 +181,7 @@ module _ (olds news : File) (writes done flags ac : ℕ) (sets : List (ℕ × �
 -- the latest values are the same over what was planned before
 latest_amended : (writes done r v : ℕ) (c d : Cell) → d ≡ issued_cell writes done r v c
     → latest d ≡ latest (issued_over writes done r v c)
-latest_amended writes done r v c d is = elim (cases_bit writes r) [
-  | inl one ↦
-      ap latest (is ∙ amended_one writes done r v c one) ∙ sym (ap latest (issued_one writes done r v c one))
-  | inr none ↦
-      ap latest (is ∙ amended_none writes done r v c none) ∙ sym (ap latest (issued_none writes done r v c none))
-]
+latest_amended writes done r v c d is = grind arith
 
 -- what is left behind cells that were planned, anew or over what the same record had planned
 pub record Leaves (olds news : File) (ac : ℕ) (sets : List (ℕ × ℕ)) (Issued : Type 0) : Type 0 where
@@ -231,12 +222,8 @@ module _ (olds news : File) (writes done flags ac : ℕ) (sets : List (ℕ × �
 
 pub start_covered : (writes frame : ℕ) (locals : List ℕ) → length locals ≡ 16 → IsStartCovered writes
     → AreCovered writes (frame_sets locals frame)
-start_covered writes frame locals whole covered r few clear = elim (cases_Bool (is_in_frame r)) [
-  | inl here ↦
-      let one = set-one writes r (covered r few (grind (arith, nat_tests, here))) in
-      absurd (omega (arith, one, clear))
-  | inr beside ↦ frame_beside locals frame r whole beside
-]
+start_covered writes frame locals whole covered r few clear =
+    grind (arith, cases_Bool, set-one, nat_tests, frame_beside)
 
 pub code_covered : (writes old new : ℕ) → IsStartCovered writes → IsCodeCovered writes old new
 code_covered writes old new covered clear =
@@ -252,13 +239,4 @@ new_still cells is r few = is r ∙ ap still (sym (ap latest (is r)))
 pub cell_resource : (flags ac : ℕ) (cells : File) → AreStill cells
     → cell_in cells CONDITION_CODE ≡ still (ac % 8) → arithmetic_of flags cells ≡ ac
     → (r : ℕ) → r < resources → cell_in cells r ≡ still (resource_of flags cells r)
-cell_resource flags ac cells are code is r few = by_code (eqb r CONDITION_CODE) refl
-  where
-    by_code : (b : Bool) → eqb r CONDITION_CODE ≡ b
-        → cell_in cells r ≡ still (cond b (arithmetic_of flags cells % 8) (registers_of cells r))
-    by_code true here =
-        let same : r ≡ 32 = grind (arith, nat_tests, here) in
-        ap (cell_in cells) same ∙ code ∙ ap (λ (n : ℕ). still (n % 8)) (sym is)
-    by_code false other =
-        let low : r < 32 = grind (arith, nat_tests, other, few) in
-        are r few ∙ ap still (sym (registers_at cells r low))
+cell_resource flags ac cells are code is r few = grind (arith, nat_tests, registers_at)

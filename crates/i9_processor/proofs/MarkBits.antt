@@ -19,7 +19,7 @@ use Rattle.i9_model.specs.Controls.{marks_after}
 use Rattle.i9_model.specs.Stale.{picked, saved_mark, saved_marks}
 use Rattle.i9_model.specs.Needs.{set_below}
 use Rattle.i9_watch.specs.Bits.{bits_of}
-use Rattle.i9_watch.proofs.SetBits.{bit_none, set-from_bits}
+use Rattle.i9_watch.proofs.SetBits.{set-from_bits}
 use Rattle.i9_processor.specs.declared.effect.Effect.{Effect}
 use Rattle.i9_processor.specs.Effect.{stale_in}
 use Rattle.i9_processor.proofs.Appending.{put_append}
@@ -43,93 +43,54 @@ marks r bs = picked (λ k. k) r bs
 put_before : (r : ℕ) (vs : List ℕ) (k : ℕ) → k < r → is_put (group r vs) k ≡ false
 unfolding is_put
 put_before r [] k h = refl
-put_before r (v ∷ vs) k h =
-    let other : (k == r) ≡ false = ne_eqb k r (λ e. omega (arith, h, e)) in
-    ap (λ (b : Bool). b || is_put (group (r + 1) vs) k) other ∙ put_before (r + 1) vs k (omega (arith, h))
+put_before r (v ∷ vs) k h = grind (arith, ne_eqb, put_before (r + 1) vs k (omega (arith, h)))
 
 put_past : (r : ℕ) (vs : List ℕ) (k : ℕ) → r + length vs ≤ k → is_put (group r vs) k ≡ false
 unfolding is_put
 put_past r [] k h = refl
-put_past r (v ∷ vs) k h =
-    let other : (k == r) ≡ false = ne_eqb k r (λ e. omega (arith, h, e)) in
-    ap (λ (b : Bool). b || is_put (group (r + 1) vs) k) other ∙ put_past (r + 1) vs k (omega (arith, h))
+put_past r (v ∷ vs) k h = grind (arith, ne_eqb, put_past (r + 1) vs k (omega (arith, h)))
 
 put_here : (r : ℕ) (vs : List ℕ) (j : ℕ) → j < length vs → is_put (group r vs) (r + j) ≡ true
 unfolding is_put
 put_here r [] j h = absurd (omega (arith, h))
 put_here r (v ∷ vs) zero h = let same : (r + 0 == r) ≡ true = eq-eqb (r + 0) r (add-zero r) in ap (λ (b : Bool). b || is_put (group (r + 1) vs) (r + 0)) same
-put_here r (v ∷ vs) (suc j) h =
-    let next : r + suc j ≡ r + 1 + j = omega arith in
-    let other : (r + suc j == r) ≡ false = ne_eqb (r + suc j) r (λ e. omega (arith, e)) in
-    ap (λ (b : Bool). b || is_put (group (r + 1) vs) (r + suc j)) other ∙ ap (is_put (group (r + 1) vs)) next ∙ put_here (r + 1) vs j (omega (arith, h))
+put_here r (v ∷ vs) (suc j) h = grind (arith, ne_eqb, put_here (r + 1) vs j (omega (arith, h)))
 
 has_before : (r : ℕ) (bs : List Bool) (k : ℕ) → k < r → has (marks r bs) k ≡ false
 has_before r [] k h = refl
 has_before r (false ∷ bs) k h = has_before (r + 1) bs k (omega (arith, h))
-has_before r (true ∷ bs) k h =
-    let other : (k == r) ≡ false = ne_eqb k r (λ e. omega (arith, h, e)) in
-    ap (λ (b : Bool). b || has (marks (r + 1) bs) k) other ∙ has_before (r + 1) bs k (omega (arith, h))
+has_before r (true ∷ bs) k h = grind (arith, ne_eqb, has_before (r + 1) bs k (omega (arith, h)))
 
 has_past : (r : ℕ) (bs : List Bool) (k : ℕ) → r + length bs ≤ k → has (marks r bs) k ≡ false
 has_past r [] k h = refl
 has_past r (false ∷ bs) k h = has_past (r + 1) bs k (omega (arith, h))
-has_past r (true ∷ bs) k h =
-    let other : (k == r) ≡ false = ne_eqb k r (λ e. omega (arith, h, e)) in
-    ap (λ (b : Bool). b || has (marks (r + 1) bs) k) other ∙ has_past (r + 1) bs k (omega (arith, h))
+has_past r (true ∷ bs) k h = grind (arith, ne_eqb, has_past (r + 1) bs k (omega (arith, h)))
 
 has_here : (r : ℕ) (bs : List Bool) (j : ℕ) → j < length bs → has (marks r bs) (r + j) ≡ get_or bs j false
 has_here r [] j h = absurd (omega (arith, h))
 has_here r (false ∷ bs) zero h = has_before (r + 1) bs (r + 0) (omega arith)
 has_here r (true ∷ bs) zero h = let same : (r + 0 == r) ≡ true = eq-eqb (r + 0) r (add-zero r) in ap (λ (b : Bool). b || has (marks (r + 1) bs) (r + 0)) same
-has_here r (b ∷ bs) (suc j) h =
-    let next : r + suc j ≡ r + 1 + j = omega arith in
-    by_mark b (ap (has (marks (r + 1) bs)) next ∙ has_here (r + 1) bs j (omega (arith, h)))
-  where
-    other : (r + suc j == r) ≡ false
-    other = ne_eqb (r + suc j) r (λ e. omega (arith, e))
-
-    by_mark : (c : Bool) → has (marks (r + 1) bs) (r + suc j) ≡ get_or bs j false → has (cond c (r ∷ marks (r + 1) bs) (marks (r + 1) bs)) (r + suc j) ≡ get_or bs j false
-    by_mark false later = later
-    by_mark true later = ap (λ (b : Bool). b || has (marks (r + 1) bs) (r + suc j)) other ∙ later
+has_here r (b ∷ bs) (suc j) h = grind (arith, ne_eqb, has_here (r + 1) bs j (omega (arith, h)))
 
 -- ---- the marks afterwards
 
 stays : (m : ℕ → Bool) (sets : List (ℕ × ℕ)) (marked : List ℕ) (k : ℕ) → has marked k ≡ false → is_put sets k ≡ false → marks_after m sets marked k ≡ m k
-stays m sets marked k none beside = ap (λ (b : Bool). b || (m k && not (is_put sets k))) none ∙ ap (λ (b : Bool). m k && not b) beside ∙ plain (m k)
-  where
-    plain : (b : Bool) → (b && true) ≡ b
-    plain true = refl
-    plain false = refl
+stays m sets marked k none beside = grind arith
 
 is_set : (m : ℕ → Bool) (sets : List (ℕ × ℕ)) (marked : List ℕ) (k : ℕ) → is_put sets k ≡ true → marks_after m sets marked k ≡ has marked k
-is_set m sets marked k put = ap (λ (b : Bool). has marked k || (m k && not b)) put ∙ plain (has marked k) (m k)
-  where
-    plain : (b c : Bool) → (b || (c && false)) ≡ b
-    plain true c = refl
-    plain false true = refl
-    plain false false = refl
+is_set m sets marked k put = grind arith
 
 -- ---- bits of a word of which some are replaced
 
 -- those where the mask has a bit stay, and the others come from a second word
 kept_bit : (m mask s k : ℕ) → bit_at mask k ≡ 1 → bit_at s k ≡ 0 → bit (bit_or (bit_and m mask) s) k ≡ bit m k
-kept_bit m mask s k one none =
-    let both = bit_at_and m mask k in
-    let less = bit_at-lt m k in
-    let is : bit_at (bit_or (bit_and m mask) s) k ≡ bit_at m k = bit_at_or (bit_and m mask) s k ∙ omega (arith, both, one, none, less) in
-    ap (λ (n : ℕ). n == 1) is
+kept_bit m mask s k one none = grind (arith, bit_at_and, bit_at-lt, bit_at_or)
 
 new_bit : (m mask s k : ℕ) → bit_at mask k ≡ 0 → bit (bit_or (bit_and m mask) s) k ≡ bit s k
-new_bit m mask s k none =
-    let both = bit_at_and m mask k in
-    let is : bit_at (bit_or (bit_and m mask) s) k ≡ bit_at s k = bit_at_or (bit_and m mask) s k ∙ omega (arith, both, none) in
-    ap (λ (n : ℕ). n == 1) is
+new_bit m mask s k none = grind (arith, bit_at_and, bit_at_or)
 
 past_bit : (m mask s k : ℕ) → bit_at m k ≡ 0 → bit_at s k ≡ 0 → bit (bit_or (bit_and m mask) s) k ≡ bit m k
-past_bit m mask s k clear none =
-    let both = bit_at_and m mask k in
-    let is : bit_at (bit_or (bit_and m mask) s) k ≡ bit_at m k = bit_at_or (bit_and m mask) s k ∙ omega (arith, both, clear, none) in
-    ap (λ (n : ℕ). n == 1) is
+past_bit m mask s k clear none = grind (arith, bit_at_and, bit_at_or)
 
 shifted_low : (a r k : ℕ) → k < r → bit_at (a * 2 ^ r) k ≡ 0
 shifted_low a r k h = ap (λ (n : ℕ). bit_at n k) (sym (add-zero (a * 2 ^ r))) ∙ bit_at_cat_low a r 0 k h ∙ bit_at-zero k
@@ -151,20 +112,10 @@ abbrev replaced : ℕ → ℕ → ℕ → ℕ → ℕ
 replaced m new r n = bit_or (bit_and m (bit_not w64 (ones r n))) (moved new r n)
 
 past_moved : (new r n k : ℕ) → r + n ≤ k → bit_at (moved new r n) k ≡ 0
-past_moved new r n k h =
-    let both = bit_at_and new (2 ^ n - 1) (k - r) in
-    let none = bit_at_ones_above n (k - r) (omega (arith, h)) in
-    shifted_high (bit_and new (2 ^ n - 1)) r k (omega (arith, h)) ∙ omega (arith, both, none)
+past_moved new r n k h = grind (arith, bit_at_and, bit_at_ones_above, shifted_high)
 
 here_moved : (new r n j : ℕ) → j < n → bit_at (moved new r n) (r + j) ≡ bit_at new j
-here_moved new r n j h =
-    let both = bit_at_and new (2 ^ n - 1) j in
-    let one = bit_at_ones n j h in
-    let less = bit_at-lt new j in
-    let back : r + j - r ≡ j = omega arith in
-    shifted_high (bit_and new (2 ^ n - 1)) r (r + j) (omega arith)
-    ∙ ap (bit_at (bit_and new (2 ^ n - 1))) back
-    ∙ omega (arith, both, one, less)
+here_moved new r n j h = grind (arith, bit_at_and, bit_at_ones, bit_at-lt, shifted_high)
 
 pub group_marks : (m new r n : ℕ) (ws : List ℕ) → m < 2 ^ 32 → ones r n < 2 ^ 64 → r + n ≤ 32 → length ws ≡ n
     → bit (replaced m new r n) ≡ marks_after (bit m) (group r ws) (marks r (bits_of new n))
@@ -234,10 +185,7 @@ pub ones_small : (r n : ℕ) → r + n ≤ 32 → ones r n < 2 ^ 32
 ones_small r n few = small (2 ^ n - 1) r n (below_ones n) few
 
 moved_small : (new r n : ℕ) → r + n ≤ 32 → moved new r n < 2 ^ 32
-moved_small new r n few =
-    let most = and_le_r new (2 ^ n - 1) in
-    let less = below_ones n in
-    small (bit_and new (2 ^ n - 1)) r n (omega (arith, most, less)) few
+moved_small new r n few = grind (arith, and_le_r, below_ones, small)
 
 -- the word, from the mask of so many ones
 abbrev computed : ℕ → ℕ → ℕ → ℕ → ℕ
@@ -245,11 +193,7 @@ computed m new r g = bit_or (bit_and m (bit_not w64 (g * 2 ^ r % 2 ^ 64))) (bit_
 
 pub computed_is : (m new r n : ℕ) → r + n ≤ 32 → computed m new r (1 * 2 ^ n % 2 ^ 64 - 1) ≡ replaced m new r n
 computed_is m new r n few =
-    let mask = ones_small r n few in
-    let set = moved_small new r n few in
-    ap (λ (p : ℕ). computed m new r (p - 1)) (one_shl n 64 (omega (arith, few)))
-    ∙ ap (λ (x : ℕ). bit_or (bit_and m (bit_not w64 x)) (moved new r n % 2 ^ 64)) (mod-eq_of_lt (omega (arith, mask)))
-    ∙ ap (bit_or (bit_and m (bit_not w64 (ones r n)))) (mod-eq_of_lt (omega (arith, set)))
+    grind (arith, ones_small, and_le_r, pow_pos, mul-add-lt, pow-add, pow_mono, one_shl, mod-eq_of_lt)
 
 pub replaced_small : (m new r n : ℕ) → m < 2 ^ 32 → r + n ≤ 32 → replaced m new r n < 2 ^ 32
 replaced_small m new r n low few =
@@ -379,11 +323,7 @@ none_set a w (suc n) k none j h = by_first (bit w k) refl none (λ later i. none
         ap (bit w) next ∙ later none j (omega (arith, h))
 
 clear_bit : (w j : ℕ) → bit w j ≡ false → bit_at w j ≡ bit_at 0 j
-clear_bit w j clear =
-    let less = bit_at-lt w j in
-    let none = bit_at-zero j in
-    let apart : bit_at w j ≢ 1 = λ e. grind (arith, nat_tests, clear, e) in
-    omega (arith, less, none, apart)
+clear_bit w j clear = grind arith
 
 -- an effect whose marks are not 0 marks some byte
 pub some_stale : (e : Effect) → e.stale ≢ 0 → stale_in e ≢ []
@@ -416,7 +356,4 @@ marks_number m low = set-from_bits 32 m (bit m) low (λ k. by_place k (cases_lt 
 
 -- where nothing is marked, and nothing gets a mark, nothing is marked behind
 pub none_marked : (sets : List (ℕ × ℕ)) → bit 0 ≡ marks_after (bit 0) sets []
-none_marked sets = λ i k. at k i
-  where
-    at : (k : ℕ) → bit 0 k ≡ marks_after (bit 0) sets [] k
-    at k = bit_none k ∙ sym (ap (λ (b : Bool). b && not (is_put sets k)) (bit_none k))
+none_marked sets = grind arith

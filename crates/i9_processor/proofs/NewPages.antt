@@ -1,11 +1,11 @@
 -- Which pages are new, where room is made for writes and for frames.
-use Rattle.std.proofs.Common.{◌≡◌, ◌≢◌, ℕ, zero, suc, ◌+◌, ◌/◌, ◌<◌, List, [], ◌∷◌, ◌++◌, length, get_or, map, subst, arith}
+use Rattle.std.proofs.Common.{◌≢◌, ℕ, zero, suc, ◌+◌, ◌<◌, List, [], ◌∷◌, ◌++◌, length, get_or, map, subst, arith}
 use Rattle.std.proofs.lemmas.List.Concat.{flat_map-cons}
 use Rattle.i9_hex.specs.declared.segments.Segment.{Segment}
 use Rattle.i9_hex.specs.Shown.{part_of}
 use Rattle.i9_model.specs.State.{State}
 use Rattle.i9_model.specs.Image.{pairs_of, pairs_of_part}
-use Rattle.i9_model.specs.Writes.{wrapped, upwards}
+use Rattle.i9_model.specs.Writes.{upwards}
 use Rattle.i9_memory.specs.Memory.{IsReserved, IsApart, IsApartFrom}
 use Rattle.i9_watch.specs.Watch.{HasMarks}
 use Rattle.i9_storage.specs.declared.storage.Storage.{Storage}
@@ -29,19 +29,14 @@ later_apart (p ∷ ps) qs x apart = later_apart ps qs x apart.1
 -- bytes one by one are bytes in a row
 pub row_apart : (a : ℕ) (bs : List ℕ) (x : ℕ) → IsApartFrom (upwards a bs) x → IsApart a (length bs) x
 row_apart a [] x apart k h = absurd (omega (arith, h))
-row_apart a (b ∷ bs) x apart zero h =
-    let here : wrapped a ≡ wrapped (a + 0) = omega arith in subst (λ y. y / 256 ≢ x / 256) here apart.0
-row_apart a (b ∷ bs) x apart (suc k) h =
-    let next : wrapped (a + 1 + k) ≡ wrapped (a + suc k) = omega arith in
-    subst (λ y. y / 256 ≢ x / 256) next (row_apart (a + 1) bs x apart.1 k (omega (arith, h)))
+row_apart a (b ∷ bs) x apart zero h = grind arith
+row_apart a (b ∷ bs) x apart (suc k) h = grind (arith, row_apart (a + 1) bs x apart.1 k (omega (arith, h)))
 
 -- and a segment of an image
 pub segment_apart : (ss : List Segment) (k : ℕ) (d : Segment) (x : ℕ) → k < length ss → IsApartFrom (pairs_of (map part_of ss)) x → IsApart (get_or ss k d).address (length (get_or ss k d).bytes.items) x
 unfolding pairs_of
 segment_apart [] k d x h apart = absurd (omega (arith, h))
-segment_apart (s ∷ ss) zero d x h apart =
-    row_apart s.address s.bytes.items x
-    (first_apart (pairs_of_part (part_of s)) (pairs_of (map part_of ss)) x (subst (λ ps. IsApartFrom ps x) (flat_map-cons pairs_of_part (part_of s) (map part_of ss)) apart))
+segment_apart (s ∷ ss) zero d x h apart = grind (arith, row_apart, first_apart, flat_map-cons)
 segment_apart (s ∷ ss) (suc k) d x h apart =
     segment_apart ss k d x (omega (arith, h))
     (later_apart (pairs_of_part (part_of s)) (pairs_of (map part_of ss)) x (subst (λ ps. IsApartFrom ps x) (flat_map-cons pairs_of_part (part_of s) (map part_of ss)) apart))
@@ -54,13 +49,7 @@ run_apart e s x apart some = row_apart e.address e.bytes.items x (first_apart (r
 
 -- a frame that is saved is the one of the action
 pub move_bytes : (m : Move) (s : State) (old new : Storage) (x : ℕ) → AddsMoveOnly old new m → IsApartFromMove (move_in s m) x → IsReserved new.behind.memory x → IsReserved old.behind.memory x
-move_bytes moves.Stays s old new x only apart has = only.bytes x has
-move_bytes (moves.Saves push back) s old new x only apart has = only.bytes x apart has
-move_bytes (moves.Returns frame) s old new x only apart has = only.bytes x has
-move_bytes moves.Flushes s old new x only apart has = only.bytes x has
+move_bytes m s old new x only apart has = grind arith
 
 pub move_marks : (m : Move) (s : State) (old new : Storage) (x : ℕ) → AddsMoveOnly old new m → IsApartFromMove (move_in s m) x → HasMarks new.watch x → HasMarks old.watch x
-move_marks moves.Stays s old new x only apart has = only.marks x has
-move_marks (moves.Saves push back) s old new x only apart has = only.marks x apart has
-move_marks (moves.Returns frame) s old new x only apart has = only.marks x has
-move_marks moves.Flushes s old new x only apart has = only.marks x has
+move_marks m s old new x only apart has = grind arith

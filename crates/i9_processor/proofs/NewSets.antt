@@ -1,5 +1,5 @@
 -- New sets that were made for an effect can take the place of the others, and are as many as there are to be.
-use Rattle.std.proofs.Common.{◌≡◌, ℕ, List, [], Option, Some, None, ap}
+use Rattle.std.proofs.Common.{◌≡◌, ℕ, List, Option, arith}
 use Rattle.i9_model.specs.Memory.{Memory}
 use Rattle.i9_model.specs.Step.{Move}
 use Rattle.i9_model.specs.Free.{ComesAfterFlush}
@@ -10,19 +10,7 @@ use Rattle.i9_processor.specs.declared.effect.Control.TheVariants as controls
 use Rattle.i9_processor.specs.Effect.{control_in, AreMade, CanTake, size_with}
 
 pub made_size : (asked : Option ℕ) (m : Memory) (c : Control) (made : Option Held) (n : ℕ) → AreMade asked m c made → size_with made n ≡ renewed asked m (control_in c) n
-made_size asked m controls.Keeps made n is = ap (λ (h : Option Held). size_with h n) is
-made_size asked m (controls.Restarts first prcb) made n is = ap (λ (h : Option Held). size_with h n) is
-made_size asked m (controls.LoadsGroup group) made n is = ap (λ (h : Option Held). size_with h n) is
-
-no_sets : (v : Move) (made : Option Held) → made ≡ None → CanTake v made
-no_sets v None is = tt
-no_sets v (Some h) is = absurd cc
+made_size asked m c made n is = grind arith
 
 pub made_takes : (asked : Option ℕ) (m : Memory) (c : Control) (made : Option Held) (v : Move) (writes : List (ℕ × ℕ)) → AreMade asked m c made → ComesAfterFlush (control_in c) v writes → CanTake v made
-made_takes asked m controls.Keeps made v writes is after = no_sets v made is
-made_takes asked m (controls.LoadsGroup group) made v writes is after = no_sets v made is
-made_takes asked m (controls.Restarts first prcb) None v writes is after = tt
-made_takes asked m (controls.Restarts first prcb) (Some h) v writes is after = (after.0, none h is)
-  where
-    none : (h : Held) → AreMade asked m (controls.Restarts first prcb) (Some h) → h.frames ≡ []
-    none h e = cc
+made_takes asked m c made v writes is after = grind arith

@@ -1,11 +1,10 @@
 -- What a push by marked pointers meets before its save area, and that one by others meets nothing else.
-use Rattle.std.proofs.Common.{◌≡◌, ℕ, Bool, true, false, cond, List, Option, Some, None, Result, Ok, Err, refl, sym, ap, ◌∙◌}
-use Rattle.std.specs.Prelude.{◌||◌, ◌&&◌, not, nat_le, unwrap_or}
+use Rattle.std.proofs.Common.{◌≡◌, ℕ, Bool, false, cond, Option, Some, None, Result, Ok, Err, sym, ap, arith}
+use Rattle.std.specs.Prelude.{◌||◌, not, nat_le, unwrap_or}
 use Rattle.i9_isa.specs.Words.{bit}
 use Rattle.i9_model.specs.declared.layout.TheConstants.{FP, SP, MOST_SYSTEM_CALL, LOCAL_RETURN}
 use Rattle.i9_model.specs.declared.interrupts.TheConstants.{INTERRUPTED_PLACE}
 use Rattle.i9_model.specs.declared.interrupts.Chosen.{Chosen}
-use Rattle.i9_model.specs.declared.push.Push.{Push}
 use Rattle.i9_model.specs.declared.calls.Sys.{Sys}
 use Rattle.i9_model.specs.declared.calls.CallsStop.{CallsStop}
 use Rattle.i9_model.specs.declared.calls.CallsStop.TheVariants as calls
@@ -15,15 +14,14 @@ use Rattle.i9_model.specs.declared.faults.FaultStop.{FaultStop}
 use Rattle.i9_model.specs.declared.faults.FaultStop.TheVariants as faults
 use Rattle.i9_model.specs.State.{State}
 use Rattle.i9_model.specs.Frames.{rounded_down, pushed}
-use Rattle.i9_model.specs.Hazards.{or_else, unless, read_hazard, save_hazard, record_write_hazard}
+use Rattle.i9_model.specs.Hazards.{or_else, unless, read_hazard, save_hazard}
 use Rattle.i9_model.specs.Stale.{push_mark, area_hazard}
-use Rattle.i9_model.specs.Calls.{caller_in, save_area, system_hazard_by, system_hazard, system_entered, call_type, calls_answer, planned_call, planned_calls}
+use Rattle.i9_model.specs.Calls.{caller_in, save_area, system_hazard, system_entered, call_type, calls_answer, planned_call, planned_calls}
 use Rattle.i9_model.specs.Faults.{planned_fault_by}
-use Rattle.i9_model.specs.Interrupts.{vector_place, interrupt_push, interrupt_record, cleared_hazard, interrupt_hazard, interrupt_entry, planned_interrupt, planned_interrupt_by}
+use Rattle.i9_model.specs.Interrupts.{vector_place, interrupt_push, interrupt_record, interrupt_hazard, interrupt_entry, planned_interrupt, planned_interrupt_by}
 use Rattle.i9_model.specs.Before.{interrupt_in}
 use Rattle.i9_model.specs.Run.{entry_in}
 use Rattle.i9_calls.specs.Switches.{system_switch}
-use Rattle.i9_calls.proofs.Switching.{system-goes_on}
 use Rattle.i9_faults.specs.Switches.{fault_switch}
 use Rattle.i9_faults.proofs.Switching.{fault-stops, fault-alike, fault-refused}
 use Rattle.i9_processor.specs.Entries.{call_in, calls_in}
@@ -37,18 +35,6 @@ area_plain s b none = ap (λ (o : Option ℕ). or_else o (save_hazard s.frames (
 -- and else the instruction address
 area_marked : (s : State) (b : Bool) (a : ℕ) → push_mark s b ≡ Some a → area_hazard s b ≡ Some a
 area_marked s b a some = ap (λ (o : Option ℕ). or_else o (save_hazard s.frames (rounded_down (s.regs FP)))) some
-
-none_marked : (s : State) (b : Bool) → (s.marks FP || s.marks SP) ≡ false → push_mark s b ≡ None
-none_marked s b none = by_marks (s.marks FP) (s.marks SP) b none
-  where
-    by_marks : (p q c : Bool) → (p || q) ≡ false → cond (p || (not c && q)) (Some s.ip) None ≡ None
-    by_marks true q c h = absurd cc
-    by_marks false true c h = absurd cc
-    by_marks false false true h = refl
-    by_marks false false false h = refl
-
-area_of : (s : State) → (s.marks FP || s.marks SP) ≡ false → area_hazard s ≡ save_area s.frames (s.regs FP)
-area_of s none = λ i b. area_plain s b (none_marked s b none) i
 
 -- ---- a call to an address
 
@@ -68,16 +54,12 @@ calls_by s n hazard = cond (nat_le n MOST_SYSTEM_CALL) (calls_answer (unless haz
 
 pub calls_plain : (s : State) (n : ℕ) → (s.marks FP || s.marks SP) ≡ false → planned_calls (caller_in s) s.tables.system_table n ≡ calls_in s n
 unfolding system_hazard
-calls_plain s n none = sym (ap (λ (area : Bool → Option ℕ). calls_by s n (system_hazard_by s.memory s.frames s.tables.system_table n s.pc area)) (area_of s none))
+calls_plain s n none = grind arith
 
 pub calls_goes_on : (s : State) (n : ℕ) (b : Bool) → system_switch s.memory s.frames s.tables.system_table n s.pc ≡ Ok b → push_mark s b ≡ None
     → planned_calls (caller_in s) s.tables.system_table n ≡ calls_in s n
 unfolding system_hazard
-calls_goes_on s n b e none =
-    ap (calls_by s n)
-    (system-goes_on s.memory s.frames s.tables.system_table n s.pc (save_area s.frames (s.regs FP)) b e
-    ∙ sym (area_plain s b none)
-    ∙ sym (system-goes_on s.memory s.frames s.tables.system_table n s.pc (area_hazard s) b e))
+calls_goes_on s n b e none = grind arith
 
 -- ---- the entry of a fault
 
@@ -95,8 +77,7 @@ fault_stop s fault stop e = sym (fault-stops (caller_in s) s.tables.fault_table 
 
 pub fault_marked : (s : State) (fault : Fault) (b : Bool) (a : ℕ) → fault_switches s fault ≡ Ok b → push_mark s b ≡ Some a → Err (faults.Hazard a) ≡ entry_in s fault
 unfolding entry_in
-fault_marked s fault b a e some =
-    sym (fault-refused (caller_in s) s.tables.fault_table s.tables.system_table fault s.ac (area_hazard s) b a e (area_marked s b a some))
+fault_marked s fault b a e some = grind (arith, fault-refused)
 
 pub fault_goes_on : (s : State) (fault : Fault) (b : Bool) → fault_switches s fault ≡ Ok b → push_mark s b ≡ None → fault_by s fault (save_area s.frames (s.regs FP)) ≡ entry_in s fault
 unfolding entry_in
@@ -124,17 +105,5 @@ interrupt_plain s c none = sym (ap (interrupt_by s c) (area_plain s (leaves_stac
 -- the vector's word is read before
 pub interrupt_marked : (s : State) (c : Chosen) (a : ℕ) → push_mark s (leaves_stack s) ≡ Some a
     → Err (unwrap_or (read_hazard s.frames (vector_place s.tables.interrupt_table c.vector) 4) a) ≡ interrupt_in s c
-unfolding interrupt_in planned_interrupt_by interrupt_hazard
-interrupt_marked s c a some =
-    sym (ap (interrupt_by s c) (area_marked s (leaves_stack s) a some) ∙ by_vector (read_hazard s.frames (vector_place s.tables.interrupt_table c.vector) 4))
-  where
-    push : Push
-    push = interrupt_push s.tables.interrupt_stack s.pc (s.regs FP) (s.regs SP)
-
-    words : List ℕ
-    words = interrupt_record c.vector s.pc s.ac
-
-    by_vector : (o : Option ℕ)
-        → unless (or_else o (or_else (Some a) (or_else (record_write_hazard s.frames push) (cleared_hazard s.memory s.frames s.tables.interrupt_table c push words)))) (interrupt_entry s.memory s.tables.interrupt_table c push words) ≡ Err (unwrap_or o a)
-    by_vector None = refl
-    by_vector (Some x) = refl
+unfolding interrupt_hazard interrupt_in planned_interrupt_by
+interrupt_marked s c a some = grind arith

@@ -1,5 +1,5 @@
 -- The latest values of the register file as a function.
-use Rattle.std.proofs.Common.{◌≡◌, ℕ, zero, suc, ◌+◌, ◌<◌, ◌≤◌, Bool, true, false, cond, eqb, List, [], ◌∷◌, ◌++◌, ◌*◌, ◌/◌, ◌%◌, ◌-◌, nat_lt, slice_index, length, get_or, take, map, add-one, add-zero, zero-add, refl, sym, ap, ◌∙◌, arith}
+use Rattle.std.proofs.Common.{◌≡◌, ℕ, zero, suc, ◌+◌, ◌<◌, ◌≤◌, Bool, true, false, cond, List, [], ◌∷◌, ◌++◌, ◌%◌, ◌-◌, nat_lt, slice_index, length, get_or, take, map, add-one, add-zero, zero-add, refl, sym, ap, ◌∙◌, arith}
 use Rattle.std.proofs.lemmas.List.{take_all}
 use Rattle.std.proofs.lemmas.Bool.{cond-true, cond-false}
 use Rattle.std.proofs.lemmas.Bool.Decides.{nat_tests}
@@ -31,45 +31,25 @@ registers_past cs r high = cond-false (nat_lt r 32) (latest (cell_in cs r)) 0 (g
 abbrev Beside : File → File → ℕ → Type 0
 Beside olds news r = (k : ℕ) → (k ≡ r → ⊥) → cell_in news k ≡ cell_in olds k
 
-set_at : (olds news : File) (r v x : ℕ) (b : Bool) → r < 32 → cell_in news r ≡ still v → Beside olds news r
-    → eqb x r ≡ b → registers_of news x ≡ cond b v (registers_of olds x)
-unfolding registers_of
-set_at olds news r v x true h here others t =
-    let same : x ≡ r = grind (arith, nat_tests, t) in
-    ap (registers_of news) same ∙ registers_at news r h ∙ ap latest here
-set_at olds news r v x false h here others t =
-    let apart : x ≡ r → ⊥ = λ same. grind (arith, nat_tests, t, same) in
-    ap (λ (c : Cell). cond (nat_lt x 32) (latest c) 0) (others x apart)
-
 pub registers_of-set : (olds news : File) (r v : ℕ) → r < 32 → cell_in news r ≡ still v
     → ((k : ℕ) → (k ≡ r → ⊥) → cell_in news k ≡ cell_in olds k) → registers_of news ≡ put (registers_of olds) r v
-registers_of-set olds news r v h here others = λ i x. set_at olds news r v x (eqb x r) h here others refl i
+unfolding registers_of
+registers_of-set olds news r v h here others = grind arith
 
 pub code_of-set : (olds news : File) (r : ℕ) → r < 32
     → ((k : ℕ) → (k ≡ r → ⊥) → cell_in news k ≡ cell_in olds k)
     → cell_in news CONDITION_CODE ≡ cell_in olds CONDITION_CODE
 code_of-set olds news r h others = others CONDITION_CODE (λ same. omega (arith, h, same))
 
--- the condition code is no register
-beside_at : (olds news : File) (x : ℕ) (b : Bool) → Beside olds news CONDITION_CODE → nat_lt x 32 ≡ b
-    → cond b (latest (cell_in news x)) 0 ≡ cond b (latest (cell_in olds x)) 0
-beside_at olds news x true others low =
-    let apart : x ≡ CONDITION_CODE → ⊥ = λ same. grind (arith, nat_tests, low, same) in
-    ap latest (others x apart)
-beside_at olds news x false others low = refl
-
 pub registers_beside : (olds news : File) → ((k : ℕ) → (k ≡ CONDITION_CODE → ⊥) → cell_in news k ≡ cell_in olds k)
     → registers_of news ≡ registers_of olds
 unfolding registers_of
-registers_beside olds news others = λ i x. beside_at olds news x (nat_lt x 32) others refl i
-
-whole : (a : ℕ) → (a - a % 8) / 8 * 8 + a % 8 % 8 ≡ a
-whole a = omega arith
+registers_beside olds news others = grind arith
 
 pub arithmetic_of-set : (news : File) (a : ℕ) → cell_in news CONDITION_CODE ≡ still (a % 8)
     → arithmetic_of (a - a % 8) news ≡ a
 unfolding arithmetic_of
-arithmetic_of-set news a code = ap (λ (c : Cell). (a - a % 8) / 8 * 8 + latest c % 8) code ∙ whole a
+arithmetic_of-set news a code = grind arith
 
 no_value : (b : Bool) → ◌≡◌ {A = ℕ} (cond b 0 0) 0
 no_value true = refl
@@ -85,17 +65,11 @@ registers_of-zeros f zeros = λ i x.
 pairs_next : (n : ℕ) (xs : List ℕ) (k : ℕ) → k < length xs → pairs_at (λ r. r) n (take (suc k) xs) ≡ pairs_at (λ r. r) n (take k xs) ++ (n + k, get_or xs k 0) ∷ []
 pairs_next n [] k h = absurd (omega arith)
 pairs_next n (x ∷ xs) zero h = let here : n ≡ n + 0 = omega arith in ap (λ (m : ℕ). (m, x) ∷ []) here
-pairs_next n (x ∷ xs) (suc k) h =
-    let place : n + 1 + k ≡ n + suc k = omega arith in
-    ap (λ (ps : List (ℕ × ℕ)). (n, x) ∷ ps) (pairs_next (n + 1) xs k (omega arith))
-    ∙ ap (λ (m : ℕ). (n, x) ∷ pairs_at (λ r. r) (n + 1) (take k xs) ++ (m, get_or xs k 0) ∷ []) place
+pairs_next n (x ∷ xs) (suc k) h = grind (arith, pairs_next (n + 1) xs k (omega arith))
 
 pub written_more : (f : ℕ → ℕ) (n : ℕ) (xs : List ℕ) (k : ℕ) → k < length xs → written f (pairs_at (λ r. r) n (take (k + 1) xs)) ≡ put (written f (pairs_at (λ r. r) n (take k xs))) (n + k) (get_or xs k 0)
 unfolding written
-written_more f n xs k h =
-    ap (λ (j : ℕ). written f (pairs_at (λ r. r) n (take j xs))) (add-one k)
-    ∙ ap (written f) (pairs_next n xs k h)
-    ∙ written-append f (pairs_at (λ r. r) n (take k xs)) ((n + k, get_or xs k 0) ∷ [])
+written_more f n xs k h = grind (arith, add-one, pairs_next, written-append)
 
 pub written_all : (f : ℕ → ℕ) (n : ℕ) (xs : List ℕ) (k : ℕ) → length xs ≤ k → written f (pairs_at (λ r. r) n (take k xs)) ≡ written f (pairs_at (λ r. r) n xs)
 written_all f n xs k h = ap (λ (ys : List ℕ). written f (pairs_at (λ r. r) n ys)) (take_all k xs h)
@@ -126,7 +100,6 @@ registers_in_order f regs len are = listed f 0 32 regs len (λ k h. ap f (zero-a
 -- and by the latest values
 pub register_list-of : (cs : File) (regs : List ℕ) → length regs ≡ 32
     → ((r : ℕ) → r < 32 → slice_index regs r ≡ latest (cell_in cs r)) → register_list (registers_of cs) ≡ regs
-register_list-of cs regs len are =
-    registers_in_order (registers_of cs) regs len (λ r h. are r h ∙ sym (registers_at cs r h))
+register_list-of cs regs len are = grind (arith, registers_in_order, registers_at)
 
 pub ruleset register_rules = (registers_at, registers_past)

@@ -13,7 +13,7 @@ use Rattle.i9_processor.specs.declared.effect.Move.{Move}
 use Rattle.i9_processor.specs.declared.effect.Move.TheVariants as moves
 use Rattle.i9_processor.specs.declared.processor.Processor.{Processor}
 use Rattle.i9_processor.proofs.Appending.{first_spacious, later_spacious, spacious_kept}
-use Rattle.i9_processor.specs.Effect.{action_in, run_in, requests_in, move_in, HasMoveSpace, HasSpaceFor, HasRoomToMove, HasRoomFor, AreMarkable, KeepsRoom}
+use Rattle.i9_processor.specs.Effect.{action_in, HasMoveSpace, HasSpaceFor, HasRoomToMove, HasRoomFor, AreMarkable, KeepsRoom}
 use Rattle.i9_processor.proofs.MarkBits.{some_stale}
 
 -- bytes one by one are bytes in a row
@@ -60,24 +60,7 @@ markable_kept s t [] keeps all = tt
 markable_kept s t (p ∷ ps) keeps all = ((λ k lt. keeps (wrapped (p.0 + k)) (all.0 k lt)), markable_kept s t ps keeps all.1)
 
 pub room_kept : (p q : Processor) → KeepsSpace p.storage q.storage → KeepsSoftSpace p.storage q.storage → KeepsFrameSpace p.storage q.storage → KeepsRoom p q
-room_kept p q keeps soft frames = λ a room. record {
-  bytes = spacious_kept p.storage q.storage a.writes keeps room.bytes;
-  soft = λ some. markable_kept p.storage q.storage a.writes soft (room.soft some);
-  frames = save_kept p.storage q.storage a.move frames room.frames;
-}
-
-move_space : (s : Storage) (t : State) (m : Move) → HasRoomToMove s (move_in t m) → HasMoveSpace s m
-move_space s t moves.Stays room = tt
-move_space s t (moves.Saves push back) room = room
-move_space s t (moves.Returns frame) room = tt
-move_space s t moves.Flushes room = tt
+room_kept p q keeps soft frames = grind (arith, spacious_kept, markable_kept, save_kept)
 
 pub room_space : (p : Processor) (s : State) (e : Effect) → HasRoomFor p (action_in s e) → HasSpaceFor p e
-room_space p s e room = record {
-  run = record {
-    bytes = row_space p.storage e.address e.bytes.items (first_spacious p.storage (run_in e) (requests_in e.requests) room.bytes);
-    soft = λ some. row_marks p.storage e.address e.bytes.items (first_markable p.storage (run_in e) (requests_in e.requests) (room.soft (some_stale e some)));
-  };
-  requests = later_spacious p.storage (run_in e) (requests_in e.requests) room.bytes;
-  frames = move_space p.storage s e.frames room.frames;
-}
+room_space p s e room = grind (arith, row_space, first_spacious, row_marks, first_markable, some_stale, later_spacious)

@@ -1,4 +1,4 @@
-use Rattle.std.proofs.Common.{ap, ◌∙◌}
+use Rattle.std.proofs.Common.{ap, ◌∙◌, arith}
 use Rattle.i9_model.specs.Memory.{Memory, with_writes}
 use Rattle.i9_model.specs.State.{Frames}
 use Rattle.i9_model.specs.Frames.{wrote}
@@ -6,29 +6,22 @@ use Rattle.i9_model.specs.Hazards.{writes_hazard}
 use Rattle.i9_model.specs.HeldFrames.{cache_stored}
 use Rattle.i9_storage.specs.Storage.{cache_of, memory_in, frames_in}
 use Rattle.i9_processor.specs.Effect.{requests_in, run_in}
-use Rattle.i9_processor.proofs.Appending.{cache_append, memory_append, marked_append, first_free, later_free, spacious_kept, longer_first, none_first, none_later}
+use Rattle.i9_processor.proofs.Appending.{cache_append, memory_append, marked_append, first_free, later_free, longer_first, none_first, none_later}
 use Rattle.i9_processor.proofs.Applying.{run_long, run_none}
 use Rattle.i9_processor.proofs.apply.store_bytes.Goals as goal
 
 pub store_run-requires-clause-drained : goal.store_run-requires-clause-drained
-store_run-requires-clause-drained c some =
-    let e = c.args.e.now in
-    c.requires.drained (longer_first (run_in e) (requests_in e.requests) (run_long e.address e.bytes.items some))
+store_run-requires-clause-drained c some = grind (arith, longer_first, run_long)
 
 pub store_run-requires-clause-free : goal.store_run-requires-clause-free
-store_run-requires-clause-free c =
-    let e = c.args.e.now in first_free (frames_in c.args.storage.now) (run_in e) (requests_in e.requests) c.requires.free
+store_run-requires-clause-free c = grind (arith, first_free)
 
 pub store_requests-requires-clause-space : goal.store_requests-requires-clause-space
-store_requests-requires-clause-space c =
-    spacious_kept c.args.storage.now c.store_run.new.storage (requests_in c.args.e.now.requests) c.store_run.ensures.keeps.pages.space c.requires.requests
+store_requests-requires-clause-space c = grind arith
 
 pub store_requests-requires-clause-free : goal.store_requests-requires-clause-free
 unfolding writes_hazard
-store_requests-requires-clause-free c =
-    let e = c.args.e.now in
-    ap (λ (f : Frames). writes_hazard f (requests_in e.requests)) c.store_run.ensures.stores.frames
-    ∙ later_free (frames_in c.args.storage.now) (run_in e) (requests_in e.requests) (run_in e) c.requires.free
+store_requests-requires-clause-free c = grind (arith, later_free)
 
 pub returns-clause-stores : goal.returns-clause-stores
 returns-clause-stores c =
@@ -44,7 +37,4 @@ returns-clause-stores c =
     }
 
 pub returns-clause-acted : goal.returns-clause-acted
-returns-clause-acted c none =
-    let e = c.args.e.now in
-    c.store_requests.ensures.acted (none_later (run_in e) (requests_in e.requests) none)
-    ∙ c.store_run.ensures.acted (run_none e.address e.bytes.items (none_first (run_in e) (requests_in e.requests) none))
+returns-clause-acted c none = grind (arith, none_later, run_none, none_first)

@@ -1,4 +1,4 @@
-use Rattle.std.proofs.Common.{ap, ◌∙◌}
+use Rattle.std.proofs.Common.{ap, ◌∙◌, arith}
 use Rattle.i9_model.specs.Memory.{Memory, with_writes}
 use Rattle.i9_model.specs.State.{Frames}
 use Rattle.i9_model.specs.Frames.{wrote}
@@ -6,21 +6,17 @@ use Rattle.i9_model.specs.Hazards.{writes_hazard}
 use Rattle.i9_model.specs.HeldFrames.{cache_stored}
 use Rattle.i9_storage.specs.Storage.{cache_of, memory_in, frames_in}
 use Rattle.i9_processor.specs.Effect.{one_in}
-use Rattle.i9_processor.proofs.Appending.{cache_append, memory_append, frames_append, first_free, later_free, spacious_kept, first_spacious, later_spacious}
+use Rattle.i9_processor.proofs.Appending.{cache_append, memory_append, frames_append, first_free, later_free}
 use Rattle.i9_processor.proofs.apply.store_requests.Goals as goal
 
 pub store_one-requires-clause-space : goal.store_one-requires-clause-space
-store_one-requires-clause-space c =
-    let r = c.args.requests.now in first_spacious c.args.storage.now (one_in (r.first)) (one_in (r.second)) c.requires.space
+store_one-requires-clause-space c = grind arith
 
 pub store_one-requires-clause-free : goal.store_one-requires-clause-free
-store_one-requires-clause-free c =
-    let r = c.args.requests.now in first_free (frames_in c.args.storage.now) (one_in (r.first)) (one_in (r.second)) c.requires.free
+store_one-requires-clause-free c = grind (arith, first_free)
 
 pub store_one-requires-2-clause-space : goal.store_one-requires-2-clause-space
-store_one-requires-2-clause-space c =
-    let r = c.args.requests.now in
-    spacious_kept c.args.storage.now c.store_one.new.storage (one_in (r.second)) c.store_one.ensures.keeps.pages.space (later_spacious c.args.storage.now (one_in (r.first)) (one_in (r.second)) c.requires.space)
+store_one-requires-2-clause-space c = grind arith
 
 pub store_one-requires-2-clause-free : goal.store_one-requires-2-clause-free
 store_one-requires-2-clause-free c =

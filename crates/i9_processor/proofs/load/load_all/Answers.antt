@@ -1,4 +1,4 @@
-use Rattle.std.proofs.Common.{◌≡◌, ℕ, ◌<◌, List, length, get_or, map, sym, subst, arith}
+use Rattle.std.proofs.Common.{◌≡◌, ℕ, ◌<◌, List, length, get_or, map, arith}
 use Rattle.i9_hex.specs.declared.segments.Segment.{Segment}
 use Rattle.i9_hex.specs.Shown.{part_of}
 use Rattle.i9_model.specs.Image.{pairs_of}
@@ -9,19 +9,10 @@ use Rattle.i9_processor.proofs.load.load_all.Goals as goal
 
 -- what is apart from an image is apart from the bytes of each segment
 item_apart : (ss : List Segment) (k : ℕ) (s : Segment) (bs : List ℕ) (x : ℕ) → k < length ss → s ≡ get_or ss k s → bs ≡ s.bytes.items → IsApartFrom (pairs_of (map part_of ss)) x → IsApart s.address (length bs) x
-item_apart ss k s bs x h is same apart =
-    subst (λ ys. IsApart s.address (length ys) x) (sym same)
-    (subst (λ (t : Segment). IsApart t.address (length t.bytes.items) x) (sym is) (segment_apart ss k s x h apart))
+item_apart ss k s bs x h is same apart = grind (arith, segment_apart)
 
 pub returns-in_err-load-clause-only : goal.returns-in_err-load-clause-only
-returns-in_err-load-clause-only c x apart has =
-    let at = item_apart c.args.segments.now c.loop-segment.segment-index c.segment-item.result c.deref.result.now x (omega arith) c.segment-item.is c.deref.ensures.value apart in
-    c.loop-segment.invariant.only x apart (c.load.ensures.only x at has)
+returns-in_err-load-clause-only c x apart has = grind (arith, segment_apart)
 
 pub loop-segment-preserved : goal.loop-segment-preserved
-loop-segment-preserved c = record {
-  rest = grind (arith, load_rules);
-  only = λ x apart has.
-      let at = item_apart c.args.segments.now c.loop-segment.segment-index c.segment-item.result c.deref.result.now x (omega arith) c.segment-item.is c.deref.ensures.value apart in
-      c.loop-segment.invariant.only x apart (c.load.ensures.only x at has);
-}
+loop-segment-preserved c = grind (arith, load_rules, segment_apart)

@@ -1,5 +1,4 @@
-use Rattle.std.proofs.Common.{rules, ℕ, ◌^◌, ◌<◌, ap, sym, ◌∙◌, subst, arith}
-use Rattle.std.proofs.Math.Facts.{Fits-of_lt}
+use Rattle.std.proofs.Common.{rules, ◌^◌, ◌<◌, ap, ◌∙◌, arith}
 use Rattle.i9_isa.specs.Words.{bit}
 use Rattle.i9_model.specs.Writes.{pairs_at}
 use Rattle.i9_model.specs.Controls.{marks_after}
@@ -11,20 +10,10 @@ use Rattle.i9_processor.proofs.marks.with_group.Goals as goal
 
 -- nothing is marked, and nothing gets a mark
 pub returns-then-new-eq0 : goal.returns-then-new-eq0
-returns-then-new-eq0 c = λ words long.
-    let r = c.args.r in
-    let n = c.args.n in
-    let sets = pairs_at (λ k. k) r words in
-    none_marked sets
-    ∙ ap (marks_after (bit 0) sets) (sym (none_picked (λ k. k) r n))
-    ∙ ap (λ m. marks_after (bit m) sets (picked (λ k. k) r (bits_of 0 n))) (sym c.if-marks-eq0.true)
-    ∙ ap (λ w. marks_after (bit c.args.marks) sets (picked (λ k. k) r (bits_of w n))) (sym c.if-new-eq0.true)
+returns-then-new-eq0 c = grind (arith, none_marked, none_picked)
 
 pub overflow_cast-result : goal.overflow_cast-result
-overflow_cast-result c =
-    let m = c.from-2.result in
-    let low : m < 2 ^ 32 = search rules in
-    Fits-of_lt (subst (λ (x : ℕ). x < 2 ^ 32) (sym (computed_is m c.from.result c.args.r c.args.n c.requires.range)) (replaced_small m c.from.result c.args.r c.args.n low c.requires.range))
+overflow_cast-result c = grind (arith, computed_is, replaced_small)
 
 pub returns : goal.returns
 returns c = λ words long.

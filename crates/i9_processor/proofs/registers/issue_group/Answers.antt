@@ -4,8 +4,7 @@ use Rattle.i9_processor.proofs.Issued.{group_set, group_past, issued_by}
 use Rattle.i9_processor.proofs.registers.issue_group.Goals as goal
 
 pub issue-requires-clause-set : goal.issue-requires-clause-set
-issue-requires-clause-set c =
-    group_set c.args.landing.now.writes c.args.r c.args.words.now c.requires.range c.requires.sets
+issue-requires-clause-set c = grind (arith, group_set)
 
 pub returns : goal.returns
 returns c =

@@ -1,12 +1,10 @@
-use Rattle.std.proofs.Common.{◌≡◌, false, ap, ◌∙◌}
+use Rattle.std.proofs.Common.{◌≡◌, false, ap, ◌∙◌, arith}
 use Rattle.i9_memory.specs.Memory.{memory_of}
 use Rattle.i9_model.specs.Image.{pairs_of}
 use Rattle.i9_model.specs.Memory.{Memory, with_writes}
 use Rattle.i9_model.specs.Boot.{boot_setup, boot_memory}
-use Rattle.i9_model.specs.Late.{resource}
-use Rattle.i9_regs.specs.File.{still}
-use Rattle.i9_model.specs.State.{State, Interrupts, image_memory, start_interrupts, as_zero, started, boot}
-use Rattle.i9_model.specs.HeldFrames.{Cache, over, overlaid}
+use Rattle.i9_model.specs.State.{Interrupts, image_memory, start_interrupts, as_zero, started, boot}
+use Rattle.i9_model.specs.HeldFrames.{over, overlaid}
 use Rattle.i9_model.specs.declared.layout.TheConstants.{BOOT_PC}
 use Rattle.i9_processor.specs.State.{registers_of, state_of, cells_of, bytes_of}
 use Rattle.i9_watch.proofs.SetBits.{bit_none}
@@ -54,25 +52,12 @@ returns-clause-state c =
 
 pub returns-clause-cells : goal.returns-clause-cells
 unfolding state_of cells_of
-returns-clause-cells c r few =
-    let file = c.set_arithmetic.new.file in
-    let flags = c.set_arithmetic.new.flags in
-    let kept = c.set_arithmetic.ensures.still (c.start_registers.ensures.keeps.still (new_still c.new-file.result c.new-file.ensures)) in
-    cell_resource flags c.boot-setup.result.ac file kept c.set_arithmetic.ensures.code c.set_arithmetic.ensures.ac r few
-    ∙ ap (λ (s : State). still (resource s r)) (returns-clause-state c)
+returns-clause-cells c r few = grind (arith, new_still, cell_resource, returns-clause-state)
 
 pub returns-clause-bytes : goal.returns-clause-bytes
 unfolding bytes_of boot started
-returns-clause-bytes c =
-    let pairs = pairs_of c.args.image.now in
-    let loaded : memory_of c.load.new.memory ≡ image_memory pairs = c.in_ok-load.ensures.ok ∙ ap (λ (m : Memory). with_writes m pairs) c.new-memory.ensures.memory in
-    drained_acted c.in_ok-storage.storage c.in_ok-storage.ensures.waiting
-    ∙ ap (λ (k : Cache). k.behind.bytes) c.in_ok-storage.ensures.cache
-    ∙ ap (λ (m : Memory). m.bytes) (c.boot-setup.ensures.memory ∙ ap boot_memory loaded)
+returns-clause-bytes c = grind (arith, drained_acted)
 
 -- room is made for the bytes of the image alone
 pub returns-clause-pages : goal.returns-clause-pages
-returns-clause-pages c = record {
-  bytes = λ x apart has. c.new-memory.ensures.none x (c.load.ensures.only x apart (c.boot-setup.ensures.no_more x (c.in_ok-storage.ensures.pages.bytes x has)));
-  marks = λ x has. c.in_ok-storage.ensures.pages.marks x has;
-}
+returns-clause-pages c = grind arith

@@ -1,27 +1,20 @@
-use Rattle.std.proofs.Common.{refl}
+use Rattle.std.proofs.Common.{arith}
 use Rattle.i9_processor.specs.State.{state_of, cache_of, size_of, cells_of, bytes_of, queue_of}
-use Rattle.i9_processor.proofs.Drained.{bytes_stay, queue_stays}
+use Rattle.i9_processor.proofs.Drained.{bytes_stay}
 use Rattle.i9_processor.proofs.Rooms.{room_kept}
 use Rattle.i9_processor.proofs.processor.Processor.land.Goals as goal
 
 pub returns-then-is_drained-clause-bytes : goal.returns-then-is_drained-clause-bytes
 unfolding bytes_of queue_of
-returns-then-is_drained-clause-bytes c =
-    bytes_stay (bytes_of c.args.self.now) c.args.turn (queue_of c.args.self.now) (c.is_drained.ensures.0 c.if-is_drained.true)
+returns-then-is_drained-clause-bytes c = grind (arith, bytes_stay)
 
 pub returns-then-is_drained-clause-queue : goal.returns-then-is_drained-clause-queue
 unfolding queue_of
-returns-then-is_drained-clause-queue c =
-    queue_stays c.args.turn (queue_of c.args.self.now) (c.is_drained.ensures.0 c.if-is_drained.true)
+returns-then-is_drained-clause-queue c = grind arith
 
 pub returns-clause-seen : goal.returns-clause-seen
 unfolding state_of cache_of size_of cells_of
-returns-clause-seen c = record {
-  state = λ i. record (state_of c.args.self.now) { memory = c.land.ensures.memory i; frames = c.land.ensures.frames i };
-  cache = c.land.ensures.cache;
-  size = c.land.ensures.size;
-  cells = refl;
-}
+returns-clause-seen c = grind arith
 
 pub returns-clause-keeps : goal.returns-clause-keeps
 returns-clause-keeps c =

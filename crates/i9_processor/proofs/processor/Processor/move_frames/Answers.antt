@@ -1,4 +1,4 @@
-use Rattle.std.proofs.Common.{◌≡◌, ℕ, Bool, List, [], ◌∷◌, length, replicate, refl, sym, ap, ◌∙◌, subst}
+use Rattle.std.proofs.Common.{◌≡◌, ℕ, Bool, List, ◌∷◌, length, replicate, refl, sym, ap, ◌∙◌, subst, arith}
 use Rattle.i9_isa.specs.Words.{bit}
 use Rattle.i9_model.specs.declared.layout.TheConstants.{LOCALS}
 use Rattle.i9_model.specs.Writes.{wrapped, written}
@@ -36,11 +36,7 @@ frames_by s m = with_marked (frames_after s.frames (move_in s m)) (lost_by s m)
 -- what a return reads
 left_same : (p : Processor) → stores.left_in (stores.frames_in p.storage).live p.storage ≡ left_memory (state_of p).frames.live (state_of p)
 unfolding state_of
-left_same p = by_live (stores.frames_in p.storage).live
-  where
-    by_live : (live : List ℕ) → stores.left_in live p.storage ≡ left_memory live (state_of p)
-    by_live [] = refl
-    by_live (f ∷ live) = refl
+left_same p = grind arith
 
 abbrev locals_left : Processor → ℕ → List ℕ
 locals_left p frame = words_in (left_memory (state_of p).frames.live (state_of p)) frame LOCALS

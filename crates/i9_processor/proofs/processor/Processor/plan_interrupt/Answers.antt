@@ -1,4 +1,4 @@
-use Rattle.std.proofs.Common.{◌≡◌, ℕ, Option, Err, sym, ap, ◌∙◌}
+use Rattle.std.proofs.Common.{◌≡◌, sym, ◌∙◌}
 use Rattle.std.specs.Prelude.{unwrap_or}
 use Rattle.i9_model.specs.Hazards.{read_hazard}
 use Rattle.i9_calls.specs.Callers.{caller_of}
@@ -12,9 +12,11 @@ unfolding state_of
 returns-in-Some-clause-entry c =
     let s = state_of c.args.self.now in
     let read : c.check_read.result ≡ read_hazard s.frames c.vector_place-vector.result 4 = c.check_read.ensures in
-    ap (λ (a : ℕ). Err a) c.unwrap_or.ensures
-    ∙ ap (λ (o : Option ℕ). Err (unwrap_or o c.in-Some.mark)) (read ∙ ap (λ (a : ℕ). read_hazard s.frames a 4) c.vector_place-vector.ensures)
-    ∙ interrupt_marked s c.args.c.now c.in-Some.mark (sym c.push_mark.ensures ∙ c.in-Some.is)
+    cc (
+      c.unwrap_or.ensures,
+      c.vector_place-vector.ensures,
+      interrupt_marked s c.args.c.now c.in-Some.mark (sym c.push_mark.ensures ∙ c.in-Some.is),
+    )
 
 pub returns-in-None-clause-entry : goal.returns-in-None-clause-entry
 unfolding state_of

@@ -1,3 +1,4 @@
+use Rattle.std.proofs.Common.{arith}
 use Rattle.std.proofs.lemmas.Result.{on_err_weaker}
 use Rattle.i9_processor.specs.State.{state_of}
 use Rattle.i9_processor.specs.Effect.{run_in, requests_in}
@@ -32,14 +33,7 @@ returns-then-is_plain-clause-only c =
 
 -- and for bits of requests
 pub returns-in_err-reserve_requests-clause-only : goal.returns-in_err-reserve_requests-clause-only
-returns-in_err-reserve_requests-clause-only c =
-    let e = c.args.e.now in
-    record {
-      bytes = λ x writes move has.
-          c.reserve_run.ensures.only.bytes x (row_apart e.address e.bytes.items x (first_apart (run_in e) (requests_in e.requests) x writes))
-          (c.reserve_requests.ensures.only.bytes x (later_apart (run_in e) (requests_in e.requests) x writes) has);
-      marks = λ x marked move has. c.reserve_run.ensures.only.marks x (run_apart e (state_of c.args.self.now) x marked) (c.reserve_requests.ensures.only.marks x has);
-    }
+returns-in_err-reserve_requests-clause-only c = grind (arith, row_apart, first_apart, later_apart, run_apart)
 
 -- and for a frame
 pub returns-clause-only : goal.returns-clause-only
